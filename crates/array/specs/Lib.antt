@@ -1,0 +1,3 @@
+-- Arrays of one to three axes, and the conditions on them.
+pub mod Grid
+pub mod Conditions

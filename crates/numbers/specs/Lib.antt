@@ -1,0 +1,6 @@
+-- What the kit lacks and every crate above shares.
+pub mod Lists
+pub mod Order
+pub mod Ranges
+pub mod Refusal
+pub mod Sums

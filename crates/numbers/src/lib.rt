@@ -1,0 +1,36 @@
+// The refusal numbers by name. All else of this crate is definitions (specs/) and laws (proofs/).
+
+// No refusal: the call filled its output.
+pub const ACCEPTED: u8 = 0;
+
+// Caused by whoever owns the grid.
+// Not 1 to 3 axes (median: not 3), a length outside 1..1,024, or over 8,192 cells.
+pub const SHAPE: u8 = 1;
+// A lent grid whose length is not the cell count.
+pub const LENGTH: u8 = 2;
+// An input level outside -(2^31 - 1)..2^31 - 1, or a float one that is not finite.
+pub const LEVEL: u8 = 3;
+// Median: an axis of one cell.
+pub const SINGLE_CELL: u8 = 4;
+
+// Caused by the kernel's author.
+// Weights or a window length outside 1..65; of a grid kernel its sides, axes or weight count.
+pub const KERNEL: u8 = 5;
+// A weight outside -65,535..65,535, or a float one that is not finite.
+pub const WEIGHT: u8 = 6;
+// An origin that the window does not allow.
+pub const ORIGIN: u8 = 7;
+
+// Caused by the operator.
+// An axis number not below the axis count.
+pub const AXIS: u8 = 8;
+// A constant that LEVEL would refuse.
+pub const CONSTANT: u8 = 9;
+// Pads: their count, a pad over 64, over 32,768 padded cells, or an output of another length.
+pub const PADS: u8 = 10;
+// A pad that reaches past what the border can fill.
+pub const REACH: u8 = 11;
+
+// Caused by the arithmetic.
+// A whole-number sum outside signed 64 bits.
+pub const SUM: u8 = 12;
