@@ -1,1 +1,14 @@
--- Laws.
+-- Laws that belong to no one function, leaves first.
+pub mod Tests
+pub mod IntOrder
+pub mod IntSum
+pub mod IntProduct
+pub mod Size
+pub mod Quotient
+pub mod Least
+pub mod Tabulate
+pub mod Range
+pub mod Index
+pub mod Any
+pub mod Stored
+pub mod Read

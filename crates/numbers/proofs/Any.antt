@@ -1,0 +1,32 @@
+-- A search for a member that passes a test, one member at a time, over any element: what a loop that returns at the first hit keeps.
+-- Assumes nothing.
+use Prim.Native.Nat.{ℕ, zero, suc, _+_, _<_, _≤_}
+use mathlib.Core.Path.{_≡_, sym, ap, _∙_}
+use mathlib.Core.Bool.{Bool, true, false, _||_}
+use mathlib.Core.List.{List, [], _∷_}
+use native.Mathlib.Nat.{not-suc-le-zero, le-of-suc-le-suc}
+use native.Mathlib.Numerals.{add-one}
+use lib.ListN.{length, getD, drop, drop-of-length-le}
+use lib.Seq.{drop-cons}
+use Rattle.numbers.proofs.Tests.{or-false}
+use Rattle.numbers.specs.Lists.{anyOf, Every}
+
+module _ {A : Type 0} (t : A → Bool) (d : A) (i : ℕ) (s : List A) (b : i < length s) (e : anyOf t s ≡ anyOf t (drop i s)) where
+  pub any-hit : t (getD s i d) ≡ true → anyOf t s ≡ true
+  any-hit p = e ∙ ap (anyOf t) (drop-cons s i d b) ∙ ap (λ x. x || anyOf t (drop (suc i) s)) p
+
+  pub any-miss : t (getD s i d) ≡ false → anyOf t s ≡ anyOf t (drop (i + 1) s)
+  any-miss p = e ∙ ap (anyOf t) (drop-cons s i d b) ∙ ap (λ x. x || anyOf t (drop (suc i) s)) p ∙ ap (λ j. anyOf t (drop j s)) (sym (add-one i))
+
+pub any-end : {A : Type 0} (t : A → Bool) (i : ℕ) (s : List A) → length s ≤ i → anyOf t s ≡ anyOf t (drop i s) → anyOf t s ≡ false
+any-end t i s h e = e ∙ ap (anyOf t) (drop-of-length-le s h)
+
+-- no member passes: every one fails
+pub any-none : {A : Type 0} (t : A → Bool) (s : List A) → anyOf t s ≡ false → Every (λ x. t x ≡ false) s
+any-none t [] e = tt
+any-none t (x ∷ xs) e = let p = or-false (t x) (anyOf t xs) e in (p .0, any-none t xs (p .1))
+
+pub every-at : {A : Type 0} (P : A → Type 0) (s : List A) (d : A) → Every P s → (k : ℕ) → k < length s → P (getD s k d)
+every-at P [] d h k b = absurd (not-suc-le-zero b)
+every-at P (x ∷ xs) d h zero b = h .0
+every-at P (x ∷ xs) d h (suc k) b = every-at P xs d (h .1) k (le-of-suc-le-suc b)

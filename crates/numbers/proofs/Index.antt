@@ -1,0 +1,39 @@
+-- Two lists taken term by term, and a list read from its end, at an index.
+-- Assumes nothing.
+use mathlib.Core.Path.{_≡_, refl, sym, ap, subst, _∙_}
+use mathlib.Core.Logic.{_⊎_, inl, inr}
+use mathlib.Core.List.{List, [], _∷_, _++_, reverse, reverse-cons, zipWith}
+use Prim.Native.Nat.{ℕ, zero, suc, _+_, _-_, _≤_, _<_, min}
+use native.Mathlib.Nat.{not-suc-le-zero, le-of-suc-le-suc, eq-or-lt-of-le}
+use native.Mathlib.Omega.{arith}
+use lib.ListN.{length, getD, length-reverse, List·getD-append}
+use lib.Seq.{getD-at}
+
+pub length-zipWith : {A B C : Type 0} (f : A → B → C) (xs : List A) (ys : List B) → length (zipWith f xs ys) ≡ min (length xs) (length ys)
+unfolding zipWith
+length-zipWith f [] ys = omega arith
+length-zipWith f (x ∷ xs) [] = omega arith
+length-zipWith f (x ∷ xs) (y ∷ ys) = let e = length-zipWith f xs ys in omega arith
+
+pub getD-zipWith : {A B C : Type 0} (f : A → B → C) (xs : List A) (ys : List B) (k : ℕ) (a : A) (b : B) (c : C) → k < length xs → k < length ys
+    → getD (zipWith f xs ys) k c ≡ f (getD xs k a) (getD ys k b)
+unfolding zipWith
+getD-zipWith f [] ys k a b c h l = absurd (not-suc-le-zero h)
+getD-zipWith f (x ∷ xs) [] k a b c h l = absurd (not-suc-le-zero l)
+getD-zipWith f (x ∷ xs) (y ∷ ys) zero a b c h l = refl
+getD-zipWith f (x ∷ xs) (y ∷ ys) (suc k) a b c h l = getD-zipWith f xs ys k a b c (le-of-suc-le-suc h) (le-of-suc-le-suc l)
+
+pub getD-reverse : {A : Type 0} (l : List A) (k : ℕ) (d : A) → k < length l → getD (reverse l) k d ≡ getD l (length l - 1 - k) d
+getD-reverse [] k d h = absurd (not-suc-le-zero h)
+getD-reverse (x ∷ xs) k d h =
+    ap (λ (s : List _). getD s k d) (reverse-cons x xs)
+    ∙ go (λ b. getD-reverse xs k d b) (eq-or-lt-of-le (le-of-suc-le-suc h))
+  where
+    go : (k < length xs → getD (reverse xs) k d ≡ getD xs (length xs - 1 - k) d) → (k ≡ length xs) ⊎ (k < length xs)
+        → getD (reverse xs ++ x ∷ []) k d ≡ getD (x ∷ xs) (suc (length xs) - 1 - k) d
+    go ih (inl e) =
+        let z : suc (length xs) - 1 - k ≡ 0 = omega arith in
+        getD-at (reverse xs) x [] d k (length-reverse xs ∙ sym e) ∙ ap (λ (j : ℕ). getD (x ∷ xs) j d) (sym z)
+    go ih (inr b) =
+        let z : suc (length xs) - 1 - k ≡ suc (length xs - 1 - k) = omega arith in
+        List·getD-append (reverse xs) (x ∷ []) d k (subst (λ (n : ℕ). k < n) (sym (length-reverse xs)) b) ∙ ih b ∙ ap (λ (j : ℕ). getD (x ∷ xs) j d) (sym z)

@@ -1,0 +1,75 @@
+-- The first member of a list in a total order: before every member, one of them, and after whatever comes before them all.
+-- These three fix it (least-unique), so its users need nothing else of it. Under ≤ it is the least, under ≥ the greatest.
+-- Assumes nothing.
+use mathlib.Core.Path.{_≡_, refl, sym, subst}
+use mathlib.Core.Bool.{Bool, true, false, not, cond}
+use mathlib.Core.Logic.{_⊎_, inl, inr}
+use mathlib.Core.List.{List, [], _∷_, List·Memᴰ, List·Memᴰ·head, List·Memᴰ·tail, List·Memᴰ·not-nil, List·Memᴰ·cases-cons}
+use Prim.Native.Nat.{_<_}
+use native.Mathlib.Nat.{not-suc-le-zero}
+use lib.Dec.{T}
+use lib.ListN.{length}
+use Rattle.numbers.proofs.Tests.{cond-ind}
+use Rattle.numbers.specs.Order.{Total, leastFrom, least}
+
+module _ {A : Type 0} (le : A → A → Bool) (O : Total le) where
+  -- ---- of two
+  pub lesser-left : (m x : A) → T (le (cond (le m x) m x) m)
+  lesser-left m x = cond-ind (le m x) m x (λ y. T (le y m)) (λ t. O .itself m) (λ t. O .other m x t)
+
+  pub lesser-right : (m x : A) → T (le (cond (le m x) m x) x)
+  lesser-right m x = cond-ind (le m x) m x (λ y. T (le y x)) (λ t. t) (λ t. O .itself x)
+
+  -- ---- before every member
+  from-seed : (m : A) (xs : List A) → T (le (leastFrom le m xs) m)
+  from-seed m [] = O .itself m
+  from-seed m (x ∷ xs) = O .chain _ _ _ (from-seed (cond (le m x) m x) xs) (lesser-left m x)
+
+  from-bound : (m y : A) (xs : List A) → List·Memᴰ y xs → T (le (leastFrom le m xs) y)
+  from-bound m y [] k = absurd (List·Memᴰ·not-nil k)
+  from-bound m y (x ∷ xs) k = go (λ r. from-bound (cond (le m x) m x) y xs r) (List·Memᴰ·cases-cons k)
+    where
+      go : (List·Memᴰ y xs → T (le (leastFrom le (cond (le m x) m x) xs) y)) → (y ≡ x) ⊎ List·Memᴰ y xs → T (le (leastFrom le (cond (le m x) m x) xs) y)
+      go f (inl e) =
+          subst (λ (w : A). T (le (leastFrom le (cond (le m x) m x) xs) w)) (sym e)
+          (O .chain _ _ _ (from-seed (cond (le m x) m x) xs) (lesser-right m x))
+      go f (inr r) = f r
+
+  pub least-bound : (d y : A) (xs : List A) → List·Memᴰ y xs → T (le (least le d xs) y)
+  least-bound d y [] k = absurd (List·Memᴰ·not-nil k)
+  least-bound d y (x ∷ xs) k = go (List·Memᴰ·cases-cons k)
+    where
+      go : (y ≡ x) ⊎ List·Memᴰ y xs → T (le (leastFrom le x xs) y)
+      go (inl e) = subst (λ (w : A). T (le (leastFrom le x xs) w)) (sym e) (from-seed x xs)
+      go (inr r) = from-bound x y xs r
+
+  -- ---- one of them
+  from-occurs : (m : A) (xs : List A) → (leastFrom le m xs ≡ m) ⊎ List·Memᴰ (leastFrom le m xs) xs
+  from-occurs m [] = inl refl
+  from-occurs m (x ∷ xs) = go (from-occurs (cond (le m x) m x) xs)
+    where
+      choose : (t : Bool) → leastFrom le (cond (le m x) m x) xs ≡ cond t m x
+          → (leastFrom le (cond (le m x) m x) xs ≡ m) ⊎ List·Memᴰ (leastFrom le (cond (le m x) m x) xs) (x ∷ xs)
+      choose true e = inl e
+      choose false e = inr (List·Memᴰ·head e)
+
+      go : (leastFrom le (cond (le m x) m x) xs ≡ cond (le m x) m x) ⊎ List·Memᴰ (leastFrom le (cond (le m x) m x) xs) xs
+          → (leastFrom le (cond (le m x) m x) xs ≡ m) ⊎ List·Memᴰ (leastFrom le (cond (le m x) m x) xs) (x ∷ xs)
+      go (inl e) = choose (le m x) e
+      go (inr r) = inr (List·Memᴰ·tail r)
+
+  pub least-occurs : (d : A) (xs : List A) → 0 < length xs → List·Memᴰ (least le d xs) xs
+  least-occurs d [] h = absurd (not-suc-le-zero h)
+  least-occurs d (x ∷ xs) h = go (from-occurs x xs)
+    where
+      go : (leastFrom le x xs ≡ x) ⊎ List·Memᴰ (leastFrom le x xs) xs → List·Memᴰ (leastFrom le x xs) (x ∷ xs)
+      go (inl e) = List·Memᴰ·head e
+      go (inr r) = List·Memᴰ·tail r
+
+  -- ---- after every lower bound
+  pub least-above : (d y : A) (xs : List A) → 0 < length xs → ((x : A) → List·Memᴰ x xs → T (le y x)) → T (le y (least le d xs))
+  least-above d y xs h f = f (least le d xs) (least-occurs d xs h)
+
+  -- a member that comes before every member is the first
+  pub least-unique : (d y : A) (xs : List A) → List·Memᴰ y xs → ((x : A) → List·Memᴰ x xs → T (le y x)) → 0 < length xs → y ≡ least le d xs
+  least-unique d y xs k f h = O .same y (least le d xs) (least-above d y xs h f) (least-bound d y xs k)

@@ -1,0 +1,81 @@
+-- The size of a whole number, where omega reads: a bound on the size of a sum, a product and the sum of a list, and when a number fits 64 bits.
+-- Every bound that keeps a partial sum inside 64 bits rests on size-sum.
+-- Assumes nothing.
+use mathlib.Core.Path.{_≡_, refl, ap}
+use mathlib.Core.Bool.{Bool, true, false, not, cond}
+use mathlib.Core.List.{List, [], _∷_}
+use Prim.Native.Nat.{ℕ, zero, suc, _+_, _-_, _*_, _^_, _≤_, _<_}
+use native.Mathlib.Nat.{mul-le-mul, suc-mul}
+use native.Mathlib.Omega.{arith}
+use borrow.Author.Tests.{ltb-false}
+use lib.Dec.{T, ltb, ltb→lt}
+use lib.IntN.{ℤ, pos, negsuc, negℤ, natAbs, subℕ, _+ℤ_, _*ℤ_}
+use lib.ListN.{length}
+use lib.Signed.{ltZ, mag}
+use mir.Facts.{toZ-ofZ}
+use mir.Syntax.{w64}
+use mir.Val.{SFits, toZ, ofZ}
+use Rattle.numbers.proofs.Tests.{cond-ind}
+use Rattle.numbers.specs.Lists.{Every}
+use Rattle.numbers.specs.Sums.{sumOf}
+
+-- a is at most p in size. A record, so that a and p are inferred: ℤ's operations go by cases, under which nothing is.
+pub record Size (a : ℤ) (p : ℕ) : Type 0 where
+  pub size : natAbs a ≤ p
+
+-- ---- the size of a sum and of a product
+pub natAbs-neg : (z : ℤ) → natAbs (negℤ z) ≡ natAbs z
+natAbs-neg (pos zero) = refl
+natAbs-neg (pos (suc n)) = refl
+natAbs-neg (negsuc n) = refl
+
+pub natAbs-mul : (a b : ℤ) → natAbs (a *ℤ b) ≡ natAbs a * natAbs b
+natAbs-mul (pos a) (pos b) = refl
+natAbs-mul (pos a) (negsuc b) = natAbs-neg (pos (a * suc b))
+natAbs-mul (negsuc a) (pos b) = natAbs-neg (pos (suc a * b))
+natAbs-mul (negsuc a) (negsuc b) = refl
+
+natAbs-sub : (a b : ℕ) → natAbs (subℕ a b) ≤ a + b
+natAbs-sub a b =
+    cond-ind (ltb a b) (negsuc (b - suc a)) (pos (a - b)) (λ z. natAbs z ≤ a + b)
+    (λ t. omega (arith, ltb→lt a b t)) (λ t. omega arith)
+
+pub natAbs-add : (a b : ℤ) → natAbs (a +ℤ b) ≤ natAbs a + natAbs b
+natAbs-add (pos a) (pos b) = omega arith
+natAbs-add (pos a) (negsuc b) = natAbs-sub a (suc b)
+natAbs-add (negsuc a) (pos b) = omega (arith, natAbs-sub b (suc a))
+natAbs-add (negsuc a) (negsuc b) = omega arith
+
+pub size-mul : {a b : ℤ} {p q : ℕ} → Size a p → Size b q → Size (a *ℤ b) (p * q)
+size-mul {a} {b} {p} {q} h k = record { size = omega (arith, natAbs-mul a b, mul-le-mul (h .size) (k .size)) }
+
+pub size-add : {a b : ℤ} {p q : ℕ} → Size a p → Size b q → Size (a +ℤ b) (p + q)
+size-add {a} {b} {p} {q} h k = record { size = omega (arith, natAbs-add a b, h .size, k .size) }
+
+pub size-neg : {a : ℤ} {p : ℕ} → Size a p → Size (negℤ a) p
+size-neg {a} {p} h = record { size = omega (arith, natAbs-neg a, h .size) }
+
+pub size-le : {a : ℤ} {p q : ℕ} → Size a p → p ≤ q → Size a q
+size-le {a} {p} {q} h l = record { size = omega (arith, h .size) }
+
+-- the sum of n members of size at most p is at most n times p in size
+pub size-sum : (p : ℕ) (xs : List ℤ) → Every (λ x. Size x p) xs → Size (sumOf xs) (length xs * p)
+size-sum p [] h = record { size = omega arith }
+size-sum p (x ∷ xs) h = record { size = omega (arith, natAbs-add x (sumOf xs), h .0 .size, size-sum p xs (h .1) .size, suc-mul (length xs) p) }
+
+-- ---- from tests and to 64 bits
+-- what two tests against literals leave: −(k + 1) ≤ a ≤ n
+pub size-tested : (k n m : ℕ) (a : ℤ) → ltZ a (negsuc k) ≡ false → ltZ (pos n) a ≡ false → k < m → n ≤ m → Size a m
+size-tested k n m (pos x) h l p q = record { size = omega (arith, ltb-false n x l) }
+size-tested k n m (negsuc x) h l p q = record { size = omega (arith, ltb-false k x h) }
+
+mag-le : (z : ℤ) → mag z ≤ natAbs z
+mag-le (pos n) = omega arith
+mag-le (negsuc n) = omega arith
+
+pub fits-size : {a : ℤ} {p : ℕ} → Size a p → p < 2 ^ 63 → SFits w64 a
+fits-size {a} {p} h l = record { sfits = omega (arith, mag-le a, h .size) }
+
+-- a number that fits, stored and read again, keeps its size
+pub size-read : {z : ℤ} {p : ℕ} → Size z p → p < 2 ^ 63 → Size (toZ w64 (ofZ w64 z)) p
+size-read {z} {p} h l = record { size = omega (arith, ap natAbs (toZ-ofZ {w = w64} (fits-size h l)), h .size) }

@@ -1,0 +1,42 @@
+-- Tests and what their answers say: of disjunctions, of one number more, of a choice.
+-- Assumes nothing.
+use mathlib.Core.Path.{_≡_, refl, sym, ap, _∙_}
+use mathlib.Core.Bool.{Bool, true, false, _||_, _&&_, not, cond, true≢false}
+use Prim.Native.Nat.{ℕ, _+_, _≤_, _<_}
+use native.Mathlib.Omega.{arith}
+use borrow.Author.Tests.{eqb-true, eqb-false, ltb-true, ltb-false, lt-ltb, le-ltb, eq-eqb}
+use lib.Dec.{T, eqb, ltb}
+
+pub or-false : (a b : Bool) → a || b ≡ false → (a ≡ false) × (b ≡ false)
+or-false true b e = absurd (true≢false e)
+or-false false b e = (refl, e)
+
+pub or-no : (a b : Bool) → a ≡ false → b ≡ false → a || b ≡ false
+or-no a b p q = rw (p, q) refl
+
+pub and-true : (a b : Bool) → a && b ≡ true → (a ≡ true) × (b ≡ true)
+and-true true b e = (refl, e)
+and-true false b e = absurd (true≢false (sym e))
+
+-- below n + 1: n itself, or below n
+pub ltb-more : (k n : ℕ) → ltb k (n + 1) ≡ eqb k n || ltb k n
+ltb-more k n = go (eqb k n) (ltb k n) refl refl
+  where
+    go : (s t : Bool) → eqb k n ≡ s → ltb k n ≡ t → ltb k (n + 1) ≡ s || t
+    go true t p q = lt-ltb k (n + 1) (omega (arith, eqb-true k n p))
+    go false true p q = lt-ltb k (n + 1) (omega (arith, ltb-true k n q))
+    go false false p q = le-ltb k (n + 1) (past (eqb-false k n p) (ltb-false k n q))
+      where
+        past : (k ≡ n → ⊥) → n ≤ k → n + 1 ≤ k
+        past h l = omega arith
+
+-- a choice, by either answer of its test
+pub cond-ind : {A : Type 0} (t : Bool) (x y : A) (P : A → Type 0) → (T t → P x) → (T (not t) → P y) → P (cond t x y)
+cond-ind true x y P f g = f tt
+cond-ind false x y P f g = g tt
+
+pub cond-yes : {A : Type 0} (t : Bool) (x y : A) → t ≡ true → cond t x y ≡ x
+cond-yes t x y e = ap (λ s. cond s x y) e
+
+pub cond-no : {A : Type 0} (t : Bool) (x y : A) → t ≡ false → cond t x y ≡ y
+cond-no t x y e = ap (λ s. cond s x y) e
