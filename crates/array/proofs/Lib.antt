@@ -1,1 +1,9 @@
--- Laws of arrays.
+-- Laws of arrays that belong to no one function, leaves first.
+pub mod Finite
+pub mod Places
+pub mod Shapes
+pub mod Strides
+pub mod LaneCells
+pub mod FirstPlace
+pub mod LaneStores
+pub mod AlongAxis

@@ -1,7 +1,7 @@
 -- Conditions 1, 2, 3 and 8 of a refusal, as document 01 words them.
 --   badShape ns        1: not 1 to 3 axes, a length outside 1..1,024, or over 8,192 cells
 --   gridCount ns       the number of cells of an accepted shape; 0 where condition 1 holds
---   badLength ns l     2: a lent grid's length is not the cell count
+--   badLength ns len   2: a lent grid's length is not the cell count
 --   badLevel z         3: a whole level outside −(2^31 − 1)..2^31 − 1
 --   badFloat x         3: a float level that is not finite
 --   badAxis ns a       8: an axis number not below the axis count
@@ -23,8 +23,8 @@ badShape ns = outside 1 3 (length ns) || anyOf (outside 1 1024) ns || ltb 8192 (
 unfoldable pub gridCount : List ℕ → ℕ
 gridCount ns = cond (badShape ns) 0 (cellCount ns)
 
-abbrev pub badLength : {A : Type 0} → List ℕ → List A → Bool
-badLength ns l = not (eqb (length l) (gridCount ns))
+abbrev pub badLength : List ℕ → ℕ → Bool
+badLength ns len = not (eqb len (gridCount ns))
 
 unfoldable pub badLevel : ℤ → Bool
 badLevel z = outsideZ (negℤ (pos (2 ^ 31 - 1))) (pos (2 ^ 31 - 1)) z

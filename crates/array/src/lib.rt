@@ -1,1 +1,27 @@
 // Row-major arrays of one to three axes: what ndarray is to the Rust.
+// A shape is the length of each axis; the cells stand in one slice, the last axis fastest.
+mod conditions;
+mod lanes;
+mod shape;
+
+pub use conditions::bad_axis;
+pub use conditions::bad_length;
+pub use conditions::bad_level;
+pub use conditions::bad_level_f64;
+pub use conditions::bad_levels;
+pub use conditions::bad_levels_f64;
+pub use conditions::bad_shape;
+pub use lanes::read_lane;
+pub use lanes::read_lane_f64;
+pub use lanes::write_lane;
+pub use lanes::write_lane_f64;
+pub use shape::cell_count;
+pub use shape::lanes_of;
+pub use shape::len_of;
+
+// The lanes of an axis: the cells of each, how many places apart they stand, and how many lanes there are.
+pub struct AxisLanes {
+    pub len: usize,
+    pub stride: usize,
+    pub count: usize,
+}

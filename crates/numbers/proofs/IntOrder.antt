@@ -1,7 +1,7 @@
 -- ℤ as a linear order, by its test leZ and by the record _≤ℤ_; total-≤ and total-≥ are the two orders that least is used with.
 -- Assumes nothing.
 use mathlib.Core.Path.{_≡_, ap, subst, sym}
-use mathlib.Core.Bool.{Bool, true, false, not}
+use mathlib.Core.Bool.{Bool, false, not}
 use Prim.Native.Nat.{ℕ, _≤_}
 use native.Mathlib.Nat.{le-trans, le-antisymm, le-of-lt}
 use lib.Dec.{T, leb→le, le→leb, nleb→lt}

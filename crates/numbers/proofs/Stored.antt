@@ -56,6 +56,14 @@ module _ {A : Type 0} (d : A) (f : ℕ → A) where
     cells = λ k b. ap (λ s. getD s k d) e ∙ getD-tabulate (λ k. cond (P k) (f k) (getD l₀ k d)) (length l₀) k d b;
   }
 
+  -- the same levels at the places stored
+  pub stored-agree : (P : ℕ → Bool) (g : ℕ → A) {l₀ l : List A} → ((k : ℕ) → P k ≡ true → f k ≡ g k) → Stored d P f l₀ l → Stored d P g l₀ l
+  stored-agree P g {l₀} {l} h S = record { kept = S .kept; cells = λ k b. S .cells k b ∙ at k (P k) refl }
+    where
+      at : (k : ℕ) (t : Bool) → P k ≡ t → cond t (f k) (getD l₀ k d) ≡ cond t (g k) (getD l₀ k d)
+      at k true e = h k e
+      at k false e = refl
+
   -- ---- from the front: the places below n
   pub front-none : (l : List A) → Stored d (λ k. ltb k 0) f l l
   front-none l = stored-none (λ k. ltb k 0) l (λ k. le-ltb k 0 (omega arith))

@@ -1,11 +1,11 @@
 -- Tests and what their answers say: of disjunctions, of one number more, of a choice.
 -- Assumes nothing.
-use mathlib.Core.Path.{_≡_, refl, sym, ap, _∙_}
+use mathlib.Core.Path.{_≡_, refl, sym, ap}
 use mathlib.Core.Bool.{Bool, true, false, _||_, _&&_, not, cond, true≢false}
-use Prim.Native.Nat.{ℕ, _+_, _≤_, _<_}
+use Prim.Native.Nat.{ℕ, _+_, _≤_}
 use native.Mathlib.Omega.{arith}
-use borrow.Author.Tests.{eqb-true, eqb-false, ltb-true, ltb-false, lt-ltb, le-ltb, eq-eqb}
-use lib.Dec.{T, eqb, ltb}
+use borrow.Author.Tests.{eqb-true, eqb-false, ltb-true, ltb-false, lt-ltb, le-ltb, le-leb, lt-leb}
+use lib.Dec.{T, eqb, leb, ltb}
 
 pub or-false : (a b : Bool) → a || b ≡ false → (a ≡ false) × (b ≡ false)
 or-false true b e = absurd (true≢false e)
@@ -40,3 +40,11 @@ cond-yes t x y e = ap (λ s. cond s x y) e
 
 pub cond-no : {A : Type 0} (t : Bool) (x y : A) → t ≡ false → cond t x y ≡ y
 cond-no t x y e = ap (λ s. cond s x y) e
+
+-- not below is at or above
+pub leb-not-ltb : (n k : ℕ) → leb n k ≡ not (ltb k n)
+leb-not-ltb n k = go (ltb k n) refl
+  where
+    go : (t : Bool) → ltb k n ≡ t → leb n k ≡ not t
+    go true e = lt-leb n k (ltb-true k n e)
+    go false e = le-leb n k (ltb-false k n e)
