@@ -6,14 +6,14 @@ use mathlib.Core.List.{List, [], _∷_}
 use Prim.Native.Nat.{ℕ, zero, suc, _*_, _≤_, _<_}
 use native.Mathlib.Nat.{not-suc-le-zero, le-of-suc-le-suc, mul-one}
 use native.Mathlib.Omega.{arith}
-use borrow.Author.Tests.{lt-ltb, le-ltb, ltb-false, eq-eqb, ne-eqb}
+use borrow.Author.Tests.{lt-ltb, le-ltb, ltb-false, eq-eqb, ne-eqb, eqb-true, not-false}
 use lib.Dec.{ltb, eqb}
 use lib.ListN.{length, drop-of-length-le}
 use Rattle.numbers.specs.Lists.{anyOf}
 use Rattle.numbers.specs.Ranges.{outside}
 use Rattle.numbers.proofs.Tests.{or-false, or-no, cond-yes, cond-no}
 use Rattle.array.specs.Grid.{cellCount, lengthOf, strideOf}
-use Rattle.array.specs.Conditions.{badShape, gridCount}
+use Rattle.array.specs.Conditions.{badShape, gridCount, badLength}
 use Rattle.array.proofs.Places.{Positive, count-pos}
 
 or-left : (a b : Bool) → a ≡ true → a || b ≡ true
@@ -156,3 +156,7 @@ count-test ns = go (badShape ns) refl
     go : (t : Bool) → badShape ns ≡ t → eqb (gridCount ns) 0 ≡ badShape ns
     go true e = eq-eqb (gridCount ns) 0 (count-refused ns e) ∙ sym e
     go false e = ne-eqb (gridCount ns) 0 (λ z. true≢false (sym (count-none ns z) ∙ e)) ∙ sym e
+
+-- condition 2 passed: the length is the count
+pub length-judged : (ns : List ℕ) (len : ℕ) → badLength ns len ≡ false → len ≡ gridCount ns
+length-judged ns len e = eqb-true len (gridCount ns) (not-false (eqb len (gridCount ns)) e)

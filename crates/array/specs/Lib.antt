@@ -2,3 +2,5 @@
 pub mod Grid
 pub mod Conditions
 pub mod Lanes
+pub mod Assign
+pub mod Rows

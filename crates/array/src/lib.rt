@@ -1,9 +1,14 @@
 // Row-major arrays of one to three axes: what ndarray is to the Rust.
 // A shape is the length of each axis; the cells stand in one slice, the last axis fastest.
+ghost use Rattle.array.specs.Rows.{ArrayRows};
+
+mod cells;
 mod conditions;
 mod lanes;
 mod shape;
 
+pub use cells::assign;
+pub use cells::copy;
 pub use conditions::bad_axis;
 pub use conditions::bad_length;
 pub use conditions::bad_level;
@@ -25,3 +30,8 @@ pub struct AxisLanes {
     pub stride: usize,
     pub count: usize,
 }
+
+// Worked rows of this crate's definitions. Refuses nothing.
+pub fn rows()
+    ensures { λ _. ⌜ ArrayRows ⌝ }
+{}

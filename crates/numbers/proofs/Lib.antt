@@ -1,5 +1,6 @@
 -- Laws that belong to no one function, leaves first.
 pub mod Tests
+pub mod Refusal
 pub mod IntOrder
 pub mod IntSum
 pub mod IntProduct

@@ -1,6 +1,6 @@
 -- Tests and what their answers say: of disjunctions, of one number more, of a choice.
 -- Assumes nothing.
-use mathlib.Core.Path.{_≡_, refl, sym, ap}
+use mathlib.Core.Path.{_≡_, refl, sym, ap, _∙_}
 use mathlib.Core.Bool.{Bool, true, false, _||_, _&&_, not, cond, true≢false}
 use Prim.Native.Nat.{ℕ, _+_, _≤_}
 use native.Mathlib.Omega.{arith}
@@ -48,3 +48,7 @@ leb-not-ltb n k = go (ltb k n) refl
     go : (t : Bool) → ltb k n ≡ t → leb n k ≡ not t
     go true e = lt-leb n k (ltb-true k n e)
     go false e = le-leb n k (ltb-false k n e)
+
+-- what a call answered and what was then tested, together: the condition's own value
+pub told : {r b t : Bool} → r ≡ b → r ≡ t → b ≡ t
+told e f = sym e ∙ f

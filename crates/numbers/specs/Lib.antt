@@ -4,3 +4,4 @@ pub mod Order
 pub mod Ranges
 pub mod Refusal
 pub mod Sums
+pub mod Rows

@@ -34,3 +34,10 @@ pub const REACH: u8 = 11;
 // Caused by the arithmetic.
 // A whole-number sum outside signed 64 bits.
 pub const SUM: u8 = 12;
+
+ghost use Rattle.numbers.specs.Rows.{NumbersRows};
+
+// Worked rows of this crate's definitions. Refuses nothing.
+pub fn rows()
+    ensures { λ _. ⌜ NumbersRows ⌝ }
+{}

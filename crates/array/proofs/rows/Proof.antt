@@ -1,0 +1,47 @@
+-- `array::rows` meets its contract: every row holds by computing.
+-- Assumes nothing.
+use mathlib.Core.Path.{refl}
+use Rattle.numbers.specs.Lists.{tabulate}
+use Rattle.array.specs.Conditions.{badShape, gridCount, badLevel}
+use Rattle.array.specs.Grid.{placeOf, coordinate}
+use Rattle.array.specs.Lanes.{laneAt, withLane, laneInside, alongAxis}
+use Rattle.array.proofs.rows.Statement.{statement}
+use Rattle.array.proofs.rows.Tie as tie
+
+returns : tie.Need-returns
+unfolding tabulate placeOf coordinate badShape gridCount badLevel laneAt withLane laneInside alongAxis
+returns c = record {
+  count = refl;
+  lengths = refl;
+  strides = refl;
+  place = refl;
+  places = refl;
+  level = refl;
+  refused-shapes = refl;
+  accepted-shapes = refl;
+  counts = refl;
+  wrong-lengths = refl;
+  levels = refl;
+  floats = refl;
+  axes = refl;
+  lanes-down = refl;
+  lanes-across = refl;
+  lanes-refused = refl;
+  lane-down = refl;
+  lane-across = refl;
+  lane-numbers = refl;
+  lane-written = refl;
+  insides = refl;
+  read-in = refl;
+  read-out = refl;
+  write-in = refl;
+  write-out = refl;
+  turned-down = refl;
+  turned-across = refl;
+  copy = refl;
+  copy-other = refl;
+  numbers = refl;
+}
+
+pub rows-spec : {M : Type 1} → statement M
+rows-spec = tie.close (tie.spec returns)

@@ -1,0 +1,3 @@
+-- Laws of borders and origins.
+pub mod Origins
+pub mod Sign

@@ -1,0 +1,40 @@
+-- What the program's border and padding modes mean.
+--   borderOf m             the border over whole levels that a BorderMode names
+--   borderOfF64 m          the border over floats that a BorderModeF64 names
+--   padModeOf m            the PadMode that pads as the border m does
+--   badConstantBy bad b    9: a constant that 3, the test bad of one level, would refuse
+use mathlib.Core.Bool.{Bool, false}
+use lib.Ieee.{Float}
+use lib.IntN.{ℤ}
+use Rattle.border.specs.Border.{Border, constant, along, nearest, mirror, reflect, wrap}
+use Rattle.border.specs.declared.BorderMode.{BorderMode}
+use Rattle.border.specs.declared.BorderMode.the-variants as Whole
+use Rattle.border.specs.declared.BorderModeF64.{BorderModeF64}
+use Rattle.border.specs.declared.BorderModeF64.the-variants as F64
+use Rattle.border.specs.declared.PadMode.{PadMode}
+use Rattle.border.specs.declared.PadMode.the-variants as Pad
+
+abbrev pub borderOf : BorderMode → Border ℤ
+borderOf (Whole.Constant c) = constant c
+borderOf Whole.Mirror = along mirror
+borderOf Whole.Nearest = along nearest
+borderOf Whole.Reflect = along reflect
+borderOf Whole.Wrap = along wrap
+
+abbrev pub borderOfF64 : BorderModeF64 → Border Float
+borderOfF64 (F64.Constant c) = constant c
+borderOfF64 F64.Mirror = along mirror
+borderOfF64 F64.Nearest = along nearest
+borderOfF64 F64.Reflect = along reflect
+borderOfF64 F64.Wrap = along wrap
+
+abbrev pub padModeOf : BorderMode → PadMode
+padModeOf (Whole.Constant c) = Pad.Constant c
+padModeOf Whole.Mirror = Pad.Reflect
+padModeOf Whole.Nearest = Pad.Edge
+padModeOf Whole.Reflect = Pad.Symmetric
+padModeOf Whole.Wrap = Pad.Wrap
+
+abbrev pub badConstantBy : {A : Type 0} → (A → Bool) → Border A → Bool
+badConstantBy bad (constant c) = bad c
+badConstantBy bad (along m) = false

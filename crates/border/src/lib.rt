@@ -1,0 +1,125 @@
+// Borders: the border modes and the padding modes that they map to, condition 9, and the origin of a window (condition 7).
+// What a border extends a lane and a grid to is a definition: specs/Border.antt.
+mod origin;
+
+pub use origin::Origin;
+pub use origin::bad_origin;
+pub use origin::kernel_origin_check;
+pub use origin::origin_check;
+ghost use mathlib.Core.Path.{_≡_};
+ghost use Rattle.array.specs.Conditions.{badLevel, badFloat};
+ghost use Rattle.border.specs.Modes.{borderOf, borderOfF64, padModeOf, badConstantBy};
+ghost use Rattle.border.specs.Rows.{BorderRows};
+
+// How a grid of whole levels is extended beyond its edges.
+pub enum BorderMode {
+    // All levels beyond the edge are this one.
+    // [1, 2, 3] -> [T, T, 1, 2, 3, T, T]
+    Constant(i64),
+    // Reflected about the centre of the last cell.
+    // [1, 2, 3] -> [3, 2, 1, 2, 3, 2, 1]
+    Mirror,
+    // The last cell is repeated.
+    // [1, 2, 3] -> [1, 1, 1, 2, 3, 3, 3]
+    Nearest,
+    // Reflected about the edge of the last cell.
+    // [1, 2, 3] -> [2, 1, 1, 2, 3, 3, 2]
+    Reflect,
+    // Wrapped around to the opposite edge.
+    // [1, 2, 3] -> [2, 3, 1, 2, 3, 1, 2]
+    Wrap,
+}
+
+// The same of a grid of floats.
+pub enum BorderModeF64 {
+    // [1, 2, 3] -> [T, T, 1, 2, 3, T, T]
+    Constant(f64),
+    // [1, 2, 3] -> [3, 2, 1, 2, 3, 2, 1]
+    Mirror,
+    // [1, 2, 3] -> [1, 1, 1, 2, 3, 3, 3]
+    Nearest,
+    // [1, 2, 3] -> [2, 1, 1, 2, 3, 3, 2]
+    Reflect,
+    // [1, 2, 3] -> [2, 3, 1, 2, 3, 1, 2]
+    Wrap,
+}
+
+// What a lane is padded with.
+pub enum PadMode {
+    // A constant level.
+    // [1, 2, 3] -> [T, T, 1, 2, 3, T, T]
+    Constant(i64),
+    // The level at the edge.
+    // [1, 2, 3] -> [1, 1, 1, 2, 3, 3, 3]
+    Edge,
+    // The greatest level of the lane.
+    // [1, 2, 3] -> [3, 3, 1, 2, 3, 3, 3]
+    Maximum,
+    // The mean of the lane.
+    // [1, 2, 3] -> [2, 2, 1, 2, 3, 2, 2]
+    Mean,
+    // The median of the lane.
+    // [1, 2, 3] -> [2, 2, 1, 2, 3, 2, 2]
+    Median,
+    // The least level of the lane.
+    // [1, 2, 3] -> [1, 1, 1, 2, 3, 1, 1]
+    Minimum,
+    // The lane mirrored on its first and last levels.
+    // [1, 2, 3] -> [3, 2, 1, 2, 3, 2, 1]
+    Reflect,
+    // The lane mirrored along its edges.
+    // [1, 2, 3] -> [2, 1, 1, 2, 3, 3, 2]
+    Symmetric,
+    // The last levels before the first, and the first after the last.
+    // [1, 2, 3] -> [2, 3, 1, 2, 3, 1, 2]
+    Wrap,
+}
+
+impl BorderMode {
+    // The padding mode that extends a lane as this border does. Refuses nothing.
+    // BorderMode::Mirror gives PadMode::Reflect, BorderMode::Reflect gives PadMode::Symmetric.
+    pub fn to_pad_mode(self) -> PadMode
+        ensures { λ r. ⌜ r ≡ padModeOf self ⌝ }
+    {
+        match self {
+            BorderMode::Constant(t) => PadMode::Constant(t),
+            BorderMode::Mirror => PadMode::Reflect,
+            BorderMode::Nearest => PadMode::Edge,
+            BorderMode::Reflect => PadMode::Symmetric,
+            BorderMode::Wrap => PadMode::Wrap,
+        }
+    }
+}
+
+// Condition 9: whether mode carries a level that condition 3 would refuse. Refuses nothing.
+// Constant(2147483648) gives true, Constant(-2147483647) and Wrap give false.
+pub fn bad_constant(mode: BorderMode) -> bool
+    ensures { λ r. ⌜ r ≡ badConstantBy badLevel (borderOf mode) ⌝ }
+{
+    match mode {
+        BorderMode::Constant(t) => array::bad_level(t),
+        BorderMode::Mirror => false,
+        BorderMode::Nearest => false,
+        BorderMode::Reflect => false,
+        BorderMode::Wrap => false,
+    }
+}
+
+// Condition 9 of a float border: whether mode carries a float that is not finite. Refuses nothing.
+// Constant(1.0 / 0.0) gives true, Constant(-0.0) and Wrap give false.
+pub fn bad_constant_f64(mode: BorderModeF64) -> bool
+    ensures { λ r. ⌜ r ≡ badConstantBy badFloat (borderOfF64 mode) ⌝ }
+{
+    match mode {
+        BorderModeF64::Constant(t) => array::bad_level_f64(t),
+        BorderModeF64::Mirror => false,
+        BorderModeF64::Nearest => false,
+        BorderModeF64::Reflect => false,
+        BorderModeF64::Wrap => false,
+    }
+}
+
+// Worked rows of this crate's definitions: T1, cells of extended grids, padding modes, constants and origins at their limits. Refuses nothing.
+pub fn rows()
+    ensures { λ _. ⌜ BorderRows ⌝ }
+{}

@@ -1,0 +1,1 @@
+-- The proofs of kernel3d need no laws of their own.

@@ -1,0 +1,3 @@
+-- The shapes of 3D kernels.
+pub mod Shape
+pub mod Rows

@@ -1,0 +1,39 @@
+-- The refusal chain, condition by condition, and the two answers of a call that judges first and fills then.
+-- Assumes nothing.
+use mathlib.Core.Path.{_≡_, refl, sym, _∙_}
+use mathlib.Core.Bool.{Bool, true, false}
+use mathlib.Core.List.{List, [], _∷_}
+use Prim.Native.Nat.{ℕ, _<_}
+use native.Mathlib.Omega.{arith}
+use borrow.Author.Tests.{ne-eqb}
+use lib.Dec.{T, eqb, ltb, ltb→lt}
+use Rattle.numbers.specs.Lists.{Every}
+use Rattle.numbers.specs.Refusal.{Judged, refusalOf, Answers}
+use Rattle.numbers.proofs.Tests.{cond-yes, cond-no}
+
+-- the first condition holds
+pub judged-yes : (t : Bool) (n : ℕ) (js : Judged) → t ≡ true → n ≡ refusalOf ((t, n) ∷ js)
+judged-yes t n js e = sym (cond-yes t n (refusalOf js) e)
+
+-- it does not: the others decide
+pub judged-no : (t : Bool) (n : ℕ) (js : Judged) {r : ℕ} → t ≡ false → r ≡ refusalOf js → r ≡ refusalOf ((t, n) ∷ js)
+judged-no t n js e h = h ∙ sym (cond-no t n (refusalOf js) e)
+
+-- a chain that refuses nothing: no condition holds. At literal numbers the second argument is tt for each.
+pub judged-all : (js : Judged) → Every (λ j. T (ltb 0 (j .1))) js → refusalOf js ≡ 0 → Every (λ j. j .0 ≡ false) js
+judged-all [] p e = tt
+judged-all (j ∷ js) p e = go (judged-all js (p .1)) (j .0) refl
+  where
+    clash : j .1 ≡ 0 → 0 < j .1 → ⊥
+    clash q h = omega arith
+
+    go : (refusalOf js ≡ 0 → Every (λ j. j .0 ≡ false) js) → (t : Bool) → j .0 ≡ t → Every (λ j. j .0 ≡ false) (j ∷ js)
+    go f true q = absurd (clash (sym (cond-yes (j .0) (j .1) (refusalOf js) q) ∙ e) (ltb→lt 0 (j .1) (p .0)))
+    go f false q = (q, f (sym (cond-no (j .0) (j .1) (refusalOf js) q) ∙ e))
+
+module _ {A : Type 0} (js : Judged) (levels held : List A) (r : ℕ) (e : r ≡ refusalOf js) where
+  pub answers-refused : (r ≡ 0 → ⊥) → Answers js levels held r held
+  answers-refused h = record { number = e; cells = sym (cond-no (eqb r 0) levels held (ne-eqb r 0 h)) }
+
+  pub answers-accepted : {left : List A} → r ≡ 0 → left ≡ levels → Answers js levels held 0 left
+  answers-accepted z q = record { number = sym z ∙ e; cells = q }

@@ -1,0 +1,30 @@
+-- `numbers::rows` meets its contract: every row holds by computing.
+-- Assumes nothing.
+use mathlib.Core.Path.{refl}
+use Rattle.numbers.specs.Lists.{tabulate}
+use Rattle.numbers.proofs.rows.Statement.{statement}
+use Rattle.numbers.proofs.rows.Tie as tie
+
+returns : tie.Need-returns
+unfolding tabulate
+returns c = record {
+  lowest = refl;
+  accepted = refl;
+  refused-keeps = refl;
+  accepted-fills = refl;
+  least-first = refl;
+  least-last = refl;
+  greatest-inside = refl;
+  least-none = refl;
+  table = refl;
+  range = refl;
+  some-member = refl;
+  no-member = refl;
+  ends = refl;
+  signed-ends = refl;
+  sum = refl;
+  cut = refl;
+}
+
+pub rows-spec : {M : Type 1} → statement M
+rows-spec = tie.close (tie.spec returns)

@@ -1,0 +1,46 @@
+-- Worked rows of this crate's definitions. Each holds by computing.
+--   minus n       −n
+--   wholes ns     the natural numbers ns as whole numbers
+--   NumbersRows   the rows
+use Prim.Native.Nat.{ℕ, _*_}
+use mathlib.Core.Path.{_≡_}
+use mathlib.Core.Bool.{true, false}
+use mathlib.Core.List.{List, [], _∷_, map}
+use lib.Dec.{eqb}
+use lib.IntN.{ℤ, pos, negℤ}
+use lib.Signed.{leZ, quotZ}
+use Rattle.numbers.specs.Lists.{tabulate, upFrom, anyOf}
+use Rattle.numbers.specs.Order.{atLeast, least}
+use Rattle.numbers.specs.Ranges.{outside, outsideZ}
+use Rattle.numbers.specs.Refusal.{refusalOf, leftIn}
+use Rattle.numbers.specs.Sums.{sumOf}
+
+abbrev pub minus : ℕ → ℤ
+minus n = negℤ (pos n)
+
+abbrev pub wholes : List ℕ → List ℤ
+wholes ns = map pos ns
+
+pub record NumbersRows : Type 0 where
+  -- of several conditions that hold the lowest number counts; 0 where none does
+  pub lowest : refusalOf ((false, 1) ∷ (true, 3) ∷ (true, 9) ∷ []) ≡ 3
+  pub accepted : refusalOf ((false, 1) ∷ (false, 3) ∷ []) ≡ 0
+  -- a refusal leaves what was held, an accepted call the levels
+  pub refused-keeps : leftIn 3 (wholes (1 ∷ 2 ∷ [])) (wholes (8 ∷ 9 ∷ [])) ≡ wholes (8 ∷ 9 ∷ [])
+  pub accepted-fills : leftIn 0 (wholes (1 ∷ 2 ∷ [])) (wholes (8 ∷ 9 ∷ [])) ≡ wholes (1 ∷ 2 ∷ [])
+  -- the least and the greatest, wherever they stand; the given level where there is none
+  pub least-first : least leZ (pos 0) (minus 7 ∷ pos 3 ∷ pos 3 ∷ []) ≡ minus 7
+  pub least-last : least leZ (pos 0) (pos 4 ∷ pos 2 ∷ pos 7 ∷ pos 1 ∷ []) ≡ pos 1
+  pub greatest-inside : least atLeast (pos 0) (pos 4 ∷ pos 2 ∷ pos 7 ∷ pos 1 ∷ []) ≡ pos 7
+  pub least-none : least leZ (pos 5) [] ≡ pos 5
+  -- tables and ranges
+  pub table : tabulate (λ k. 10 * k) 2 3 ≡ 20 ∷ 30 ∷ 40 ∷ []
+  pub range : upFrom (minus 2) 4 ≡ minus 2 ∷ minus 1 ∷ pos 0 ∷ pos 1 ∷ []
+  pub some-member : anyOf (eqb 3) (1 ∷ 2 ∷ 3 ∷ []) ≡ true
+  pub no-member : anyOf (eqb 4) (1 ∷ 2 ∷ 3 ∷ []) ≡ false
+  -- both ends of a range are inside
+  pub ends : map (outside 1 3) (0 ∷ 1 ∷ 3 ∷ 4 ∷ []) ≡ true ∷ false ∷ false ∷ true ∷ []
+  pub signed-ends : map (outsideZ (minus 2) (pos 1)) (minus 3 ∷ minus 2 ∷ pos 1 ∷ pos 2 ∷ []) ≡ true ∷ false ∷ false ∷ true ∷ []
+  pub sum : sumOf (pos 5 ∷ minus 7 ∷ pos 1 ∷ []) ≡ minus 1
+  -- the kit's quotient is cut toward zero
+  pub cut : map (λ z. quotZ z (pos 2)) (pos 3 ∷ minus 3 ∷ minus 1 ∷ []) ≡ pos 1 ∷ minus 1 ∷ pos 0 ∷ []

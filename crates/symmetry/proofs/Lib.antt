@@ -1,0 +1,5 @@
+-- Laws of the symmetry class.
+pub mod Bits
+pub mod Epsilon
+pub mod Search
+pub mod Steps

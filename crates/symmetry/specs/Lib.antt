@@ -1,0 +1,3 @@
+-- The symmetry class of a kernel.
+pub mod Class
+pub mod Rows
