@@ -3,7 +3,3 @@ pub mod Finite
 pub mod Places
 pub mod Shapes
 pub mod Strides
-pub mod LaneCells
-pub mod FirstPlace
-pub mod LaneStores
-pub mod AlongAxis

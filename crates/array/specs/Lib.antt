@@ -1,6 +1,5 @@
 -- Arrays of one to three axes, and the conditions on them.
 pub mod Grid
 pub mod Conditions
-pub mod Lanes
 pub mod Assign
 pub mod Rows

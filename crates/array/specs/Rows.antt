@@ -3,12 +3,11 @@
 --   wholes ns           the natural numbers ns as whole levels
 --   two                 the rows 1 2 3 / 4 5 6
 --   coordinates ns k    the coordinates of place k on each axis
---   turned ns a         `two` with every lane of axis a read from its end
 --   ArrayRows           the rows
 use Prim.Native.Nat.{ℕ, _-_, _^_}
 use mathlib.Core.Path.{_≡_}
 use mathlib.Core.Bool.{true, false}
-use mathlib.Core.List.{List, [], _∷_, map, reverse}
+use mathlib.Core.List.{List, [], _∷_, map}
 use lib.Ieee.{nan, inf, fin}
 use lib.IntN.{ℤ, pos, negsuc, negℤ}
 use lib.ListN.{length, getD, replicate}
@@ -17,7 +16,6 @@ use Rattle.numbers.specs.Refusal.{refusalOf}
 use Rattle.array.specs.Assign.{copied, assignJudged}
 use Rattle.array.specs.Conditions.{badShape, gridCount, badLength, badLevel, badFloat, badAxis}
 use Rattle.array.specs.Grid.{cellCount, lengthOf, strideOf, placeOf, coordinate, moved, levelAt}
-use Rattle.array.specs.Lanes.{laneOf, lane, withLane, laneInside, readLane, writeLane, alongAxis, lanesOf}
 
 abbrev pub minus : ℕ → ℤ
 minus n = negℤ (pos n)
@@ -30,9 +28,6 @@ two = wholes (1 ∷ 2 ∷ 3 ∷ 4 ∷ 5 ∷ 6 ∷ [])
 
 abbrev pub coordinates : List ℕ → ℕ → List ℕ
 coordinates ns k = tabulate (coordinate ns k) 0 (length ns)
-
-abbrev pub turned : ℕ → List ℤ
-turned a = alongAxis (pos 0) reverse (2 ∷ 3 ∷ []) a two
 
 pub record ArrayRows : Type 0 where
   -- 2 by 3: cells, lengths, strides, places; a missing axis has length 1
@@ -56,23 +51,6 @@ pub record ArrayRows : Type 0 where
   pub floats : map badFloat (nan ∷ inf false ∷ inf true ∷ fin true 0 (pos 0) ∷ fin false 1 (negsuc 1073) ∷ fin false 1 (pos 0) ∷ []) ≡ true ∷ true ∷ true ∷ false ∷ false ∷ false ∷ []
   -- 8
   pub axes : map (badAxis (2 ∷ 3 ∷ [])) (0 ∷ 1 ∷ 2 ∷ (2 ^ 64 - 1) ∷ []) ≡ false ∷ false ∷ true ∷ true ∷ []
-  -- lanes of 2 by 3: axis 0 has three lanes of 2 cells 3 places apart, axis 1 two of 3 cells 1 place apart
-  pub lanes-down : lanesOf (2 ∷ 3 ∷ []) 0 ≡ record { len = 2; stride = 3; count = 3 }
-  pub lanes-across : lanesOf (2 ∷ 3 ∷ []) 1 ≡ record { len = 3; stride = 1; count = 2 }
-  pub lanes-refused : lanesOf (1025 ∷ []) 0 ≡ record { len = 0; stride = 0; count = 0 }
-  pub lane-down : lane (pos 0) 2 3 1 two ≡ wholes (2 ∷ 5 ∷ [])
-  pub lane-across : lane (pos 0) 3 1 1 two ≡ wholes (4 ∷ 5 ∷ 6 ∷ [])
-  pub lane-numbers : map (laneOf 2 3) (0 ∷ 1 ∷ 4 ∷ 5 ∷ []) ≡ 0 ∷ 1 ∷ 1 ∷ 2 ∷ []
-  pub lane-written : withLane (pos 0) 2 3 1 (wholes (7 ∷ 8 ∷ [])) two ≡ wholes (1 ∷ 7 ∷ 3 ∷ 4 ∷ 8 ∷ 6 ∷ [])
-  -- inside: lanes 0 and 2 of axis 0, not 3; not a line of no cells, a stride of 0, or a grid of over 32,768 cells
-  pub insides : laneInside 2 3 0 6 ∷ laneInside 2 3 2 6 ∷ laneInside 2 3 3 6 ∷ laneInside 0 3 0 6 ∷ laneInside 2 0 0 6 ∷ laneInside 2 3 0 32769 ∷ [] ≡ true ∷ true ∷ false ∷ false ∷ false ∷ false ∷ []
-  pub read-in : readLane (pos 0) 3 2 two (wholes (9 ∷ 9 ∷ [])) ≡ wholes (3 ∷ 6 ∷ [])
-  pub read-out : readLane (pos 0) 3 3 two (wholes (9 ∷ 9 ∷ [])) ≡ wholes (9 ∷ 9 ∷ [])
-  pub write-in : writeLane (pos 0) 3 2 (wholes (7 ∷ 8 ∷ [])) two ≡ wholes (1 ∷ 2 ∷ 7 ∷ 4 ∷ 5 ∷ 8 ∷ [])
-  pub write-out : writeLane (pos 0) 3 3 (wholes (7 ∷ 8 ∷ [])) two ≡ two
-  -- every lane of an axis read from its end
-  pub turned-down : turned 0 ≡ wholes (4 ∷ 5 ∷ 6 ∷ 1 ∷ 2 ∷ 3 ∷ [])
-  pub turned-across : turned 1 ≡ wholes (3 ∷ 2 ∷ 1 ∷ 6 ∷ 5 ∷ 4 ∷ [])
   -- copies, and what assign refuses: the shape before the lengths, the lengths before the levels
   pub copy : copied (wholes (1 ∷ 2 ∷ [])) (wholes (8 ∷ 9 ∷ [])) ≡ wholes (1 ∷ 2 ∷ [])
   pub copy-other : copied (wholes (1 ∷ [])) (wholes (8 ∷ 9 ∷ [])) ≡ wholes (8 ∷ 9 ∷ [])

@@ -60,12 +60,13 @@ pub fn bad_level_f64(x: f64) -> bool
 pub fn bad_levels_f64(data: &[f64]) -> bool
     ensures { λ r. ⌜ r ≡ anyOf badFloat (now («data» .entry)) ⌝ }
 {
-    let mut i = 0;
-    while i < data.len() {
-        if bad_level_f64(data[i]) {
+    let mut k = 0;
+    while k < data.len() {
+        let x = data[k];
+        if bad_level_f64(x) {
             return true;
         }
-        i += 1;
+        k += 1;
     }
     false
 }

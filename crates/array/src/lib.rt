@@ -4,7 +4,6 @@ ghost use Rattle.array.specs.Rows.{ArrayRows};
 
 mod cells;
 mod conditions;
-mod lanes;
 mod shape;
 
 pub use cells::assign;
@@ -16,20 +15,8 @@ pub use conditions::bad_level_f64;
 pub use conditions::bad_levels;
 pub use conditions::bad_levels_f64;
 pub use conditions::bad_shape;
-pub use lanes::read_lane;
-pub use lanes::read_lane_f64;
-pub use lanes::write_lane;
-pub use lanes::write_lane_f64;
 pub use shape::cell_count;
-pub use shape::lanes_of;
 pub use shape::len_of;
-
-// The lanes of an axis: the cells of each, how many places apart they stand, and how many lanes there are.
-pub struct AxisLanes {
-    pub len: usize,
-    pub stride: usize,
-    pub count: usize,
-}
 
 // Worked rows of this crate's definitions. Refuses nothing.
 pub fn rows()

@@ -1,13 +1,11 @@
 // Shapes: any slice of lengths there is, judged before it is multiplied.
 ghost use mathlib.Core.Path.{_≡_};
-ghost use mathlib.Core.Bool.{false, _||_, cond};
+ghost use mathlib.Core.Bool.{_||_, cond};
 ghost use Prim.Native.Nat.{_*_};
 ghost use lib.Dec.{ltb};
 ghost use Rattle.numbers.specs.Ranges.{outside};
-ghost use Rattle.array.specs.Conditions.{badShape, gridCount};
-ghost use Rattle.array.specs.Grid.{lengthOf, strideOf};
-ghost use Rattle.array.specs.Lanes.{lanesOf};
-use crate::AxisLanes;
+ghost use Rattle.array.specs.Conditions.{gridCount};
+ghost use Rattle.array.specs.Grid.{lengthOf};
 
 // The length of an axis; a missing axis has length 1. Of 2 3 axis 1 has 3 and axis 2 has 1.
 // Refuses nothing.
@@ -62,41 +60,4 @@ pub fn cell_count(shape: &[usize]) -> usize
         return 0;
     }
     count_of_three(len_of(shape, 0), len_of(shape, 1), len_of(shape, 2))
-}
-
-// How many places apart the cells of an axis of an accepted shape stand.
-fn stride_of(shape: &[usize], axis: usize) -> usize
-    requires { ⌜ badShape (now shape) ≡ false ⌝ }
-    ensures { λ r. ⌜ r ≡ strideOf (now (shape .entry)) axis ⌝ }
-{
-    if axis == 0 {
-        return len_of(shape, 1) * len_of(shape, 2);
-    }
-    if axis == 1 {
-        return len_of(shape, 2);
-    }
-    1
-}
-
-// The lanes of an axis: their length, their stride and their number; all 0 where condition 1 refuses the shape.
-// Of 2 3 axis 0 has lanes of 2 cells 3 places apart, 3 of them; axis 1 has lanes of 3 cells 1 place apart, 2 of them.
-// Refuses nothing.
-pub fn lanes_of(shape: &[usize], axis: usize) -> AxisLanes
-    ensures { λ r. ⌜ r ≡ lanesOf (now (shape .entry)) axis ⌝ }
-{
-    let cells = cell_count(shape);
-    if cells == 0 {
-        return AxisLanes {
-            len: 0,
-            stride: 0,
-            count: 0,
-        };
-    }
-    let len = len_of(shape, axis);
-    let stride = stride_of(shape, axis);
-    AxisLanes {
-        len,
-        stride,
-        count: cells / len,
-    }
 }

@@ -1,5 +1,4 @@
--- Borders: the extension of a lane and of a grid, the border and padding modes, and the origin of a window.
+-- Borders: the extension of a lane and of a grid, the border and padding modes.
 pub mod Border
 pub mod Modes
-pub mod Origin
 pub mod Rows

@@ -4,10 +4,8 @@
 --   extendedThree b x y z      the cells x y z under border b, from coordinate −2 to 4
 --   plane b p                  the level at p of the rows 1 2 3 / 4 5 6, extended by b
 --   cube b p                   the level at p of the 2 × 2 × 2 grid of 1 to 8, extended by b
---   axisPads len origin        the answer for a window along one axis
---   kernelPads side origin     the answer for a grid kernel
 --   BorderRows                 the rows
-use Prim.Native.Nat.{ℕ, _-_, _/_, _^_}
+use Prim.Native.Nat.{ℕ, _-_, _^_}
 use mathlib.Core.Path.{_≡_}
 use mathlib.Core.Bool.{true, false}
 use mathlib.Core.List.{List, [], _∷_, map}
@@ -18,12 +16,9 @@ use Rattle.numbers.specs.Lists.{upFrom}
 use Rattle.array.specs.Conditions.{badLevel, badFloat}
 use Rattle.border.specs.Border.{Border, constant, along, nearest, mirror, reflect, wrap, extendedLane, extendedGrid}
 use Rattle.border.specs.Modes.{borderOf, borderOfF64, padModeOf, badConstantBy}
-use Rattle.border.specs.Origin.{badOrigin, originPads, refusalOfOrigin}
 use Rattle.border.specs.declared.BorderMode.the-variants as Whole
 use Rattle.border.specs.declared.BorderModeF64.the-variants as F64
 use Rattle.border.specs.declared.PadMode.the-variants as Pad
-use Rattle.border.specs.declared.origin.Origin.{Origin}
-use Rattle.border.specs.declared.origin.Origin.the-variants.{Pads, Refused}
 
 abbrev pub minus : ℕ → ℤ
 minus n = negℤ (pos n)
@@ -39,12 +34,6 @@ plane b p = extendedGrid (pos 0) b (2 ∷ 3 ∷ []) (wholes (1 ∷ 2 ∷ 3 ∷ 4
 
 abbrev pub cube : Border ℤ → List ℤ → ℤ
 cube b p = extendedGrid (pos 0) b (2 ∷ 2 ∷ 2 ∷ []) (wholes (1 ∷ 2 ∷ 3 ∷ 4 ∷ 5 ∷ 6 ∷ 7 ∷ 8 ∷ [])) (λ a. getD p a (pos 0))
-
-abbrev pub axisPads : ℕ → ℤ → Origin
-axisPads len origin = originPads len (len / 2) (len - len / 2 - 1) origin
-
-abbrev pub kernelPads : ℕ → ℤ → Origin
-kernelPads side origin = originPads side (side / 2) (side / 2) origin
 
 pub record BorderRows : Type 0 where
   -- T1: 1 2 3, pad 2
@@ -84,16 +73,3 @@ pub record BorderRows : Type 0 where
   pub constants : map (λ z. badConstantBy badLevel (constant z)) (minus (2 ^ 31) ∷ minus (2 ^ 31 - 1) ∷ pos 0 ∷ pos (2 ^ 31 - 1) ∷ pos (2 ^ 31) ∷ []) ≡ true ∷ false ∷ false ∷ false ∷ true ∷ []
   pub no-constants : map (λ m. badConstantBy badLevel (along m)) (nearest ∷ mirror ∷ reflect ∷ wrap ∷ []) ≡ false ∷ false ∷ false ∷ false ∷ []
   pub float-constants : map (λ x. badConstantBy badFloat (constant x)) (nan ∷ inf true ∷ fin true 0 (pos 0) ∷ fin false 1 (pos 0) ∷ []) ≡ true ∷ true ∷ false ∷ false ∷ []
-  -- origins at the limits of lengths 0, 1, 2, 4, 5 and 2^64 − 1
-  pub origins-none : map (badOrigin 0) (minus 1 ∷ pos 0 ∷ pos 1 ∷ []) ≡ true ∷ true ∷ true ∷ []
-  pub origins-one : map (badOrigin 1) (minus 1 ∷ pos 0 ∷ pos 1 ∷ []) ≡ true ∷ false ∷ true ∷ []
-  pub origins-two : map (badOrigin 2) (minus 2 ∷ minus 1 ∷ pos 0 ∷ pos 1 ∷ []) ≡ true ∷ false ∷ false ∷ true ∷ []
-  pub origins-four : map (badOrigin 4) (minus 3 ∷ minus 2 ∷ pos 1 ∷ pos 2 ∷ []) ≡ true ∷ false ∷ false ∷ true ∷ []
-  pub origins-five : map (badOrigin 5) (minus 3 ∷ minus 2 ∷ pos 2 ∷ pos 3 ∷ []) ≡ true ∷ false ∷ false ∷ true ∷ []
-  pub origins-long : map (badOrigin (2 ^ 64 - 1)) (minus (2 ^ 63) ∷ minus (2 ^ 63 - 1) ∷ pos (2 ^ 63 - 1) ∷ []) ≡ true ∷ false ∷ false ∷ []
-  -- pads of a window of 1, 4 and 5 cells, and of kernels with sides of 2 and 3
-  pub axis-pads : axisPads 1 (pos 0) ∷ axisPads 4 (minus 2) ∷ axisPads 4 (pos 1) ∷ axisPads 4 (pos 2) ∷ axisPads 5 (minus 2) ∷ axisPads 5 (pos 2) ∷ []
-      ≡ Pads 0 0 ∷ Pads 0 3 ∷ Pads 3 0 ∷ Refused ∷ Pads 0 4 ∷ Pads 4 0 ∷ []
-  pub kernel-pads-two : map (kernelPads 2) (minus 2 ∷ minus 1 ∷ pos 0 ∷ pos 1 ∷ []) ≡ Refused ∷ Pads 0 2 ∷ Pads 1 1 ∷ Refused ∷ []
-  pub kernel-pads-three : map (kernelPads 3) (minus 1 ∷ pos 0 ∷ pos 1 ∷ pos 2 ∷ []) ≡ Pads 0 2 ∷ Pads 1 1 ∷ Pads 2 0 ∷ Refused ∷ []
-  pub refusals : map refusalOfOrigin (axisPads 4 (pos 1) ∷ axisPads 4 (pos 2) ∷ axisPads 0 (pos 0) ∷ []) ≡ 0 ∷ 7 ∷ 7 ∷ []

@@ -1,11 +1,5 @@
-// Borders: the border modes and the padding modes that they map to, condition 9, and the origin of a window (condition 7).
+// Borders: the border modes and the padding modes that they map to, and condition 9.
 // What a border extends a lane and a grid to is a definition: specs/Border.antt.
-mod origin;
-
-pub use origin::Origin;
-pub use origin::bad_origin;
-pub use origin::kernel_origin_check;
-pub use origin::origin_check;
 ghost use mathlib.Core.Path.{_≡_};
 ghost use Rattle.array.specs.Conditions.{badLevel, badFloat};
 ghost use Rattle.border.specs.Modes.{borderOf, borderOfF64, padModeOf, badConstantBy};
@@ -119,7 +113,7 @@ pub fn bad_constant_f64(mode: BorderModeF64) -> bool
     }
 }
 
-// Worked rows of this crate's definitions: T1, cells of extended grids, padding modes, constants and origins at their limits. Refuses nothing.
+// Worked rows of this crate's definitions: T1, cells of extended grids, padding modes, and constants at their limits. Refuses nothing.
 pub fn rows()
     ensures { λ _. ⌜ BorderRows ⌝ }
 {}

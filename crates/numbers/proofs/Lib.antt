@@ -12,4 +12,5 @@ pub mod Range
 pub mod Index
 pub mod Any
 pub mod Stored
+pub mod Window
 pub mod Read

@@ -4,4 +4,5 @@ pub mod Order
 pub mod Ranges
 pub mod Refusal
 pub mod Sums
+pub mod Windows
 pub mod Rows

@@ -14,6 +14,7 @@ use Rattle.numbers.specs.Order.{atLeast, least}
 use Rattle.numbers.specs.Ranges.{outside, outsideZ}
 use Rattle.numbers.specs.Refusal.{refusalOf, leftIn}
 use Rattle.numbers.specs.Sums.{sumOf}
+use Rattle.numbers.specs.Windows.{windowOf}
 
 abbrev pub minus : ℕ → ℤ
 minus n = negℤ (pos n)
@@ -38,6 +39,8 @@ pub record NumbersRows : Type 0 where
   pub range : upFrom (minus 2) 4 ≡ minus 2 ∷ minus 1 ∷ pos 0 ∷ pos 1 ∷ []
   pub some-member : anyOf (eqb 3) (1 ∷ 2 ∷ 3 ∷ []) ≡ true
   pub no-member : anyOf (eqb 4) (1 ∷ 2 ∷ 3 ∷ []) ≡ false
+  -- a window that ends with its line, one that passes its end, and one of no cells past it
+  pub windows : windowOf (1 ∷ 2 ∷ 3 ∷ []) 1 2 ∷ windowOf (1 ∷ 2 ∷ 3 ∷ []) 2 2 ∷ windowOf (1 ∷ 2 ∷ 3 ∷ []) 4 0 ∷ [] ≡ (2 ∷ 3 ∷ []) ∷ [] ∷ [] ∷ []
   -- both ends of a range are inside
   pub ends : map (outside 1 3) (0 ∷ 1 ∷ 3 ∷ 4 ∷ []) ≡ true ∷ false ∷ false ∷ true ∷ []
   pub signed-ends : map (outsideZ (minus 2) (pos 1)) (minus 3 ∷ minus 2 ∷ pos 1 ∷ pos 2 ∷ []) ≡ true ∷ false ∷ false ∷ true ∷ []

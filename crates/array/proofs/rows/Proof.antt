@@ -4,12 +4,11 @@ use mathlib.Core.Path.{refl}
 use Rattle.numbers.specs.Lists.{tabulate}
 use Rattle.array.specs.Conditions.{badShape, gridCount, badLevel}
 use Rattle.array.specs.Grid.{placeOf, coordinate}
-use Rattle.array.specs.Lanes.{laneAt, withLane, laneInside, alongAxis}
 use Rattle.array.proofs.rows.Statement.{statement}
 use Rattle.array.proofs.rows.Tie as tie
 
 returns : tie.Need-returns
-unfolding tabulate placeOf coordinate badShape gridCount badLevel laneAt withLane laneInside alongAxis
+unfolding tabulate placeOf coordinate badShape gridCount badLevel
 returns c = record {
   count = refl;
   lengths = refl;
@@ -24,20 +23,6 @@ returns c = record {
   levels = refl;
   floats = refl;
   axes = refl;
-  lanes-down = refl;
-  lanes-across = refl;
-  lanes-refused = refl;
-  lane-down = refl;
-  lane-across = refl;
-  lane-numbers = refl;
-  lane-written = refl;
-  insides = refl;
-  read-in = refl;
-  read-out = refl;
-  write-in = refl;
-  write-out = refl;
-  turned-down = refl;
-  turned-across = refl;
   copy = refl;
   copy-other = refl;
   numbers = refl;

@@ -1,14 +1,14 @@
--- Every row holds by computing.
+-- `border::rows` meets its contract: every row holds by computing.
+-- Assumes nothing.
 use mathlib.Core.Path.{refl}
 use Rattle.array.specs.Grid.{placeOf}
 use Rattle.array.specs.Conditions.{badLevel}
 use Rattle.border.specs.Border.{cellFor, allInside, extendedLane, extendedGrid}
-use Rattle.border.specs.Origin.{badOrigin}
 use Rattle.border.proofs.rows.Statement.{statement}
 use Rattle.border.proofs.rows.Tie as tie
 
 returns : tie.Need-returns
-unfolding placeOf badLevel cellFor allInside extendedLane extendedGrid badOrigin
+unfolding placeOf badLevel cellFor allInside extendedLane extendedGrid
 returns c = record {
   three-mirror = refl;
   three-nearest = refl;
@@ -34,16 +34,6 @@ returns c = record {
   constants = refl;
   no-constants = refl;
   float-constants = refl;
-  origins-none = refl;
-  origins-one = refl;
-  origins-two = refl;
-  origins-four = refl;
-  origins-five = refl;
-  origins-long = refl;
-  axis-pads = refl;
-  kernel-pads-two = refl;
-  kernel-pads-three = refl;
-  refusals = refl;
 }
 
 pub rows-spec : {M : Type 1} → statement M

@@ -2,11 +2,12 @@
 -- Assumes nothing.
 use mathlib.Core.Path.{refl}
 use Rattle.numbers.specs.Lists.{tabulate}
+use Rattle.numbers.specs.Windows.{windowOf}
 use Rattle.numbers.proofs.rows.Statement.{statement}
 use Rattle.numbers.proofs.rows.Tie as tie
 
 returns : tie.Need-returns
-unfolding tabulate
+unfolding tabulate windowOf
 returns c = record {
   lowest = refl;
   accepted = refl;
@@ -20,6 +21,7 @@ returns c = record {
   range = refl;
   some-member = refl;
   no-member = refl;
+  windows = refl;
   ends = refl;
   signed-ends = refl;
   sum = refl;

@@ -1,3 +1,0 @@
--- Laws of borders and origins.
-pub mod Origins
-pub mod Sign

@@ -1,0 +1,74 @@
+-- A line function on every lane of an axis: its length, its level at a place, and that a loop over the lanes computes it.
+-- Assumes nothing.
+use mathlib.Core.Path.{_≡_, sym, ap, subst, _∙_}
+use mathlib.Core.Bool.{cond}
+use mathlib.Core.List.{List}
+use Prim.Native.Nat.{ℕ, _+_, _*_, _/_, _<_}
+use native.Mathlib.Nat.{mul-assoc, mul-comm, mul-div-cancel}
+use lib.Dec.{ltb, eqb}
+use lib.ListN.{length, getD}
+use Rattle.numbers.specs.Lists.{tabulate}
+use Rattle.numbers.proofs.Stored.{Stored}
+use Rattle.numbers.proofs.Tabulate.{length-tabulate, getD-tabulate, tabulate-agree}
+use Rattle.array.specs.Grid.{cellCount, lengthOf, strideOf, placeOf, coordinate, moved, levelAt}
+use Rattle.lanes.specs.Lanes.{laneOf, laneBase, laneAt, lane, alongAxis}
+use Rattle.array.proofs.Places.{Within, Positive, length-pos, place-lt, coordinate-place, place-ext}
+use Rattle.array.proofs.Strides.{outerOf, count-split, stride-pos, coordinate-digit, place-moved}
+use Rattle.lanes.proofs.Cells.{base-of, lane-below}
+use Rattle.lanes.proofs.Stores.{levelAlong, lanes-all}
+
+pub length-along : {A : Type 0} (d : A) (f : List A → List A) (ns : List ℕ) (a : ℕ) (g : List A) → length (alongAxis d f ns a g) ≡ length g
+unfolding alongAxis
+length-along d f ns a g = length-tabulate _ 0 (length g)
+
+-- the cells over the cells of a lane are the lanes
+pub count-lanes : (ns : List ℕ) (a : ℕ) → Positive ns → a < length ns → cellCount ns / lengthOf ns a ≡ outerOf ns a * strideOf ns a
+count-lanes ns a p h =
+    let n = lengthOf ns a in
+    let e : cellCount ns ≡ outerOf ns a * strideOf ns a * n = count-split ns a h ∙ ap (λ x. outerOf ns a * x) (mul-comm n (strideOf ns a)) ∙ sym (mul-assoc (outerOf ns a) (strideOf ns a) n) in
+    ap (λ x. x / n) e ∙ mul-div-cancel (outerOf ns a * strideOf ns a) (length-pos ns a p)
+
+-- ---- the level at a place: cell p a of f of the lane through that place
+lane-through : {A : Type 0} (d : A) (ns : List ℕ) (a : ℕ) (g : List A) (p : ℕ → ℕ) → Positive ns → a < length ns → Within ns p
+    → lane d (lengthOf ns a) (strideOf ns a) (laneOf (lengthOf ns a) (strideOf ns a) (placeOf ns p)) g ≡ tabulate (λ i. levelAt d ns g (moved a i p)) 0 (lengthOf ns a)
+unfolding laneAt
+lane-through d ns a g p pos h w =
+    tabulate-agree (λ i. getD g (laneBase n s (laneOf n s k) + i * s) d) (λ i. levelAt d ns g (moved a i p)) 0 n (λ i b. at (0 + i))
+  where
+    n : ℕ
+    n = lengthOf ns a
+
+    s : ℕ
+    s = strideOf ns a
+
+    k : ℕ
+    k = placeOf ns p
+
+    same : (i b : ℕ) → b < length ns → moved a i (coordinate ns k) b ≡ moved a i p b
+    same i b l = ap (cond (eqb b a) i) (coordinate-place ns p w b l)
+
+    at : (i : ℕ) → getD g (laneBase n s (laneOf n s k) + i * s) d ≡ levelAt d ns g (moved a i p)
+    at i =
+        ap (λ x. getD g x d)
+        (ap (λ x. x + i * s) (base-of n s (length-pos ns a pos) (stride-pos ns a pos) k)
+        ∙ sym (place-moved ns a k i pos h (place-lt ns p w))
+        ∙ place-ext ns (moved a i (coordinate ns k)) (moved a i p) (same i))
+
+pub getD-along : {A : Type 0} (d : A) (f : List A → List A) (ns : List ℕ) (a : ℕ) (g : List A) (p : ℕ → ℕ) → Positive ns → a < length ns → Within ns p → length g ≡ cellCount ns
+    → getD (alongAxis d f ns a g) (placeOf ns p) d ≡ getD (f (tabulate (λ i. levelAt d ns g (moved a i p)) 0 (lengthOf ns a))) (p a) d
+unfolding alongAxis
+getD-along d f ns a g p pos h w e =
+    let k = placeOf ns p in
+    getD-tabulate (levelAlong d f (lengthOf ns a) (strideOf ns a) g) (length g) k d (subst (λ (m : ℕ). k < m) (sym e) (place-lt ns p w))
+    ∙ (λ j. getD (f (lane-through d ns a g p pos h w j)) ((sym (coordinate-digit ns a k pos h (place-lt ns p w)) ∙ coordinate-place ns p w a h) j) d)
+
+-- ---- a loop over the lanes
+pub along-loop : {A : Type 0} (d : A) (f : List A → List A) (ns : List ℕ) (a : ℕ) (g : List A) {out₀ out : List A} → Positive ns → a < length ns → length g ≡ cellCount ns → length out₀ ≡ length g
+    → Stored d (λ k. ltb (laneOf (lengthOf ns a) (strideOf ns a) k) (cellCount ns / lengthOf ns a)) (levelAlong d f (lengthOf ns a) (strideOf ns a) g) out₀ out
+    → out ≡ alongAxis d f ns a g
+unfolding alongAxis
+along-loop d f ns a g {out₀} {out} pos h e o S =
+    lanes-all d f (lengthOf ns a) (strideOf ns a) g (cellCount ns / lengthOf ns a)
+    (λ k b. subst (λ (m : ℕ). laneOf (lengthOf ns a) (strideOf ns a) k < m) (sym (count-lanes ns a pos h))
+    (lane-below (lengthOf ns a) (strideOf ns a) (length-pos ns a pos) (stride-pos ns a pos) (outerOf ns a) k (subst (λ (m : ℕ). k < m) (o ∙ e ∙ count-split ns a h) b))) S
+    ∙ ap (tabulate (levelAlong d f (lengthOf ns a) (strideOf ns a) g) 0) o

@@ -1,0 +1,5 @@
+-- Laws of lanes that belong to no one function, leaves first.
+pub mod Cells
+pub mod FirstPlace
+pub mod Stores
+pub mod AlongAxis

@@ -1,0 +1,30 @@
+-- `lanes::rows` meets its contract: every row holds by computing.
+-- Assumes nothing.
+use mathlib.Core.Path.{refl}
+use Rattle.numbers.specs.Lists.{tabulate}
+use Rattle.array.specs.Conditions.{badShape}
+use Rattle.lanes.specs.Lanes.{laneAt, withLane, laneInside, alongAxis}
+use Rattle.lanes.proofs.rows.Statement.{statement}
+use Rattle.lanes.proofs.rows.Tie as tie
+
+returns : tie.Need-returns
+unfolding tabulate badShape laneAt withLane laneInside alongAxis
+returns c = record {
+  lanes-down = refl;
+  lanes-across = refl;
+  lanes-refused = refl;
+  lane-down = refl;
+  lane-across = refl;
+  lane-numbers = refl;
+  lane-written = refl;
+  insides = refl;
+  read-in = refl;
+  read-out = refl;
+  write-in = refl;
+  write-out = refl;
+  turned-down = refl;
+  turned-across = refl;
+}
+
+pub rows-spec : {M : Type 1} → statement M
+rows-spec = tie.close (tie.spec returns)

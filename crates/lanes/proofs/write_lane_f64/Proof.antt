@@ -1,0 +1,34 @@
+-- `lanes::write_lane_f64` meets its contract: the first place tells whether the lane is inside.
+-- Assumes nothing.
+use lib.ListN.{length}
+use denote.Ref.{now}
+use lib.Ieee.{nan}
+use Rattle.lanes.proofs.Cells.{lane-inside}
+use Rattle.lanes.proofs.FirstPlace.{place-some, place-base, place-whole, write-none, write-some}
+use borrow.Author.Needs.{needs}
+use Rattle.lanes.proofs.write_lane_f64.Statement.{statement}
+use Rattle.lanes.proofs.write_lane_f64.Tie as tie
+
+first-place-requires : tie.Need-first-place-requires
+first-place-requires c κs = search needs
+
+returns : tie.Need-returns
+returns c = let a = c .before .before .before .before .args in write-none nan (a .stride) (a .lane) (now (a .line)) (now (a .grid)) _ (c .before .first-place .ensures) (c .if1 .taken)
+
+scatter-f64-requires : tie.Need-scatter-f64-requires
+scatter-f64-requires c κs =
+    let a = c .before .before .before .before .before .args in
+    let I = lane-inside (length (now (a .line))) (a .stride) (a .lane) (length (now (a .grid))) (place-some (length (now (a .line))) (a .stride) (a .lane) (length (now (a .grid))) _ (c .before .before .first-place .ensures) (c .before .if1 .left)) in
+    (I .some, I .apart, place-base (length (now (a .line))) (a .stride) (a .lane) (length (now (a .grid))) _ (c .before .before .first-place .ensures) (c .before .if1 .left), place-whole (length (now (a .line))) (a .stride) (a .lane) (length (now (a .grid))) _ (c .before .before .first-place .ensures) (c .before .if1 .left))
+
+same-length : tie.Need-same-length
+same-length c = search needs
+
+returns-2 : tie.Need-returns-2
+returns-2 c =
+    let a = c .before .before .before .before .before .before .before .before .args in
+    write-some nan (a .stride) (a .lane) (now (a .line)) (now (a .grid)) _ (c .before .before .before .before .before .first-place .ensures) (c .before .before .before .before .if1 .left) (c .before .before .scatter-f64 .ensures)
+
+pub write-lane-f64-spec : {M : Type 1} → statement M
+write-lane-f64-spec =
+    tie.close (tie.spec first-place-requires returns scatter-f64-requires same-length returns-2)

@@ -1,0 +1,54 @@
+-- The lanes of an axis of n cells that stand s places apart, over any element. The cell at place k is cell k / s % n of lane laneOf n s k.
+--   laneOf n s k             the lane that the cell at place k is on
+--   laneBase n s l           the place of the first cell of lane l
+--   laneAt d g at s n        the n cells of g from place at on, s apart; d where g has none
+--   lane d n s l g           lane l of the grid g, as a line
+--   withLane d n s l line g  the grid g with the line written to lane l
+--   laneInside n s l count   whether lane l is inside a grid of that many cells, of at most 32,768
+--   readLane, writeLane      what reading and writing leave: nothing changes where the lane is not inside
+--   alongAxis d f ns a g     f on every lane of axis a of the grid g of shape ns
+--   lanesOf ns a             length, stride and number of the lanes of axis a; all 0 where condition 1 holds
+use Prim.Native.Nat.{ℕ, _+_, _-_, _*_, _/_, _%_}
+use mathlib.Core.Bool.{Bool, _&&_, cond}
+use mathlib.Core.List.{List}
+use lib.Dec.{leb, ltb, eqb}
+use lib.ListN.{length, getD}
+use Rattle.numbers.specs.Lists.{tabulate}
+use Rattle.array.specs.Grid.{cellCount, lengthOf, strideOf}
+use Rattle.array.specs.Conditions.{badShape}
+use Rattle.lanes.specs.declared.Lanes.{Lanes}
+
+abbrev pub laneOf : ℕ → ℕ → ℕ → ℕ
+laneOf n s k = k / (n * s) * s + k % s
+
+abbrev pub laneBase : ℕ → ℕ → ℕ → ℕ
+laneBase n s l = l / s * (n * s) + l % s
+
+unfoldable pub laneAt : {A : Type 0} → A → List A → ℕ → ℕ → ℕ → List A
+laneAt d g at s n = tabulate (λ i. getD g (at + i * s) d) 0 n
+
+abbrev pub lane : {A : Type 0} → A → ℕ → ℕ → ℕ → List A → List A
+lane d n s l g = laneAt d g (laneBase n s l) s n
+
+unfoldable pub withLane : {A : Type 0} → A → ℕ → ℕ → ℕ → List A → List A → List A
+withLane d n s l line g = tabulate (λ k. cond (eqb (laneOf n s k) l) (getD line (k / s % n) d) (getD g k d)) 0 (length g)
+
+unfoldable pub laneInside : ℕ → ℕ → ℕ → ℕ → Bool
+laneInside n s l count = leb count 32768 && leb 1 n && leb 1 s && leb s count && ltb (laneBase n s l + (n - 1) * s) count
+
+abbrev pub readLane : {A : Type 0} → A → ℕ → ℕ → List A → List A → List A
+readLane d s l g line = cond (laneInside (length line) s l (length g)) (lane d (length line) s l g) line
+
+abbrev pub writeLane : {A : Type 0} → A → ℕ → ℕ → List A → List A → List A
+writeLane d s l line g = cond (laneInside (length line) s l (length g)) (withLane d (length line) s l line g) g
+
+unfoldable pub alongAxis : {A : Type 0} → A → (List A → List A) → List ℕ → ℕ → List A → List A
+alongAxis d f ns a g =
+    let n = lengthOf ns a in
+    let s = strideOf ns a in
+    tabulate (λ k. getD (f (lane d n s (laneOf n s k) g)) (k / s % n) d) 0 (length g)
+
+abbrev pub lanesOf : List ℕ → ℕ → Lanes
+lanesOf ns a =
+    cond (badShape ns) (record { len = 0; stride = 0; count = 0 })
+    (record { len = lengthOf ns a; stride = strideOf ns a; count = cellCount ns / lengthOf ns a })

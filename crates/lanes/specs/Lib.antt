@@ -1,0 +1,3 @@
+-- The lanes of an axis, and a line function on every lane.
+pub mod Lanes
+pub mod Rows

@@ -1,0 +1,26 @@
+-- The window of a line: inside it is the part itself, past the end it is empty; its length, and its level at a place.
+-- Assumes nothing.
+use mathlib.Core.Path.{_≡_, sym, ap, _∙_}
+use mathlib.Core.List.{List, []}
+use Prim.Native.Nat.{ℕ, _+_, _≤_, _<_}
+use native.Mathlib.Omega.{arith}
+use borrow.Author.Tests.{le-leb, lt-leb}
+use lib.ListN.{length, getD, take, drop, length-take, length-drop}
+use lib.Seq.{getD-take, getD-drop}
+use Rattle.numbers.specs.Windows.{windowOf}
+use Rattle.numbers.proofs.Tests.{cond-yes, cond-no}
+
+module _ {A : Type 0} (s : List A) (i len : ℕ) where
+  pub window-in : i + len ≤ length s → windowOf s i len ≡ take len (drop i s)
+  unfolding windowOf
+  window-in h = cond-yes _ (take len (drop i s)) [] (le-leb (i + len) (length s) h)
+
+  pub window-out : length s < i + len → windowOf s i len ≡ []
+  unfolding windowOf
+  window-out h = cond-no _ (take len (drop i s)) [] (lt-leb (i + len) (length s) h)
+
+  pub length-window : i + len ≤ length s → length (windowOf s i len) ≡ len
+  length-window h = ap length (window-in h) ∙ simp (length-take, length-drop) (omega arith)
+
+  pub getD-window : (j : ℕ) (d : A) → i + len ≤ length s → j < len → getD (windowOf s i len) j d ≡ getD s (i + j) d
+  getD-window j d h b = ap (λ w. getD w j d) (window-in h) ∙ getD-take len (drop i s) j d b ∙ getD-drop i s j d

@@ -1,0 +1,3 @@
+-- Laws of origins that belong to no one function, leaves first.
+pub mod Sign
+pub mod Origins

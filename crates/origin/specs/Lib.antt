@@ -1,0 +1,3 @@
+-- The origin of a window, and the pads that it gives.
+pub mod Origin
+pub mod Rows
