@@ -40,7 +40,7 @@ pub record NumbersRows : Type 0 where
   pub some-member : anyOf (eqb 3) (1 ∷ 2 ∷ 3 ∷ []) ≡ true
   pub no-member : anyOf (eqb 4) (1 ∷ 2 ∷ 3 ∷ []) ≡ false
   -- a window that ends with its line, one that passes its end, and one of no cells past it
-  pub windows : windowOf (1 ∷ 2 ∷ 3 ∷ []) 1 2 ∷ windowOf (1 ∷ 2 ∷ 3 ∷ []) 2 2 ∷ windowOf (1 ∷ 2 ∷ 3 ∷ []) 4 0 ∷ [] ≡ (2 ∷ 3 ∷ []) ∷ [] ∷ [] ∷ []
+  pub windows : windowOf (wholes (1 ∷ 2 ∷ 3 ∷ [])) 1 2 ∷ windowOf (wholes (1 ∷ 2 ∷ 3 ∷ [])) 2 2 ∷ windowOf (wholes (1 ∷ 2 ∷ 3 ∷ [])) 4 0 ∷ [] ≡ wholes (2 ∷ 3 ∷ []) ∷ [] ∷ [] ∷ []
   -- both ends of a range are inside
   pub ends : map (outside 1 3) (0 ∷ 1 ∷ 3 ∷ 4 ∷ []) ≡ true ∷ false ∷ false ∷ true ∷ []
   pub signed-ends : map (outsideZ (minus 2) (pos 1)) (minus 3 ∷ minus 2 ∷ pos 1 ∷ pos 2 ∷ []) ≡ true ∷ false ∷ false ∷ true ∷ []
