@@ -1,3 +1,2 @@
 -- Laws of origins that belong to no one function, leaves first.
-pub mod Sign
 pub mod Origins

@@ -3,7 +3,7 @@ use mathlib.Core.Path.{sym, ap, _∙_}
 use lib.IntN.{ℤ, natAbs}
 use Rattle.origin.specs.Origin.{signedOf}
 use Rattle.origin.specs.declared.Shift.the-variants.{On, Back}
-use Rattle.origin.proofs.Sign.{below-is, below-next-fits, below-turned-fits, below-turned, below-casts, on-is, on-read, on-casts}
+use Rattle.numbers.proofs.Sign.{below-is, below-next-fits, below-turned-fits, below-turned, below-casts, on-is, on-read, on-casts}
 use Rattle.origin.proofs.split.Statement.{statement}
 use Rattle.origin.proofs.split.Tie as tie
 

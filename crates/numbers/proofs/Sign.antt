@@ -1,4 +1,5 @@
 -- A signed number by its sign and size, as the machine computes it: of one below 0 its size is −(z + 1), of any other it is z.
+-- Assumes nothing.
 use Prim.Native.Nat.{ℕ, zero, suc, _≤_, zero-le}
 use native.Mathlib.Nat.{not-suc-le-zero}
 use native.Mathlib.Omega.{arith}
