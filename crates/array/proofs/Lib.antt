@@ -2,4 +2,5 @@
 pub mod Finite
 pub mod Places
 pub mod Shapes
+pub mod Judged
 pub mod Strides

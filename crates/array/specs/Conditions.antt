@@ -5,15 +5,17 @@
 --   badLevel z         3: a whole level outside −(2^31 − 1)..2^31 − 1
 --   badFloat x         3: a float level that is not finite
 --   badAxis ns a       8: an axis number not below the axis count
+--   gridJudged ns cells lengths   conditions 1, 2 (of every lent grid's length) and 3 of a grid of whole levels, in rising order
 -- Conditions 1 and 3 of a whole list are tests of any member: anyOf badLevel, anyOf badFloat.
 use Prim.Native.Nat.{ℕ, _-_, _^_}
 use mathlib.Core.Bool.{Bool, true, false, not, _||_, cond}
-use mathlib.Core.List.{List}
+use mathlib.Core.List.{List, [], _∷_}
 use lib.Dec.{ltb, eqb}
 use lib.Ieee.{Float, nan, inf, fin}
 use lib.IntN.{ℤ, pos, negℤ}
 use lib.ListN.{length}
 use Rattle.numbers.specs.Lists.{anyOf}
+use Rattle.numbers.specs.Refusal.{Judged}
 use Rattle.numbers.specs.Ranges.{outside, outsideZ}
 use Rattle.array.specs.Grid.{cellCount}
 
@@ -36,3 +38,6 @@ badFloat (fin s m e) = false
 
 abbrev pub badAxis : List ℕ → ℕ → Bool
 badAxis ns a = not (ltb a (length ns))
+
+abbrev pub gridJudged : List ℕ → List ℤ → List ℕ → Judged
+gridJudged ns cells lengths = (badShape ns, 1) ∷ (anyOf (badLength ns) lengths, 2) ∷ (anyOf badLevel cells, 3) ∷ []

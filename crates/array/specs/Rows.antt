@@ -13,8 +13,8 @@ use lib.IntN.{ℤ, pos, negsuc, negℤ}
 use lib.ListN.{length, getD, replicate}
 use Rattle.numbers.specs.Lists.{tabulate}
 use Rattle.numbers.specs.Refusal.{refusalOf}
-use Rattle.array.specs.Assign.{copied, assignJudged}
-use Rattle.array.specs.Conditions.{badShape, gridCount, badLength, badLevel, badFloat, badAxis}
+use Rattle.array.specs.Assign.{copied}
+use Rattle.array.specs.Conditions.{badShape, gridCount, badLength, badLevel, badFloat, badAxis, gridJudged}
 use Rattle.array.specs.Grid.{cellCount, lengthOf, strideOf, placeOf, coordinate, moved, levelAt}
 
 abbrev pub minus : ℕ → ℤ
@@ -51,8 +51,9 @@ pub record ArrayRows : Type 0 where
   pub floats : map badFloat (nan ∷ inf false ∷ inf true ∷ fin true 0 (pos 0) ∷ fin false 1 (negsuc 1073) ∷ fin false 1 (pos 0) ∷ []) ≡ true ∷ true ∷ true ∷ false ∷ false ∷ false ∷ []
   -- 8
   pub axes : map (badAxis (2 ∷ 3 ∷ [])) (0 ∷ 1 ∷ 2 ∷ (2 ^ 64 - 1) ∷ []) ≡ false ∷ false ∷ true ∷ true ∷ []
-  -- copies, and what assign refuses: the shape before the lengths, the lengths before the levels
+  -- copies
   pub copy : copied (wholes (1 ∷ 2 ∷ [])) (wholes (8 ∷ 9 ∷ [])) ≡ wholes (1 ∷ 2 ∷ [])
   pub copy-other : copied (wholes (1 ∷ [])) (wholes (8 ∷ 9 ∷ [])) ≡ wholes (8 ∷ 9 ∷ [])
-  pub numbers : refusalOf (assignJudged [] [] 1) ∷ refusalOf (assignJudged (2 ∷ []) (wholes (1 ∷ [])) 2) ∷ refusalOf (assignJudged (1 ∷ []) (pos (2 ^ 31) ∷ []) 2) ∷ refusalOf (assignJudged (1 ∷ []) (pos (2 ^ 31) ∷ []) 1) ∷ refusalOf (assignJudged (1 ∷ []) (pos 1 ∷ []) 1) ∷ []
+  -- the shape is judged before the lengths, the lengths before the levels
+  pub numbers : refusalOf (gridJudged [] [] (0 ∷ 1 ∷ [])) ∷ refusalOf (gridJudged (2 ∷ []) (wholes (1 ∷ [])) (1 ∷ 2 ∷ [])) ∷ refusalOf (gridJudged (1 ∷ []) (pos (2 ^ 31) ∷ []) (1 ∷ 2 ∷ [])) ∷ refusalOf (gridJudged (1 ∷ []) (pos (2 ^ 31) ∷ []) (1 ∷ 1 ∷ [])) ∷ refusalOf (gridJudged (1 ∷ []) (pos 1 ∷ []) (1 ∷ 1 ∷ [])) ∷ []
       ≡ 1 ∷ 2 ∷ 2 ∷ 3 ∷ 0 ∷ []

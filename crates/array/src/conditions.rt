@@ -1,7 +1,10 @@
 // Conditions 1, 2, 3 and 8 of a refusal, a function for each, for every argument there is.
 ghost use mathlib.Core.Path.{_≡_};
+ghost use mathlib.Core.List.{[], _∷_};
+ghost use lib.ListN.{length};
 ghost use Rattle.numbers.specs.Lists.{anyOf};
-ghost use Rattle.array.specs.Conditions.{badShape, badLength, badLevel, badFloat, badAxis};
+ghost use Rattle.numbers.specs.Refusal.{refusalOf};
+ghost use Rattle.array.specs.Conditions.{badShape, badLength, badLevel, badFloat, badAxis, gridJudged};
 use crate::shape::cell_count;
 
 // Condition 1: not 1 to 3 axes, a length outside 1..1,024, or over 8,192 cells.
@@ -76,4 +79,32 @@ pub fn bad_axis(shape: &[usize], axis: usize) -> bool
     ensures { λ r. ⌜ r ≡ badAxis (now (shape .entry)) axis ⌝ }
 {
     shape.len() <= axis
+}
+
+// Conditions 1, 2 and 3 of a grid of whole levels, in rising order: the number of the first that holds, or 0.
+//
+// * `data` - the cells of the grid.
+// * `shape` - the length of each axis.
+// * `out`, `second` - the lengths of the lent grids; a call that is lent one grid hands in its length twice.
+//
+// Refuses: 1, 2, 3. Of the cells 1 2 3 the shape 2 2 gives 2, whatever is lent.
+pub fn judge_grid(data: &[i64], shape: &[usize], out: usize, second: usize) -> u8
+    ensures { λ r. ⌜ r ≡ refusalOf (gridJudged (now (shape .entry)) (now («data» .entry)) (length (now («data» .entry)) ∷ out ∷ second ∷ [])) ⌝ }
+{
+    if bad_shape(shape) {
+        return numbers::SHAPE;
+    }
+    if bad_length(shape, data.len()) {
+        return numbers::LENGTH;
+    }
+    if bad_length(shape, out) {
+        return numbers::LENGTH;
+    }
+    if bad_length(shape, second) {
+        return numbers::LENGTH;
+    }
+    if bad_levels(data) {
+        return numbers::LEVEL;
+    }
+    numbers::ACCEPTED
 }

@@ -57,6 +57,10 @@ pub fn conditions() {
 }
 
 pub fn copies() {
+    line(
+        b"judge_grid 1 2 3, shape 2 2: ",
+        array::judge_grid(&[1, 2, 3], &[2, 2], 4, 4) as usize,
+    );
     let mut out = [0i64; 4];
     line(
         b"assign 1 2 3 4, shape 2 2: ",

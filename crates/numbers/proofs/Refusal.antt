@@ -1,8 +1,8 @@
 -- The refusal chain, condition by condition, and the two answers of a call that judges first and fills then.
 -- Assumes nothing.
 use mathlib.Core.Path.{_≡_, refl, sym, _∙_}
-use mathlib.Core.Bool.{Bool, true, false}
-use mathlib.Core.List.{List, [], _∷_}
+use mathlib.Core.Bool.{Bool, true, false, cond}
+use mathlib.Core.List.{List, [], _∷_, _++_}
 use Prim.Native.Nat.{ℕ, _<_}
 use native.Mathlib.Omega.{arith}
 use borrow.Author.Tests.{ne-eqb}
@@ -30,6 +30,19 @@ judged-all (j ∷ js) p e = go (judged-all js (p .1)) (j .0) refl
     go : (refusalOf js ≡ 0 → Every (λ j. j .0 ≡ false) js) → (t : Bool) → j .0 ≡ t → Every (λ j. j .0 ≡ false) (j ∷ js)
     go f true q = absurd (clash (sym (cond-yes (j .0) (j .1) (refusalOf js) q) ∙ e) (ltb→lt 0 (j .1) (p .0)))
     go f false q = (q, f (sym (cond-no (j .0) (j .1) (refusalOf js) q) ∙ e))
+
+-- a chain goes on where its first part refuses nothing
+pub judged-append : (js ks : Judged) → Every (λ j. T (ltb 0 (j .1))) js → refusalOf (js ++ ks) ≡ cond (eqb (refusalOf js) 0) (refusalOf ks) (refusalOf js)
+judged-append [] ks p = refl
+judged-append (j ∷ js) ks p = go (judged-append js ks (p .1)) (j .0)
+  where
+    clash : j .1 ≡ 0 → 0 < j .1 → ⊥
+    clash q h = omega arith
+
+    go : refusalOf (js ++ ks) ≡ cond (eqb (refusalOf js) 0) (refusalOf ks) (refusalOf js) → (t : Bool)
+        → cond t (j .1) (refusalOf (js ++ ks)) ≡ cond (eqb (cond t (j .1) (refusalOf js)) 0) (refusalOf ks) (cond t (j .1) (refusalOf js))
+    go ih true = sym (cond-no (eqb (j .1) 0) (refusalOf ks) (j .1) (ne-eqb (j .1) 0 (λ q. clash q (ltb→lt 0 (j .1) (p .0)))))
+    go ih false = ih
 
 module _ {A : Type 0} (js : Judged) (levels held : List A) (r : ℕ) (e : r ≡ refusalOf js) where
   pub answers-refused : (r ≡ 0 → ⊥) → Answers js levels held r held
