@@ -5,7 +5,7 @@ mod borders;
 mod kernels;
 mod print;
 
-fn main() {
+fn rows() {
     numbers::rows();
     array::rows();
     lanes::rows();
@@ -13,8 +13,13 @@ fn main() {
     origin::rows();
     kernel3d::rows();
     symmetry::rows();
+}
+
+fn main() {
+    rows();
     arrays::shapes();
-    arrays::conditions();
+    arrays::shape_conditions();
+    arrays::level_conditions();
     arrays::copies();
     arrays::lane_examples();
     borders::modes();

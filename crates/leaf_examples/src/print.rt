@@ -1,25 +1,36 @@
-// Text and numbers on standard output.
+// Numbers on standard output, a line for each example.
 use libc::STDOUT_FILENO;
 
-pub fn text(bytes: &[u8]) {
-    io::write_all(STDOUT_FILENO, bytes);
+pub fn space() {
+    io::write_all(STDOUT_FILENO, b" ");
+}
+
+pub fn end() {
+    io::write_all(STDOUT_FILENO, b"\n");
 }
 
 pub fn number(n: usize) {
     io::print_decimal(STDOUT_FILENO, n as u64);
 }
 
-pub fn yes_or_no(answer: bool) {
+// A number and the line's end.
+pub fn line(n: usize) {
+    number(n);
+    end();
+}
+
+// 1 for yes, 0 for no.
+pub fn test(answer: bool) {
     if answer {
-        text(b"yes\n");
+        line(1);
     } else {
-        text(b"no\n");
+        line(0);
     }
 }
 
 pub fn level(z: i64) {
     if z < 0 {
-        text(b"-");
+        io::write_all(STDOUT_FILENO, b"-");
         let m = -(z + 1);
         io::print_decimal(STDOUT_FILENO, m as u64 + 1);
         return;
@@ -33,8 +44,8 @@ pub fn levels(cells: &[i64]) {
     while i < cells.len() {
         let z = cells[i];
         level(z);
-        text(b" ");
+        space();
         i += 1;
     }
-    text(b"\n");
+    end();
 }

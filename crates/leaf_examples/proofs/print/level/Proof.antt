@@ -8,11 +8,11 @@ use borrow.Author.Needs.{needs}
 use Rattle.leaf_examples.proofs.print.level.Statement.{statement}
 use Rattle.leaf_examples.proofs.print.level.Tie as tie
 
-slice-aggregate-text : tie.Need-slice-aggregate-text
-slice-aggregate-text c = search needs
+slice-aggregate-write-all : tie.Need-slice-aggregate-write-all
+slice-aggregate-write-all c = search needs
 
-text-requires : tie.Need-text-requires
-text-requires c κs = search needs
+write-all-requires : tie.Need-write-all-requires
+write-all-requires c κs = search needs
 
 add-m : tie.Need-add-m
 add-m c = below-next-fits _ (c .before .before .before .fits .z) (c .before .before .if1 .taken)
@@ -45,8 +45,8 @@ pub level-spec : {M : Type 1} → statement M
 level-spec =
     tie.close
     (tie.spec
-    slice-aggregate-text
-    text-requires
+    slice-aggregate-write-all
+    write-all-requires
     add-m
     sub-m
     cast-print-decimal

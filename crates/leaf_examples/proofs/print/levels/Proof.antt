@@ -3,15 +3,14 @@
 use borrow.Author.Needs.{needs}
 use Prim.Native.Nat.{_≤_, _-_}
 use lib.ListN.{length}
-use mathlib.Core.Path.{_≡_}
 use Rattle.leaf_examples.proofs.print.levels.Statement.{statement}
 use Rattle.leaf_examples.proofs.print.levels.Tie as tie
 
 abbrev Inv-loop : tie.InvT-loop
-Inv-loop cells i₀ t4 t5 i = (i ≤ length cells) × (length t4 ≡ 1) × (length t5 ≡ 1)
+Inv-loop cells i₀ i = i ≤ length cells
 
 abbrev μ-loop : tie.MeasureT-loop
-μ-loop cells i₀ t4 t5 i = length cells - i
+μ-loop cells i₀ i = length cells - i
 
 loop-holds : tie.Need-loop-holds Inv-loop μ-loop
 loop-holds c = search needs
@@ -25,11 +24,8 @@ shared-slice-copy-out-z c = search needs
 level-requires : tie.Need-level-requires Inv-loop μ-loop
 level-requires c κs = search needs
 
-slice-aggregate-text : tie.Need-slice-aggregate-text Inv-loop μ-loop
-slice-aggregate-text c = search needs
-
-text-requires : tie.Need-text-requires Inv-loop μ-loop
-text-requires c κs = search needs
+space-requires : tie.Need-space-requires Inv-loop μ-loop
+space-requires c κs = search needs
 
 add-i : tie.Need-add-i Inv-loop μ-loop
 add-i c = search needs
@@ -40,11 +36,8 @@ loop-less c = search needs
 loop-again : tie.Need-loop-again Inv-loop μ-loop
 loop-again c = search needs
 
-slice-aggregate-text-2 : tie.Need-slice-aggregate-text-2 Inv-loop μ-loop
-slice-aggregate-text-2 c = search needs
-
-text-requires-2 : tie.Need-text-requires-2 Inv-loop μ-loop
-text-requires-2 c κs = search needs
+end-requires : tie.Need-end-requires Inv-loop μ-loop
+end-requires c κs = search needs
 
 returns : tie.Need-returns Inv-loop μ-loop
 returns c = search needs
@@ -59,11 +52,9 @@ levels-spec =
     mul-z
     shared-slice-copy-out-z
     level-requires
-    slice-aggregate-text
-    text-requires
+    space-requires
     add-i
     loop-less
     loop-again
-    slice-aggregate-text-2
-    text-requires-2
+    end-requires
     returns)
