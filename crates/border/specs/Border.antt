@@ -1,8 +1,8 @@
 -- The five borders, the extension of a lane and the extended grid, over any element. A coordinate is a signed number.
---   Mode                           the borders that read a cell: nearest, mirror, reflect, wrap
---   Border A                       constant, which carries a level, or along a mode
+--   Along                          the borders that read a cell: Nearest, Mirror, Reflect, Wrap (declared in src/lib.rt)
+--   Border A                       constant, which carries a level, or along one of these
 --   cellBefore m n k               with n cells on the axis, counted from 0, the cell k places before cell 0
---   cellAfter m n k                the cell k places after the last: the mirror image, under wrap cell k − 1
+--   cellAfter m n k                the cell k places after the last: the mirror image, under Wrap cell k − 1
 --   cellFor m n z                  the cell that coordinate z reads on an axis of n cells
 --   inside n z                     whether coordinate z is on an axis of n cells
 --   allInside ns q                 whether the coordinate of q on every axis is inside
@@ -14,28 +14,27 @@ use mathlib.Core.List.{List, [], _∷_}
 use lib.Dec.{ltb}
 use lib.IntN.{ℤ, pos, negsuc, natAbs}
 use Rattle.array.specs.Grid.{lengthOf, levelAt}
-
-pub data Mode : Type 0 where
-  nearest mirror reflect wrap : Mode
+use Rattle.border.specs.declared.Along.{Along}
+use Rattle.border.specs.declared.Along.the-variants.{Nearest, Mirror, Reflect, Wrap}
 
 pub data Border (A : Type 0) : Type 0 where
   constant : A → Border A
-  along : Mode → Border A
+  along : Along → Border A
 
-abbrev pub cellBefore : Mode → ℕ → ℕ → ℕ
-cellBefore nearest n k = 0
-cellBefore mirror n k = k
-cellBefore reflect n k = k - 1
-cellBefore wrap n k = n - k
+abbrev pub cellBefore : Along → ℕ → ℕ → ℕ
+cellBefore Nearest n k = 0
+cellBefore Mirror n k = k
+cellBefore Reflect n k = k - 1
+cellBefore Wrap n k = n - k
 
-abbrev pub cellAfter : Mode → ℕ → ℕ → ℕ
-cellAfter nearest n k = n - 1
-cellAfter mirror n k = n - 1 - k
-cellAfter reflect n k = n - k
-cellAfter wrap n k = k - 1
+abbrev pub cellAfter : Along → ℕ → ℕ → ℕ
+cellAfter Nearest n k = n - 1
+cellAfter Mirror n k = n - 1 - k
+cellAfter Reflect n k = n - k
+cellAfter Wrap n k = k - 1
 
 -- itself, or one k places after cell n − 1, or one k places before cell 0
-unfoldable pub cellFor : Mode → ℕ → ℤ → ℕ
+unfoldable pub cellFor : Along → ℕ → ℤ → ℕ
 cellFor m n (pos i) = cond (ltb i n) i (cellAfter m n (i + 1 - n))
 cellFor m n (negsuc j) = cellBefore m n (j + 1)
 

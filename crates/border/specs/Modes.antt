@@ -6,7 +6,8 @@
 use mathlib.Core.Bool.{Bool, false}
 use lib.Ieee.{Float}
 use lib.IntN.{ℤ}
-use Rattle.border.specs.Border.{Border, constant, along, nearest, mirror, reflect, wrap}
+use Rattle.border.specs.Border.{Border, constant, along}
+use Rattle.border.specs.declared.Along.the-variants as Along
 use Rattle.border.specs.declared.BorderMode.{BorderMode}
 use Rattle.border.specs.declared.BorderMode.the-variants as Whole
 use Rattle.border.specs.declared.BorderModeF64.{BorderModeF64}
@@ -16,17 +17,17 @@ use Rattle.border.specs.declared.PadMode.the-variants as Pad
 
 abbrev pub borderOf : BorderMode → Border ℤ
 borderOf (Whole.Constant c) = constant c
-borderOf Whole.Mirror = along mirror
-borderOf Whole.Nearest = along nearest
-borderOf Whole.Reflect = along reflect
-borderOf Whole.Wrap = along wrap
+borderOf Whole.Mirror = along Along.Mirror
+borderOf Whole.Nearest = along Along.Nearest
+borderOf Whole.Reflect = along Along.Reflect
+borderOf Whole.Wrap = along Along.Wrap
 
 abbrev pub borderOfF64 : BorderModeF64 → Border Float
 borderOfF64 (F64.Constant c) = constant c
-borderOfF64 F64.Mirror = along mirror
-borderOfF64 F64.Nearest = along nearest
-borderOfF64 F64.Reflect = along reflect
-borderOfF64 F64.Wrap = along wrap
+borderOfF64 F64.Mirror = along Along.Mirror
+borderOfF64 F64.Nearest = along Along.Nearest
+borderOfF64 F64.Reflect = along Along.Reflect
+borderOfF64 F64.Wrap = along Along.Wrap
 
 abbrev pub padModeOf : BorderMode → PadMode
 padModeOf (Whole.Constant c) = Pad.Constant c

@@ -14,8 +14,9 @@ use lib.IntN.{ℤ, pos, negℤ}
 use lib.ListN.{getD}
 use Rattle.numbers.specs.Lists.{upFrom}
 use Rattle.array.specs.Conditions.{badLevel, badFloat}
-use Rattle.border.specs.Border.{Border, constant, along, nearest, mirror, reflect, wrap, extendedLane, extendedGrid}
+use Rattle.border.specs.Border.{Border, constant, along, extendedLane, extendedGrid}
 use Rattle.border.specs.Modes.{borderOf, borderOfF64, padModeOf, badConstantBy}
+use Rattle.border.specs.declared.Along.the-variants as Along
 use Rattle.border.specs.declared.BorderMode.the-variants as Whole
 use Rattle.border.specs.declared.BorderModeF64.the-variants as F64
 use Rattle.border.specs.declared.PadMode.the-variants as Pad
@@ -51,25 +52,25 @@ pub record BorderRows : Type 0 where
   -- two axes, Constant 9: inside; outside on the first axis alone, on the last alone, on both
   pub plane-constant : map (plane (constant (pos 9))) ((pos 1 ∷ pos 2 ∷ []) ∷ (minus 1 ∷ pos 1 ∷ []) ∷ (pos 1 ∷ pos 3 ∷ []) ∷ (pos 2 ∷ minus 1 ∷ []) ∷ []) ≡ wholes (6 ∷ 9 ∷ 9 ∷ 9 ∷ [])
   -- each coordinate by itself: cells 1 1, 0 0, 1 0
-  pub plane-mirror : map (plane (along mirror)) ((minus 1 ∷ minus 1 ∷ []) ∷ (pos 2 ∷ pos 4 ∷ []) ∷ (minus 1 ∷ pos 0 ∷ []) ∷ []) ≡ wholes (5 ∷ 1 ∷ 4 ∷ [])
+  pub plane-mirror : map (plane (along Along.Mirror)) ((minus 1 ∷ minus 1 ∷ []) ∷ (pos 2 ∷ pos 4 ∷ []) ∷ (minus 1 ∷ pos 0 ∷ []) ∷ []) ≡ wholes (5 ∷ 1 ∷ 4 ∷ [])
   -- cells 0 0, 1 1, 1 2
-  pub plane-reflect : map (plane (along reflect)) ((minus 1 ∷ minus 1 ∷ []) ∷ (minus 2 ∷ pos 4 ∷ []) ∷ (pos 2 ∷ pos 3 ∷ []) ∷ []) ≡ wholes (1 ∷ 5 ∷ 6 ∷ [])
+  pub plane-reflect : map (plane (along Along.Reflect)) ((minus 1 ∷ minus 1 ∷ []) ∷ (minus 2 ∷ pos 4 ∷ []) ∷ (pos 2 ∷ pos 3 ∷ []) ∷ []) ≡ wholes (1 ∷ 5 ∷ 6 ∷ [])
   -- cells 1 2, 0 1, 1 0
-  pub plane-wrap : map (plane (along wrap)) ((minus 1 ∷ minus 1 ∷ []) ∷ (pos 2 ∷ pos 4 ∷ []) ∷ (minus 1 ∷ pos 3 ∷ []) ∷ []) ≡ wholes (6 ∷ 2 ∷ 4 ∷ [])
+  pub plane-wrap : map (plane (along Along.Wrap)) ((minus 1 ∷ minus 1 ∷ []) ∷ (pos 2 ∷ pos 4 ∷ []) ∷ (minus 1 ∷ pos 3 ∷ []) ∷ []) ≡ wholes (6 ∷ 2 ∷ 4 ∷ [])
   -- cells 0 2, 1 0
-  pub plane-nearest : map (plane (along nearest)) ((minus 9 ∷ pos 9 ∷ []) ∷ (pos 9 ∷ minus 9 ∷ []) ∷ []) ≡ wholes (3 ∷ 4 ∷ [])
+  pub plane-nearest : map (plane (along Along.Nearest)) ((minus 9 ∷ pos 9 ∷ []) ∷ (pos 9 ∷ minus 9 ∷ []) ∷ []) ≡ wholes (3 ∷ 4 ∷ [])
   -- three axes, Constant 9: inside; outside on the first axis alone, the second alone, the last alone, all
   pub cube-constant : map (cube (constant (pos 9)))
       ((pos 1 ∷ pos 1 ∷ pos 1 ∷ []) ∷ (pos 2 ∷ pos 1 ∷ pos 1 ∷ []) ∷ (pos 1 ∷ minus 1 ∷ pos 1 ∷ []) ∷ (pos 1 ∷ pos 1 ∷ pos 2 ∷ []) ∷ (minus 1 ∷ pos 2 ∷ minus 1 ∷ []) ∷ [])
       ≡ wholes (8 ∷ 9 ∷ 9 ∷ 9 ∷ 9 ∷ [])
   -- cells 1 0 0, 0 1 1 and 1 0 1
-  pub cube-mirror : cube (along mirror) (minus 1 ∷ pos 2 ∷ pos 0 ∷ []) ≡ pos 5
-  pub cube-reflect : cube (along reflect) (minus 1 ∷ pos 2 ∷ minus 2 ∷ []) ≡ pos 4
-  pub cube-wrap : cube (along wrap) (minus 1 ∷ pos 2 ∷ minus 1 ∷ []) ≡ pos 6
+  pub cube-mirror : cube (along Along.Mirror) (minus 1 ∷ pos 2 ∷ pos 0 ∷ []) ≡ pos 5
+  pub cube-reflect : cube (along Along.Reflect) (minus 1 ∷ pos 2 ∷ minus 2 ∷ []) ≡ pos 4
+  pub cube-wrap : cube (along Along.Wrap) (minus 1 ∷ pos 2 ∷ minus 1 ∷ []) ≡ pos 6
   -- padding's names
   pub pad-constant : (t : ℤ) → padModeOf (Whole.Constant t) ≡ Pad.Constant t
   pub pad-modes : map padModeOf (Whole.Mirror ∷ Whole.Nearest ∷ Whole.Reflect ∷ Whole.Wrap ∷ []) ≡ Pad.Reflect ∷ Pad.Edge ∷ Pad.Symmetric ∷ Pad.Wrap ∷ []
   -- constants −2^31, −(2^31 − 1), 0, 2^31 − 1, 2^31; borders that carry none; a NaN, an infinity, −0.0, 1.0
   pub constants : map (λ z. badConstantBy badLevel (constant z)) (minus (2 ^ 31) ∷ minus (2 ^ 31 - 1) ∷ pos 0 ∷ pos (2 ^ 31 - 1) ∷ pos (2 ^ 31) ∷ []) ≡ true ∷ false ∷ false ∷ false ∷ true ∷ []
-  pub no-constants : map (λ m. badConstantBy badLevel (along m)) (nearest ∷ mirror ∷ reflect ∷ wrap ∷ []) ≡ false ∷ false ∷ false ∷ false ∷ []
+  pub no-constants : map (λ m. badConstantBy badLevel (along m)) (Along.Nearest ∷ Along.Mirror ∷ Along.Reflect ∷ Along.Wrap ∷ []) ≡ false ∷ false ∷ false ∷ false ∷ []
   pub float-constants : map (λ x. badConstantBy badFloat (constant x)) (nan ∷ inf true ∷ fin true 0 (pos 0) ∷ fin false 1 (pos 0) ∷ []) ≡ true ∷ true ∷ false ∷ false ∷ []

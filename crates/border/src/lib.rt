@@ -1,7 +1,9 @@
-// Borders: the border modes and the padding modes that they map to, and condition 9.
+// Borders: the border modes and the padding modes that they map to, the cells that they read, and condition 9.
 // What a border extends a lane and a grid to is a definition: specs/Border.antt.
 ghost use mathlib.Core.Path.{_≡_};
+ghost use Prim.Native.Nat.{_-_};
 ghost use Rattle.array.specs.Conditions.{badLevel, badFloat};
+ghost use Rattle.border.specs.Border.{cellBefore, cellAfter};
 ghost use Rattle.border.specs.Modes.{borderOf, borderOfF64, padModeOf, badConstantBy};
 ghost use Rattle.border.specs.Rows.{BorderRows};
 
@@ -35,6 +37,14 @@ pub enum BorderModeF64 {
     // [1, 2, 3] -> [2, 1, 1, 2, 3, 3, 2]
     Reflect,
     // [1, 2, 3] -> [2, 3, 1, 2, 3, 1, 2]
+    Wrap,
+}
+
+// The borders that read a cell of the axis.
+pub enum Along {
+    Nearest,
+    Mirror,
+    Reflect,
     Wrap,
 }
 
@@ -82,6 +92,49 @@ impl BorderMode {
             BorderMode::Reflect => PadMode::Symmetric,
             BorderMode::Wrap => PadMode::Wrap,
         }
+    }
+}
+
+// a - b, and 0 where b is over a.
+fn saturating_sub(a: usize, b: usize) -> usize
+    ensures { λ r. ⌜ r ≡ a - b ⌝ }
+{
+    if a < b {
+        return 0;
+    }
+    a - b
+}
+
+// The cell that a border reads for the place k before cell 0.
+//
+// * `along` - the border.
+// * `n` - how many cells the axis has.
+// * `k` - how many places before cell 0.
+//
+// Differences stop at 0. Refuses nothing.
+// Of three cells, two places before cell 0: Nearest reads cell 0, Mirror 2, Reflect 1, Wrap 1.
+pub fn cell_before(along: Along, n: usize, k: usize) -> usize
+    ensures { λ r. ⌜ r ≡ cellBefore along n k ⌝ }
+{
+    match along {
+        Along::Nearest => 0,
+        Along::Mirror => k,
+        Along::Reflect => saturating_sub(k, 1),
+        Along::Wrap => saturating_sub(n, k),
+    }
+}
+
+// The cell that a border reads for the place k after the last cell; the arguments are those of `cell_before`.
+// Differences stop at 0. Refuses nothing.
+// Of three cells, two places after cell 2: Nearest reads cell 2, Mirror 0, Reflect 1, Wrap 1.
+pub fn cell_after(along: Along, n: usize, k: usize) -> usize
+    ensures { λ r. ⌜ r ≡ cellAfter along n k ⌝ }
+{
+    match along {
+        Along::Nearest => saturating_sub(n, 1),
+        Along::Mirror => saturating_sub(saturating_sub(n, 1), k),
+        Along::Reflect => saturating_sub(n, k),
+        Along::Wrap => saturating_sub(k, 1),
     }
 }
 

@@ -54,8 +54,14 @@ pub fn lanes_of(shape: &[usize], axis: usize) -> Lanes
     }
 }
 
-// The place of the first cell of a lane of n cells that is inside a grid of count cells, and the count where it is not.
-fn first_place(count: usize, n: usize, stride: usize, lane: usize) -> usize
+// The place of the first cell of a lane that is inside the grid, and the count of the grid's cells where it is not.
+//
+// * `count` - how many cells the grid has; a lane of a grid of over 32,768 cells is not inside.
+// * `n`, `stride` - the cells of the lane, and how many places apart they stand (`lanes_of`).
+// * `lane` - the number of the lane, counted from 0 in stored order of the lanes' first cells.
+//
+// Refuses nothing. Of 2 by 3 cells lane 1 of axis 0 starts at place 1, lane 1 of axis 1 at place 3.
+pub fn first_place(count: usize, n: usize, stride: usize, lane: usize) -> usize
     ensures { λ r. ⌜ r ≡ cond (laneInside n stride lane count) (laneBase n stride lane) count ⌝ }
 {
     if 32768 < count {

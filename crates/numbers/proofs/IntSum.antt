@@ -1,9 +1,11 @@
--- Sums of whole numbers and the order: a summand on both sides changes nothing.
+-- Sums of whole numbers and the order: a summand on both sides changes nothing. Differences of natural numbers, by their sign.
 -- Assumes nothing.
-use mathlib.Core.Path.{_≡_, sym, ap, subst, subst₂, _∙_}
+use mathlib.Core.Path.{_≡_, refl, sym, ap, subst, subst₂, _∙_}
 use mathlib.Core.List.{List, [], _∷_, _++_}
-use Prim.Native.Nat.{ℕ, zero, suc, zero-le, suc-le-suc}
+use Prim.Native.Nat.{ℕ, zero, suc, _-_, _≤_, _<_, zero-le, suc-le-suc}
 use native.Mathlib.Nat.{le-of-suc-le-suc, not-suc-le-zero}
+use native.Mathlib.Omega.{arith}
+use borrow.Author.Tests.{le-ltb, lt-ltb}
 use lib.Dec.{T, leb→le, le→leb}
 use lib.IntN.{ℤ, pos, negsuc, sucℤ, predℤ, negℤ, natAbs, _+ℤ_, _-ℤ_, +ℤ-idr, +ℤ-idl, +ℤ-sucℤ, +ℤ-predℤ, +ℤ-assoc, +ℤ-comm, +ℤ-invr, +ℤ-negℤ-cancel, -ℤ-+ℤ-cancel}
 use lib.Signed.{leZ, _≤ℤ_, leZ-yes, yes-nonNeg, pos-natAbs}
@@ -77,3 +79,12 @@ pub +ℤ-right-comm : (a b c : ℤ) → a +ℤ b +ℤ c ≡ a +ℤ c +ℤ b
 pub sum-append : (xs ys : List ℤ) → sumOf (xs ++ ys) ≡ sumOf xs +ℤ sumOf ys
 sum-append [] ys = sym (+ℤ-idl (sumOf ys))
 sum-append (x ∷ xs) ys = ap (λ (s : ℤ). x +ℤ s) (sum-append xs ys) ∙ sym (+ℤ-assoc x (sumOf xs) (sumOf ys))
+
+-- ---- a difference of natural numbers, by its sign
+pub minus-pos : (a b : ℕ) → b ≤ a → pos a -ℤ pos b ≡ pos (a - b)
+minus-pos a zero h = ap pos (omega arith)
+minus-pos a (suc b) h = rw (le-ltb a (suc b) h) refl
+
+pub minus-neg : (a b : ℕ) → a < b → pos a -ℤ pos b ≡ negsuc (b - suc a)
+minus-neg a zero h = absurd (not-suc-le-zero h)
+minus-neg a (suc b) h = rw (lt-ltb a (suc b) h) refl

@@ -3,13 +3,13 @@
 -- Assumes nothing.
 use mathlib.Core.Path.{_≡_, refl, sym, ap, _∙_}
 use mathlib.Core.Bool.{Bool, true, false, _||_, cond}
-use mathlib.Core.List.{List}
-use Prim.Native.Nat.{ℕ, _+_, _≤_, _<_}
+use mathlib.Core.List.{List, _++_}
+use Prim.Native.Nat.{ℕ, _+_, _-_, _≤_, _<_}
 use native.Mathlib.Omega.{arith}
-use borrow.Author.Tests.{eqb-true, eqb-false, lt-ltb, le-ltb}
+use borrow.Author.Tests.{eqb-true, eqb-false, ltb-true, ltb-false, lt-ltb, le-ltb}
 use lib.Dec.{eqb, ltb}
-use lib.ListN.{length, getD, set, length-set}
-use lib.Seq.{getD-set-same, getD-set-other}
+use lib.ListN.{length, getD, set, drop, length-set, length-append, length-drop, List·getD-append}
+use lib.Seq.{getD-set-same, getD-set-other, getD-drop, getD-append-add, ext-getD}
 use Rattle.numbers.specs.Lists.{tabulate}
 use Rattle.numbers.proofs.Tests.{ltb-more}
 use Rattle.numbers.proofs.Tabulate.{tabulate-unique, length-tabulate, getD-tabulate}
@@ -74,3 +74,27 @@ module _ {A : Type 0} (d : A) (f : ℕ → A) where
 
   pub front-all : {n : ℕ} {l₀ l : List A} → length l₀ ≤ n → Stored d (λ k. ltb k n) f l₀ l → l ≡ tabulate f 0 (length l₀)
   front-all {n} h S = stored-all (λ k. ltb k n) (λ k b. lt-ltb k n (omega arith)) S
+
+  -- what is stored, and past it what was held
+  pub front-part : {n : ℕ} {l₀ l : List A} → n ≤ length l₀ → Stored d (λ k. ltb k n) f l₀ l → l ≡ tabulate f 0 n ++ drop n l₀
+  front-part {n} {l₀} {l} h S = ext-getD d l (tabulate f 0 n ++ drop n l₀) (S .kept ∙ sym whole) (λ k b. S .cells k (omega (arith, S .kept)) ∙ at k (ltb k n) refl)
+    where
+      whole : length (tabulate f 0 n ++ drop n l₀) ≡ length l₀
+      whole = simp (length-append, length-tabulate, length-drop) (omega arith)
+
+      at : (k : ℕ) (t : Bool) → ltb k n ≡ t → cond t (f k) (getD l₀ k d) ≡ getD (tabulate f 0 n ++ drop n l₀) k d
+      at k true e =
+          let b : k < n = ltb-true k n e in
+          sym (List·getD-append (tabulate f 0 n) (drop n l₀) d k (omega (arith, length-tabulate f 0 n)) ∙ getD-tabulate f n k d b)
+      at k false e =
+          let q : k ≡ length (tabulate f 0 n) + (k - n) = omega (arith, length-tabulate f 0 n, ltb-false k n e) in
+          let r : n + (k - n) ≡ k = omega (arith, ltb-false k n e) in
+          sym (ap (λ j. getD (tabulate f 0 n ++ drop n l₀) j d) q ∙ getD-append-add (tabulate f 0 n) (drop n l₀) (k - n) d ∙ getD-drop n l₀ (k - n) d ∙ ap (λ j. getD l₀ j d) r)
+
+  -- a list whose first n places hold f already
+  pub front-held : (n : ℕ) (l : List A) → ((k : ℕ) → k < n → getD l k d ≡ f k) → Stored d (λ k. ltb k n) f l l
+  front-held n l h = record { kept = refl; cells = λ k b. at k (ltb k n) refl }
+    where
+      at : (k : ℕ) (t : Bool) → ltb k n ≡ t → getD l k d ≡ cond t (f k) (getD l k d)
+      at k true e = h k (ltb-true k n e)
+      at k false e = refl

@@ -2,7 +2,7 @@
 -- Assumes nothing.
 use mathlib.Core.Path.{_≡_, ap, _∙_}
 use mathlib.Core.List.{List, []}
-use Prim.Native.Nat.{ℕ, _+_, _≤_, _<_}
+use Prim.Native.Nat.{ℕ, _+_, _-_, _≤_, _<_}
 use native.Mathlib.Omega.{arith}
 use borrow.Author.Tests.{le-leb, lt-leb}
 use lib.ListN.{length, getD, take, drop, length-take, length-drop}
@@ -14,6 +14,10 @@ module _ {A : Type 0} (s : List A) (i len : ℕ) where
   pub window-in : i + len ≤ length s → windowOf s i len ≡ take len (drop i s)
   unfolding windowOf
   window-in h = cond-yes _ (take len (drop i s)) [] (le-leb (i + len) (length s) h)
+
+  -- the same as a part from i to i + len
+  pub window-part : i + len ≤ length s → take (i + len - i) (drop i s) ≡ windowOf s i len
+  window-part h = let e : i + len - i ≡ len = omega arith in ap (λ (m : ℕ). take m (drop i s)) e ∙ sym (window-in h)
 
   pub window-out : length s < i + len → windowOf s i len ≡ []
   unfolding windowOf

@@ -6,19 +6,11 @@ use native.Mathlib.Nat.{le-refl}
 use native.Mathlib.Omega.{arith}
 use borrow.Author.Tests.{le-ltb, ltb-false, le-leb, leb-false}
 use lib.Dec.{ltb, leb}
-use lib.IntN.{ℤ, pos, negsuc, negℤ, natAbs, subℕ, _+ℤ_, _-ℤ_}
+use lib.IntN.{ℤ, pos, negsuc, negℤ, natAbs, _+ℤ_, _-ℤ_}
 use lib.Signed.{ltZ, shrZ}
+use Rattle.numbers.proofs.IntSum.{minus-pos}
 use Rattle.origin.specs.declared.Origin.the-variants.{Pads}
 use Rattle.origin.specs.Origin.{badOrigin, originPads}
-
--- ---- differences that are not negative
-
-difference-pos : (a b : ℕ) → b ≤ a → subℕ a b ≡ pos (a - b)
-difference-pos a b h = rw (le-ltb a b h) refl
-
-minus-pos : (a k : ℕ) → k ≤ a → pos a -ℤ pos k ≡ pos (a - k)
-minus-pos a zero h = ap pos (omega arith)
-minus-pos a (suc k) h = difference-pos a (suc k) h
 
 -- ---- condition 7 by the sign
 
@@ -68,7 +60,7 @@ module _ (len left right k : ℕ) where
   pads-on e h = rw (e, minus-pos right k h) refl
 
   pub pads-back : badOrigin len (negsuc k) ≡ false → k < left → originPads len left right (negsuc k) ≡ Pads (left - k - 1) (right + k + 1)
-  pads-back e h = rw (e, difference-pos left (suc k) h) (ap (λ (l : ℕ). Pads l (right + suc k)) l-is ∙ ap (λ (r : ℕ). Pads (left - k - 1) r) r-is)
+  pads-back e h = rw (e, minus-pos left (suc k) h) (ap (λ (l : ℕ). Pads l (right + suc k)) l-is ∙ ap (λ (r : ℕ). Pads (left - k - 1) r) r-is)
     where
       l-is : left - suc k ≡ left - k - 1
       l-is = omega arith
@@ -80,7 +72,7 @@ module _ (len left right k : ℕ) where
 
 pub left-accepted : (len left : ℕ) (o : ℤ) → len / 2 ≤ left → badOrigin len o ≡ false → pos (natAbs (pos left +ℤ o)) ≡ pos left +ℤ o
 left-accepted len left (pos k) h e = refl
-left-accepted len left (negsuc k) h e = let b = accepted-back len k e in rw (difference-pos left (suc k) (omega arith)) refl
+left-accepted len left (negsuc k) h e = let b = accepted-back len k e in rw (minus-pos left (suc k) (omega arith)) refl
 
 pub right-accepted : (len right : ℕ) (o : ℤ) → (len - 1) / 2 ≤ right → badOrigin len o ≡ false → pos (natAbs (pos right -ℤ o)) ≡ pos right -ℤ o
 right-accepted len right (pos k) h e = let b = accepted-on len k e in rw (minus-pos right k (omega arith)) refl

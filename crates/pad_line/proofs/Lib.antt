@@ -1,0 +1,5 @@
+-- Laws that belong to no one function, leaves first.
+pub mod Padded
+pub mod Reach
+pub mod Rims
+pub mod Serves

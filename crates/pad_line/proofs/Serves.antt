@@ -1,0 +1,109 @@
+-- Where a lane is padded and where the line stays as it was, by the answers of the tests; and that the lane read into the line's middle and extended there is the padded line.
+-- Assumes nothing.
+use mathlib.Core.Path.{_≡_, refl, sym, ap, _∙_}
+use mathlib.Core.Bool.{Bool, true, false, _&&_, not, cond, and-false}
+use mathlib.Core.List.{List, _++_}
+use Prim.Native.Nat.{ℕ, _+_, _-_, _≤_, _<_}
+use native.Mathlib.Omega.{arith}
+use borrow.Author.Tests.{le-leb, lt-leb, leb-true}
+use borrow.Rule.Slice.PartMut.{midOf, postOf, putMid, mid-len, same-len-mid, drop-put}
+use lib.Dec.{leb}
+use lib.ListN.{length, take, drop}
+use lib.Seq.{length-take-le, take-at, drop-at, drop-drop}
+use Rattle.numbers.proofs.Tests.{and-true, cond-yes, cond-no, told}
+use Rattle.lanes.specs.Lanes.{laneBase, laneInside, lane, readLane}
+use Rattle.lanes.proofs.Cells.{Inside, lane-inside, length-laneAt}
+use Rattle.lanes.proofs.FirstPlace.{place-none, place-some}
+use Rattle.border.specs.Border.{Border}
+use Rattle.pad_line.specs.Line.{paddedLine, badPad, padMiddle, padServes, paddedLane}
+
+-- ---- a lane that is inside, and a padded line that is short enough
+pub too-long : (n s l count total room : ℕ) → room < total → false ≡ laneInside n s l count && leb total room
+too-long n s l count total room h = sym (ap (λ t. laneInside n s l count && t) (lt-leb total room h) ∙ and-false (laneInside n s l count))
+
+module _ (n s l count r : ℕ) (e : r ≡ cond (laneInside n s l count) (laneBase n s l) count) where
+  pub lane-out : r ≡ count → (t : Bool) → false ≡ laneInside n s l count && t
+  lane-out q t = sym (ap (λ i. i && t) (place-none n s l count r e q))
+
+  pub lane-in : (r ≡ count → ⊥) → (total room : ℕ) → total ≤ room → true ≡ laneInside n s l count && leb total room
+  lane-in q total room h = sym (λ j. place-some n s l count r e q j && le-leb total room h j)
+
+-- ---- the line stays as it was
+no-left : (i r : Bool) → i && not true && not r ≡ false
+no-left true r = refl
+no-left false r = refl
+
+module _ {A : Type 0} (d : A) (b : Border A) (n s l left right : ℕ) (g held : List A) where
+  fit : Bool
+  fit = laneInside n s l (length g) && leb (left + n + right) (length held)
+
+  stays : padServes b n s l (length g) left right (length held) ≡ false → held ≡ paddedLane d b n s l left right g held
+  stays e = sym (cond-no _ (paddedLine d b left right (lane d n s l g) ++ drop (left + n + right) held) held e)
+
+  pub bad-left-stays : {r : Bool} → r ≡ badPad b n left → r ≡ true → held ≡ paddedLane d b n s l left right g held
+  unfolding padServes fit
+  bad-left-stays e t = stays (ap (λ x. fit && not x && not (badPad b n right)) (told e t) ∙ no-left fit (badPad b n right))
+
+  pub bad-right-stays : {r : Bool} → r ≡ badPad b n right → r ≡ true → held ≡ paddedLane d b n s l left right g held
+  unfolding padServes fit
+  bad-right-stays e t = stays (ap (λ x. fit && not (badPad b n left) && not x) (told e t) ∙ and-false (fit && not (badPad b n left)))
+
+  pub lane-stays : {r : Bool} → r ≡ laneInside n s l (length g) && leb (left + n + right) (length held) → r ≡ false → held ≡ paddedLane d b n s l left right g held
+  unfolding padServes
+  lane-stays e t = stays (ap (λ x. x && not (badPad b n left) && not (badPad b n right)) (told e t))
+
+-- ---- the lane is read into the middle and extended
+-- what the tests have told where the lane is padded
+pub record Serves {A : Type 0} (b : Border A) (n s l left right : ℕ) (g held : List A) : Type 0 where
+  pub fits : laneInside n s l (length g) && leb (left + n + right) (length held) ≡ true
+  pub fills-left : badPad b n left ≡ false
+  pub fills-right : badPad b n right ≡ false
+
+module _ {A : Type 0} (d : A) {b : Border A} {n s l left right : ℕ} {g held : List A} (S : Serves b n s l left right g held) where
+  inside : laneInside n s l (length g) ≡ true
+  inside = and-true (laneInside n s l (length g)) (leb (left + n + right) (length held)) (S .fits) .0
+
+  pub some-cells : 0 < n
+  some-cells = lane-inside n s l (length g) inside .some
+
+  pub line-room : left + n + right ≤ length held
+  line-room = leb-true (left + n + right) (length held) (and-true (laneInside n s l (length g)) (leb (left + n + right) (length held)) (S .fits) .1)
+
+  serves : padServes b n s l (length g) left right (length held) ≡ true
+  unfolding padServes
+  serves = (λ j. S .fits j && not (S .fills-left j) && not (S .fills-right j))
+
+  cells : length (midOf left (left + n - left) held) ≡ n
+  cells = mid-len left (left + n) held (omega (arith, line-room)) ∙ omega arith
+
+  module _ {part : List A} (read : part ≡ readLane d s l g (midOf left (left + n - left) held)) where
+    read-is : part ≡ lane d n s l g
+    read-is =
+        read ∙ (λ j. cond (laneInside (cells j) s l (length g)) (lane d (cells j) s l g) (midOf left (left + n - left) held))
+        ∙ cond-yes (laneInside n s l (length g)) (lane d n s l g) (midOf left (left + n - left) held) inside
+
+    size : length part ≡ n
+    size = ap length read-is ∙ length-laneAt d g _ s n
+
+    pub read-room : left + n + right ≤ length (putMid left (left + n - left) held part)
+    read-room = omega (arith, line-room, same-len-mid left (left + n - left) held part (size ∙ sym cells))
+
+    pub lane-padded : {line : List A} → line ≡ padMiddle d b left n right (putMid left (left + n - left) held part) → line ≡ paddedLane d b n s l left right g held
+    lane-padded e =
+        e ∙ (λ j. paddedLine d b left right (middle j) ++ rest j)
+        ∙ sym (cond-yes _ (paddedLine d b left right (lane d n s l g) ++ drop (left + n + right) held) held serves)
+      where
+        post : List A
+        post = postOf left (left + n - left) held
+
+        room : left ≤ length held
+        room = omega (arith, line-room)
+
+        middle : take n (drop left (putMid left (left + n - left) held part)) ≡ lane d n s l g
+        middle = ap (take n) (drop-at (take left held) (part ++ post) left (length-take-le left held room)) ∙ take-at part post n size ∙ read-is
+
+        rest : drop (left + n + right) (putMid left (left + n - left) held part) ≡ drop (left + n + right) held
+        rest =
+            sym (drop-drop right (left + n) (putMid left (left + n - left) held part))
+            ∙ ap (drop right) (drop-put left (left + n) held part (omega arith) (omega (arith, line-room)) (size ∙ omega arith))
+            ∙ drop-drop right (left + n) held

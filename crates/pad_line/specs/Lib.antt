@@ -1,0 +1,3 @@
+-- The padded line of a lane.
+pub mod Line
+pub mod Rows
