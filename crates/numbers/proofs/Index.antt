@@ -1,9 +1,9 @@
--- A member at an index, whatever stands for one past the end; two lists taken term by term, and a list read from its end, at an index.
+-- A member at an index, whatever stands for one past the end, and the index of a member; two lists taken term by term, and a list read from its end, at an index.
 -- Assumes nothing.
 use mathlib.Core.Path.{_≡_, refl, sym, ap, subst, _∙_}
 use mathlib.Core.Logic.{_⊎_, inl, inr}
-use mathlib.Core.List.{List, [], _∷_, _++_, reverse, reverse-cons, zipWith}
-use Prim.Native.Nat.{ℕ, zero, suc, _-_, _<_, min}
+use mathlib.Core.List.{List, [], _∷_, _++_, reverse, reverse-cons, zipWith, List·Memᴰ, List·Memᴰ·head, List·Memᴰ·tail, List·Memᴰ·not-nil, List·Memᴰ·cases-cons}
+use Prim.Native.Nat.{ℕ, zero, suc, _-_, _<_, min, zero-le, suc-le-suc}
 use native.Mathlib.Nat.{not-suc-le-zero, le-of-suc-le-suc, eq-or-lt-of-le}
 use native.Mathlib.Omega.{arith}
 use lib.ListN.{length, getD, length-reverse, List·getD-append}
@@ -13,6 +13,19 @@ pub getD-default : {A : Type 0} (l : List A) (k : ℕ) (d e : A) → k < length 
 getD-default [] k d e h = absurd (not-suc-le-zero h)
 getD-default (x ∷ xs) zero d e h = refl
 getD-default (x ∷ xs) (suc k) d e h = getD-default xs k d e (le-of-suc-le-suc h)
+
+pub getD-mem : {A : Type 0} (l : List A) (k : ℕ) (d : A) → k < length l → List·Memᴰ (getD l k d) l
+getD-mem [] k d h = absurd (not-suc-le-zero h)
+getD-mem (x ∷ xs) zero d h = List·Memᴰ·head refl
+getD-mem (x ∷ xs) (suc k) d h = List·Memᴰ·tail (getD-mem xs k d (le-of-suc-le-suc h))
+
+pub mem-getD : {A : Type 0} (y : A) (l : List A) (d : A) → List·Memᴰ y l → (k : ℕ) × (k < length l) × (y ≡ getD l k d)
+mem-getD y [] d m = absurd (List·Memᴰ·not-nil m)
+mem-getD y (x ∷ xs) d m = go (λ r. mem-getD y xs d r) (List·Memᴰ·cases-cons m)
+  where
+    go : (List·Memᴰ y xs → (k : ℕ) × (k < length xs) × (y ≡ getD xs k d)) → (y ≡ x) ⊎ List·Memᴰ y xs → (k : ℕ) × (k < suc (length xs)) × (y ≡ getD (x ∷ xs) k d)
+    go f (inl e) = (zero, suc-le-suc zero-le, e)
+    go f (inr r) = let i = f r in (suc (i .0), suc-le-suc (i .1), i .2)
 
 pub length-zipWith : {A B C : Type 0} (f : A → B → C) (xs : List A) (ys : List B) → length (zipWith f xs ys) ≡ min (length xs) (length ys)
 unfolding zipWith

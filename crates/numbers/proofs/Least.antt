@@ -4,11 +4,13 @@
 use mathlib.Core.Path.{_≡_, refl, sym, subst}
 use mathlib.Core.Bool.{Bool, true, false, cond}
 use mathlib.Core.Logic.{_⊎_, inl, inr}
-use mathlib.Core.List.{List, [], _∷_, List·Memᴰ, List·Memᴰ·head, List·Memᴰ·tail, List·Memᴰ·not-nil, List·Memᴰ·cases-cons}
-use Prim.Native.Nat.{_<_}
+use mathlib.Core.List.{List, [], _∷_, List·Memᴰ, List·Memᴰ·head, List·Memᴰ·tail, List·Memᴰ·not-nil, List·Memᴰ·cases-cons, Memᴰ·cast}
+use Prim.Native.Nat.{ℕ, _<_}
 use native.Mathlib.Nat.{not-suc-le-zero}
+use native.Mathlib.Omega.{arith}
 use lib.Dec.{T}
-use lib.ListN.{length}
+use lib.ListN.{length, getD}
+use Rattle.numbers.proofs.Index.{getD-mem, mem-getD}
 use Rattle.numbers.proofs.Tests.{cond-ind}
 use Rattle.numbers.specs.Order.{Total, leastFrom, least}
 
@@ -73,3 +75,9 @@ module _ {A : Type 0} (le : A → A → Bool) (O : Total le) where
   -- a member that comes before every member is the first
   pub least-unique : (d y : A) (xs : List A) → List·Memᴰ y xs → ((x : A) → List·Memᴰ x xs → T (le y x)) → 0 < length xs → y ≡ least le d xs
   least-unique d y xs k f h = O .same y (least le d xs) (least-above d y xs h f) (least-bound d y xs k)
+
+  -- the same by index
+  pub least-unique-at : (d y : A) (xs : List A) (k : ℕ) → k < length xs → y ≡ getD xs k d → ((j : ℕ) → j < length xs → T (le y (getD xs j d))) → y ≡ least le d xs
+  least-unique-at d y xs k h e f =
+      least-unique d y xs (Memᴰ·cast e (getD-mem xs k d h))
+      (λ x m. let i = mem-getD x xs d m in subst (λ (w : A). T (le y w)) (sym (i .2)) (f (i .0) (i .1))) (omega arith)

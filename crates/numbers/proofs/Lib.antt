@@ -6,10 +6,10 @@ pub mod IntSum
 pub mod IntProduct
 pub mod Size
 pub mod Quotient
+pub mod Index
 pub mod Least
 pub mod Tabulate
 pub mod Range
-pub mod Index
 pub mod Any
 pub mod Stored
 pub mod Window

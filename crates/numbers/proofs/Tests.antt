@@ -1,11 +1,18 @@
--- Tests and what their answers say: of disjunctions, of one number more, of a choice.
+-- Tests and what their answers say: as a fact, of disjunctions, of one number more, of a choice.
 -- Assumes nothing.
-use mathlib.Core.Path.{_≡_, refl, sym, ap, _∙_}
+use mathlib.Core.Path.{_≡_, refl, sym, ap, subst, _∙_}
 use mathlib.Core.Bool.{Bool, true, false, _||_, _&&_, not, cond, true≢false}
 use Prim.Native.Nat.{ℕ, _+_, _≤_}
 use native.Mathlib.Omega.{arith}
 use borrow.Author.Tests.{eqb-true, eqb-false, ltb-true, ltb-false, lt-ltb, le-ltb, le-leb, lt-leb}
 use lib.Dec.{T, eqb, leb, ltb}
+
+-- an answer as a fact
+pub T-true : {t : Bool} → t ≡ true → T t
+T-true e = subst T (sym e) tt
+
+pub T-false : {t : Bool} → t ≡ false → T (not t)
+T-false e = subst (λ b. T (not b)) (sym e) tt
 
 pub or-false : (a b : Bool) → a || b ≡ false → (a ≡ false) × (b ≡ false)
 or-false true b e = absurd (true≢false e)
