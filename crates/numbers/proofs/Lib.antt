@@ -14,3 +14,4 @@ pub mod Any
 pub mod Stored
 pub mod Window
 pub mod Read
+pub mod Partial
