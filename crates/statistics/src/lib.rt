@@ -28,16 +28,16 @@ pub fn minimum(line: &[i64]) -> i64
     if line.len() == 0 {
         return 0;
     }
-    let mut m = line[0];
+    let mut least = line[0];
     let mut i = 1;
     while i < line.len() {
         let x = line[i];
-        if x < m {
-            m = x;
+        if x < least {
+            least = x;
         }
         i += 1;
     }
-    m
+    least
 }
 
 // The greatest level of a line.
@@ -51,16 +51,16 @@ pub fn maximum(line: &[i64]) -> i64
     if line.len() == 0 {
         return 0;
     }
-    let mut m = line[0];
-    let mut i = 1;
-    while i < line.len() {
-        let x = line[i];
-        if m < x {
-            m = x;
+    let mut greatest = line[0];
+    let mut j = 1;
+    while j < line.len() {
+        let x = line[j];
+        if greatest < x {
+            greatest = x;
         }
-        i += 1;
+        j += 1;
     }
-    m
+    greatest
 }
 
 // Whether mean and median do not serve the line: over 1,024 cells, or a level outside -(2^31 - 1)..2^31 - 1.
@@ -70,16 +70,16 @@ fn not_served(line: &[i64]) -> bool
     if MOST_CELLS < line.len() {
         return true;
     }
-    let mut i = 0;
-    while i < line.len() {
-        let z = line[i];
+    let mut k = 0;
+    while k < line.len() {
+        let z = line[k];
         if z < LEAST {
             return true;
         }
         if GREATEST < z {
             return true;
         }
-        i += 1;
+        k += 1;
     }
     false
 }
@@ -122,13 +122,13 @@ fn count_at_most(line: &[i64], z: i64) -> usize
     ensures { λ r. ⌜ r ≡ atMost leZ z (now (line .entry)) ⌝ }
 {
     let mut count = 0;
-    let mut i = 0;
-    while i < line.len() {
-        let x = line[i];
+    let mut j = 0;
+    while j < line.len() {
+        let x = line[j];
         if x <= z {
             count += 1;
         }
-        i += 1;
+        j += 1;
     }
     count
 }

@@ -1,4 +1,4 @@
--- `count_at_most` meets its contract. The loop's invariant: `count` and the count of the levels from `i` on are the count of all.
+-- `count_at_most` meets its contract. The loop's invariant: `count` and the count of the levels from `j` on are the count of all.
 -- The measure is what is left of the line.
 -- Assumes nothing.
 use Prim.Native.Nat.{ℕ, _+_, _≤_, _-_}
@@ -20,10 +20,10 @@ use Rattle.statistics.proofs.count_at_most.Statement.{statement}
 use Rattle.statistics.proofs.count_at_most.Tie as tie
 
 abbrev Inv-loop : tie.InvT-loop
-Inv-loop line z count₀ i₀ count i = (i ≤ length line) × (count ≤ i) × (count + atMost leZ (toZ w64 z) (drop i line) ≡ atMost leZ (toZ w64 z) line)
+Inv-loop line z count₀ j₀ count j = (j ≤ length line) × (count ≤ j) × (count + atMost leZ (toZ w64 z) (drop j line) ≡ atMost leZ (toZ w64 z) line)
 
 abbrev μ-loop : tie.MeasureT-loop
-μ-loop line z count₀ i₀ count i = length line - i
+μ-loop line z count₀ j₀ count j = length line - j
 
 loop-holds : tie.Need-loop-holds Inv-loop μ-loop
 loop-holds c = (search needs, search needs, zero-add _)
@@ -37,8 +37,8 @@ shared-slice-copy-out-x c = search needs
 add-count : tie.Need-add-count Inv-loop μ-loop
 add-count c = search needs
 
-add-i : tie.Need-add-i Inv-loop μ-loop
-add-i c = search needs
+add-j : tie.Need-add-j Inv-loop μ-loop
+add-j c = search needs
 
 loop-less : tie.Need-loop-less Inv-loop μ-loop
 loop-less c = search needs
@@ -47,11 +47,11 @@ loop-again : tie.Need-loop-again Inv-loop μ-loop
 loop-again c =
     let k = c .before .before .before in
     let l = k .before .args .line .now in
-    let e : toZ w64 (ofZ w64 (getD l (k .loop .i) (pos 0))) ≡ getD l (k .loop .i) (pos 0) = read (c .before .x .given) refl in
-    let left : ℕ → ℕ = λ n. n + atMost leZ (toZ w64 (ofZ w64 (k .before .args .z))) (drop (k .loop .i + 1) l) in
+    let e : toZ w64 (ofZ w64 (getD l (k .loop .j) (pos 0))) ≡ getD l (k .loop .j) (pos 0) = read (c .before .x .given) refl in
+    let left : ℕ → ℕ = λ n. n + atMost leZ (toZ w64 (ofZ w64 (k .before .args .z))) (drop (k .loop .j + 1) l) in
     ⊎-elim
-    (λ a. (search needs, omega (arith, a .1), ap left (a .1) ∙ count-hit leZ _ l (k .loop .i) _ _ (k .loop .inv .2) (pos 0) (omega arith) (rw e at (a .0 .taken))))
-    (λ a. (search needs, omega (arith, a .1), ap left (a .1) ∙ count-miss leZ _ l (k .loop .i) _ _ (k .loop .inv .2) (pos 0) (omega arith) (rw e at (a .0 .left))))
+    (λ a. (search needs, omega (arith, a .1), ap left (a .1) ∙ count-hit leZ _ l (k .loop .j) _ _ (k .loop .inv .2) (pos 0) (omega arith) (rw e at (a .0 .taken))))
+    (λ a. (search needs, omega (arith, a .1), ap left (a .1) ∙ count-miss leZ _ l (k .loop .j) _ _ (k .loop .inv .2) (pos 0) (omega arith) (rw e at (a .0 .left))))
     (c .if1 .came)
 
 returns : tie.Need-returns Inv-loop μ-loop
@@ -69,7 +69,7 @@ count-at-most-spec =
     mul-x
     shared-slice-copy-out-x
     add-count
-    add-i
+    add-j
     loop-less
     loop-again
     returns)
