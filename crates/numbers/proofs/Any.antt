@@ -1,9 +1,9 @@
 -- A search for a member that passes a test, one member at a time, over any element: what a loop that returns at the first hit keeps.
 -- Assumes nothing.
 use Prim.Native.Nat.{ℕ, zero, suc, _+_, _<_, _≤_}
-use mathlib.Core.Path.{_≡_, sym, ap, _∙_}
+use mathlib.Core.Path.{_≡_, refl, sym, ap, _∙_}
 use mathlib.Core.Bool.{Bool, true, false, _||_}
-use mathlib.Core.List.{List, [], _∷_}
+use mathlib.Core.List.{List, [], _∷_, List·Memᴰ, List·Memᴰ·head, List·Memᴰ·tail}
 use native.Mathlib.Nat.{not-suc-le-zero, le-of-suc-le-suc}
 use native.Mathlib.Numerals.{add-one}
 use lib.ListN.{length, getD, drop, drop-of-length-le}
@@ -30,3 +30,18 @@ pub every-at : {A : Type 0} (P : A → Type 0) (s : List A) (d : A) → Every P 
 every-at P [] d h k b = absurd (not-suc-le-zero b)
 every-at P (x ∷ xs) d h zero b = h .0
 every-at P (x ∷ xs) d h (suc k) b = every-at P xs d (h .1) k (le-of-suc-le-suc b)
+
+-- the member at any place, where what stands for one past the end has the property too
+pub every-getD : {A : Type 0} (P : A → Type 0) (s : List A) (d : A) → P d → Every P s → (k : ℕ) → P (getD s k d)
+every-getD P [] d p h k = p
+every-getD P (x ∷ xs) d p h zero = h .0
+every-getD P (x ∷ xs) d p h (suc k) = every-getD P xs d p (h .1) k
+
+pub every-imp : {A : Type 0} (P Q : A → Type 0) (s : List A) → ((x : A) → P x → Q x) → Every P s → Every Q s
+every-imp P Q [] f h = tt
+every-imp P Q (x ∷ xs) f h = (f x (h .0), every-imp P Q xs f (h .1))
+
+-- what is known of each member as a member
+pub every-mem : {A : Type 0} (P : A → Type 0) (s : List A) → ((x : A) → List·Memᴰ x s → P x) → Every P s
+every-mem P [] f = tt
+every-mem P (x ∷ xs) f = (f x (List·Memᴰ·head refl), every-mem P xs (λ y m. f y (List·Memᴰ·tail m)))

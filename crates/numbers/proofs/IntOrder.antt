@@ -1,6 +1,6 @@
 -- ℤ as a linear order, by its test leZ and by the record _≤ℤ_; total-≤ and total-≥ are the two orders that least is used with.
 -- Assumes nothing.
-use mathlib.Core.Path.{_≡_, ap, subst, sym}
+use mathlib.Core.Path.{_≡_, refl, ap, subst, sym}
 use mathlib.Core.Bool.{Bool, false, not}
 use Prim.Native.Nat.{ℕ, _≤_}
 use native.Mathlib.Nat.{le-trans, le-antisymm, le-of-lt}
@@ -8,6 +8,7 @@ use lib.Dec.{T, leb→le, le→leb, nleb→lt}
 use lib.IntN.{ℤ, pos, negsuc}
 use lib.Signed.{leZ, ltZ, _≤ℤ_, leZ-yes, ltZ-no, ≤ℤ-refl}
 use Rattle.numbers.specs.Order.{Total, atLeast}
+use Rattle.numbers.proofs.Tests.{leb-not-ltb}
 
 -- ---- transitive, antisymmetric, total
 chain : (a b c : ℤ) → T (leZ a b) → T (leZ b c) → T (leZ a c)
@@ -55,6 +56,13 @@ total-≥ = total-turned total-≤
 -- ---- a test that failed, as an equation
 pub ltZ-false : {a b : ℤ} → ltZ a b ≡ false → b ≤ℤ a
 ltZ-false {a} {b} e = ltZ-no (subst (λ t. T (not t)) (sym e) tt)
+
+-- not below is at or above
+pub leZ-not-ltZ : (a b : ℤ) → leZ a b ≡ not (ltZ b a)
+leZ-not-ltZ (pos a) (pos b) = leb-not-ltb a b
+leZ-not-ltZ (pos a) (negsuc b) = refl
+leZ-not-ltZ (negsuc a) (pos b) = refl
+leZ-not-ltZ (negsuc a) (negsuc b) = leb-not-ltb b a
 
 -- ---- natural numbers among the whole ones
 pub pos-≤ : {m n : ℕ} → m ≤ n → pos m ≤ℤ pos n

@@ -62,15 +62,17 @@ pub +ℤ-cancel-left : (a : ℤ) {x y : ℤ} → (a +ℤ x) ≤ℤ (a +ℤ y) �
     back : (u : ℤ) → a +ℤ u -ℤ a ≡ u
     back u = ap (λ (v : ℤ). v -ℤ a) (+ℤ-comm a u) ∙ +ℤ-negℤ-cancel u a
 
--- a number at least a is a and some more
-pub above : (a z : ℤ) → a ≤ℤ z → (j : ℕ) × (z ≡ a +ℤ pos j)
-above a z h = (natAbs (z -ℤ a), sym (-ℤ-+ℤ-cancel z a) ∙ ap (λ (x : ℤ). x +ℤ a) (sym e) ∙ +ℤ-comm (pos (natAbs (z -ℤ a))) a)
-  where
-    d : pos zero ≤ℤ (z -ℤ a)
-    d = subst (λ (x : ℤ). x ≤ℤ (z -ℤ a)) (+ℤ-invr a) (+ℤ-mono-left (negℤ a) h)
+-- what a number at least a has above a is not below 0
+pub difference-above : {a z : ℤ} → a ≤ℤ z → pos zero ≤ℤ (z -ℤ a)
+difference-above {a} {z} h = subst (λ (x : ℤ). x ≤ℤ (z -ℤ a)) (+ℤ-invr a) (+ℤ-mono-left (negℤ a) h)
 
-    e : pos (natAbs (z -ℤ a)) ≡ z -ℤ a
-    e = pos-natAbs (z -ℤ a) (yes-nonNeg d)
+-- a number at least a is a and what it has above a
+pub above-by : (a z : ℤ) → a ≤ℤ z → z ≡ a +ℤ pos (natAbs (z -ℤ a))
+above-by a z h =
+    sym (-ℤ-+ℤ-cancel z a) ∙ ap (λ (x : ℤ). x +ℤ a) (sym (pos-natAbs (z -ℤ a) (yes-nonNeg (difference-above h)))) ∙ +ℤ-comm (pos (natAbs (z -ℤ a))) a
+
+pub above : (a z : ℤ) → a ≤ℤ z → (j : ℕ) × (z ≡ a +ℤ pos j)
+above a z h = (natAbs (z -ℤ a), above-by a z h)
 
 pub +ℤ-right-comm : (a b c : ℤ) → a +ℤ b +ℤ c ≡ a +ℤ c +ℤ b
 +ℤ-right-comm a b c = +ℤ-assoc a b c ∙ ap (λ (x : ℤ). a +ℤ x) (+ℤ-comm b c) ∙ sym (+ℤ-assoc a c b)

@@ -12,7 +12,17 @@ use lib.Dec.{T}
 use lib.ListN.{length, getD}
 use Rattle.numbers.proofs.Index.{getD-mem, mem-getD}
 use Rattle.numbers.proofs.Tests.{cond-ind}
+use Rattle.numbers.specs.Lists.{Every}
 use Rattle.numbers.specs.Order.{Total, leastFrom, least}
+
+-- what every member has, and the given level where there is none, the first has, in any order
+pub least-every : {A : Type 0} (le : A → A → Bool) (P : A → Type 0) (d : A) (xs : List A) → P d → Every P xs → P (least le d xs)
+least-every le P d [] p h = p
+least-every le P d (x ∷ xs) p h = from x xs (h .0) (h .1)
+  where
+    from : (m : _) (xs : List _) → P m → Every P xs → P (leastFrom le m xs)
+    from m [] p h = p
+    from m (x ∷ xs) p h = from (cond (le m x) m x) xs (cond-ind (le m x) m x P (λ t. p) (λ t. h .0)) (h .1)
 
 module _ {A : Type 0} (le : A → A → Bool) (O : Total le) where
   -- ---- of two

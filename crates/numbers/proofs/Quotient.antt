@@ -3,7 +3,8 @@
 -- Assumes nothing.
 use mathlib.Core.Path.{_≡_, refl, sym, ap, _∙_}
 use Prim.Native.Nat.{ℕ, zero, suc, _*_, _/_, _%_, _≤_, _<_, _^_, zero-le}
-use native.Mathlib.Nat.{le-of-suc-le-suc, not-suc-le-zero, div-le-self, div-add-mod', mod-lt}
+use native.Mathlib.Nat.{le-of-suc-le-suc, not-suc-le-zero, div-le-self, div-le-of-le-mul, div-add-mod', mod-lt}
+use native.Mathlib.Omega.{arith}
 use lib.IntN.{ℤ, pos, negsuc, negℤ, natAbs, _+ℤ_, _*ℤ_, negℤ-+ℤ}
 use lib.Signed.{mag, quotZ, remZ, _≤ℤ_, leZ-yes}
 use mir.Syntax.{Width}
@@ -11,11 +12,15 @@ use mir.Val.{SFits, toZ, ofZ, hbits}
 use mir.ValLaws.{sfits-le, toZ-ofZ, toZ-pos}
 use Rattle.numbers.proofs.IntOrder.{pos-≤, ≤-pos}
 use Rattle.numbers.proofs.IntProduct.{negℤ-*ℤ}
-use Rattle.numbers.proofs.Size.{natAbs-neg}
+use Rattle.numbers.proofs.Size.{Size, natAbs-neg}
 
 pub quot-size : (z : ℤ) (n : ℕ) → natAbs (quotZ z (pos n)) ≡ natAbs z / n
 quot-size (pos a) n = refl
 quot-size (negsuc a) n = natAbs-neg (pos (suc a / n))
+
+-- of n times p by n: at most p
+pub size-quot : {z : ℤ} {p : ℕ} (n : ℕ) → Size z (n * p) → Size (quotZ z (pos n)) p
+size-quot {z} {p} n h = record { size = omega (arith, quot-size z n, div-le-of-le-mul n (h .size)) }
 
 pub quot-rem : (z : ℤ) (n : ℕ) → quotZ z (pos n) *ℤ pos n +ℤ remZ z (pos n) ≡ z
 quot-rem (pos a) n = ap pos (div-add-mod' a n)

@@ -2,12 +2,12 @@
 -- Every bound that keeps a partial sum inside 64 bits rests on size-sum.
 -- Assumes nothing.
 use mathlib.Core.Path.{_≡_, refl, ap}
-use mathlib.Core.Bool.{false}
+use mathlib.Core.Bool.{false, true≢false}
 use mathlib.Core.List.{List, [], _∷_}
 use Prim.Native.Nat.{ℕ, zero, suc, _+_, _-_, _*_, _^_, _≤_, _<_}
-use native.Mathlib.Nat.{mul-le-mul, suc-mul}
+use native.Mathlib.Nat.{mul-le-mul, suc-mul, not-suc-le-zero}
 use native.Mathlib.Omega.{arith}
-use borrow.Author.Tests.{ltb-false}
+use borrow.Author.Tests.{ltb-false, le-ltb}
 use lib.Dec.{ltb, ltb→lt}
 use lib.IntN.{ℤ, pos, negsuc, negℤ, natAbs, subℕ, _+ℤ_, _*ℤ_}
 use lib.ListN.{length}
@@ -15,8 +15,9 @@ use lib.Signed.{ltZ, mag}
 use mir.Facts.{toZ-ofZ}
 use mir.Syntax.{w64}
 use mir.Val.{SFits, toZ, ofZ}
-use Rattle.numbers.proofs.Tests.{cond-ind}
+use Rattle.numbers.proofs.Tests.{cond-ind, or-false, or-no}
 use Rattle.numbers.specs.Lists.{Every}
+use Rattle.numbers.specs.Ranges.{outsideZ}
 use Rattle.numbers.specs.Sums.{sumOf}
 
 -- a is at most p in size. A record, so that a and p are inferred: ℤ's operations go by cases, under which nothing is.
@@ -46,6 +47,9 @@ natAbs-add (pos a) (negsuc b) = natAbs-sub a (suc b)
 natAbs-add (negsuc a) (pos b) = omega (arith, natAbs-sub b (suc a))
 natAbs-add (negsuc a) (negsuc b) = omega arith
 
+pub size-zero : (p : ℕ) → Size (pos 0) p
+size-zero p = record { size = omega arith }
+
 pub size-mul : {a b : ℤ} {p q : ℕ} → Size a p → Size b q → Size (a *ℤ b) (p * q)
 size-mul {a} {b} {p} {q} h k = record { size = omega (arith, natAbs-mul a b, mul-le-mul (h .size) (k .size)) }
 
@@ -68,6 +72,19 @@ size-sum p (x ∷ xs) h = record { size = omega (arith, natAbs-add x (sumOf xs),
 pub size-tested : (k n m : ℕ) (a : ℤ) → ltZ a (negsuc k) ≡ false → ltZ (pos n) a ≡ false → k < m → n ≤ m → Size a m
 size-tested k n m (pos x) h l p q = record { size = omega (arith, ltb-false n x l) }
 size-tested k n m (negsuc x) h l p q = record { size = omega (arith, ltb-false k x h) }
+
+-- inside −p..p, both included, is of size at most p
+pub size-inside : (p : ℕ) (z : ℤ) → outsideZ (negℤ (pos p)) (pos p) z ≡ false → Size z p
+size-inside zero (pos x) e = record { size = omega (arith, ltb-false 0 x (or-false (ltb x 0) (ltb 0 x) e .1)) }
+size-inside zero (negsuc x) e = absurd (true≢false e)
+size-inside (suc p) (pos x) e = record { size = omega (arith, ltb-false (suc p) x e) }
+size-inside (suc p) (negsuc x) e = record { size = omega (arith, ltb-false p x (or-false (ltb p x) false e .0)) }
+
+pub inside-sized : (p : ℕ) (z : ℤ) → Size z p → outsideZ (negℤ (pos p)) (pos p) z ≡ false
+inside-sized zero (pos x) h = or-no (ltb x 0) (ltb 0 x) (le-ltb x 0 (omega arith)) (le-ltb 0 x (omega (arith, h .size)))
+inside-sized zero (negsuc x) h = absurd (not-suc-le-zero (h .size))
+inside-sized (suc p) (pos x) h = le-ltb (suc p) x (h .size)
+inside-sized (suc p) (negsuc x) h = or-no (ltb p x) false (le-ltb p x (omega (arith, h .size))) refl
 
 mag-le : (z : ℤ) → mag z ≤ natAbs z
 mag-le (pos n) = omega arith
