@@ -14,8 +14,5 @@ pub mod Any
 pub mod Stored
 pub mod Window
 pub mod Read
-<<<<<<< HEAD
 pub mod Sign
-=======
 pub mod Partial
->>>>>>> 20d8d0cd91d7fd5b4bda643beaf1e2b96e325b71
