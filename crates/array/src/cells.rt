@@ -1,6 +1,6 @@
 // Copying a grid: the smallest call that judges its arguments, and the pattern of every later one.
 ghost use mathlib.Core.Path.{_≡_};
-ghost use lib.ListN.{length};
+ghost use lib.ListN.{length, replicate};
 ghost use mathlib.Core.List.{[], _∷_};
 ghost use Rattle.numbers.specs.Refusal.{Answers};
 ghost use Rattle.array.specs.Assign.{copied};
@@ -20,6 +20,18 @@ pub fn copy(from: &[i64], to: &mut [i64])
         let v = from[i];
         to[i] = v;
         i += 1;
+    }
+}
+
+// Sets every cell of `out` to `level`. Refuses nothing.
+pub fn fill(out: &mut [i64], level: i64)
+    ensures { λ _. ⌜ now (out .exit) ≡ replicate (length (now (out .entry))) level ⌝ }
+{
+    let n = out.len();
+    let mut k = 0;
+    while k < n {
+        out[k] = level;
+        k += 1;
     }
 }
 

@@ -8,6 +8,7 @@ mod shape;
 
 pub use cells::assign;
 pub use cells::copy;
+pub use cells::fill;
 pub use conditions::bad_axis;
 pub use conditions::bad_length;
 pub use conditions::bad_level;

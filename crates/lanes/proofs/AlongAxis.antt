@@ -1,20 +1,22 @@
 -- A line function on every lane of an axis: its length, its level at a place, and that a loop over the lanes computes it.
 -- Assumes nothing.
 use mathlib.Core.Path.{_≡_, sym, ap, subst, _∙_}
-use mathlib.Core.Bool.{cond}
+use mathlib.Core.Bool.{true, cond}
 use mathlib.Core.List.{List}
-use Prim.Native.Nat.{ℕ, _+_, _*_, _/_, _<_}
-use native.Mathlib.Nat.{mul-assoc, mul-comm, mul-div-cancel}
+use Prim.Native.Nat.{ℕ, zero, suc, _+_, _*_, _-_, _/_, _%_, _≤_, _<_}
+use native.Mathlib.Nat.{not-suc-le-zero, suc-mul, mod-lt, div-lt-iff-lt-mul, mul-assoc, mul-comm, mul-div-cancel}
 use lib.Dec.{ltb, eqb}
+use native.Mathlib.Omega.{arith}
 use lib.ListN.{length, getD}
 use Rattle.numbers.specs.Lists.{tabulate}
 use Rattle.numbers.proofs.Stored.{Stored}
 use Rattle.numbers.proofs.Tabulate.{length-tabulate, getD-tabulate, tabulate-agree}
 use Rattle.array.specs.Grid.{cellCount, lengthOf, strideOf, placeOf, coordinate, moved, levelAt}
-use Rattle.lanes.specs.Lanes.{laneOf, laneBase, laneAt, lane, alongAxis}
+use Rattle.lanes.specs.Lanes.{laneOf, laneBase, laneAt, lane, laneInside, alongAxis}
 use Rattle.array.proofs.Places.{Within, Positive, length-pos, place-lt, coordinate-place, place-ext}
+use Rattle.array.proofs.Shapes.{Accepted}
 use Rattle.array.proofs.Strides.{outerOf, count-split, stride-pos, coordinate-digit, place-moved}
-use Rattle.lanes.proofs.Cells.{base-of, lane-below}
+use Rattle.lanes.proofs.Cells.{base-of, lane-below, step-le, inside-yes}
 use Rattle.lanes.proofs.Stores.{levelAlong, lanes-all}
 
 pub length-along : {A : Type 0} (d : A) (f : List A → List A) (ns : List ℕ) (a : ℕ) (g : List A) → length (alongAxis d f ns a g) ≡ length g
@@ -27,6 +29,35 @@ count-lanes ns a p h =
     let n = lengthOf ns a in
     let e : cellCount ns ≡ outerOf ns a * strideOf ns a * n = count-split ns a h ∙ ap (λ x. outerOf ns a * x) (mul-comm n (strideOf ns a)) ∙ sym (mul-assoc (outerOf ns a) (strideOf ns a) n) in
     ap (λ x. x / n) e ∙ mul-div-cancel (outerOf ns a * strideOf ns a) (length-pos ns a p)
+
+-- every lane of an accepted shape is inside a grid of that shape
+pub lanes-inside : (ns : List ℕ) (a l : ℕ) → Accepted ns → a < length ns → l < cellCount ns / lengthOf ns a → laneInside (lengthOf ns a) (strideOf ns a) l (cellCount ns) ≡ true
+lanes-inside ns a l A h b = inside-yes (record { small = omega (arith, A .small); some = pn; apart = ps; short = short; last = last })
+  where
+    n : ℕ
+    n = lengthOf ns a
+
+    s : ℕ
+    s = strideOf ns a
+
+    pn : 0 < n
+    pn = length-pos ns a (A .full)
+
+    ps : 0 < s
+    ps = stride-pos ns a (A .full)
+
+    run : l / s * (n * s) + n * s ≤ cellCount ns
+    run = subst (λ (m : ℕ). l / s * (n * s) + n * s ≤ m) (sym (count-split ns a h)) (step-le (n * s) (div-lt-iff-lt-mul ps .1 (subst (λ (m : ℕ). l < m) (count-lanes ns a (A .full) h) b)))
+
+    whole : (n : ℕ) → 0 < n → n * s ≡ (n - 1) * s + s
+    whole zero h = absurd (not-suc-le-zero h)
+    whole (suc m) h = let e : m ≡ suc m - 1 = omega arith in suc-mul m s ∙ ap (λ x. x * s + s) e
+
+    short : s ≤ cellCount ns
+    short = omega (arith, run, whole n pn)
+
+    last : laneBase n s l + (n - 1) * s < cellCount ns
+    last = omega (arith, run, whole n pn, mod-lt l ps)
 
 -- ---- the level at a place: cell p a of f of the lane through that place
 lane-through : {A : Type 0} (d : A) (ns : List ℕ) (a : ℕ) (g : List A) (p : ℕ → ℕ) → Positive ns → a < length ns → Within ns p

@@ -1,3 +1,4 @@
 -- The lanes of an axis, and a line function on every lane.
 pub mod Lanes
+pub mod Axes
 pub mod Rows

@@ -8,6 +8,7 @@ use mathlib.Core.Path.{_≡_}
 use mathlib.Core.Bool.{true, false}
 use mathlib.Core.List.{List, [], _∷_, map, reverse}
 use lib.IntN.{ℤ, pos}
+use Rattle.lanes.specs.Axes.{overAxes}
 use Rattle.lanes.specs.Lanes.{laneOf, lane, withLane, laneInside, readLane, writeLane, alongAxis, lanesOf}
 
 abbrev pub wholes : List ℕ → List ℤ
@@ -37,3 +38,5 @@ pub record LanesRows : Type 0 where
   -- every lane of an axis read from its end
   pub turned-down : turned 0 ≡ wholes (4 ∷ 5 ∷ 6 ∷ 1 ∷ 2 ∷ 3 ∷ [])
   pub turned-across : turned 1 ≡ wholes (3 ∷ 2 ∷ 1 ∷ 6 ∷ 5 ∷ 4 ∷ [])
+  -- axis 0 first, then axis 1
+  pub turned-both : overAxes (λ a g. alongAxis (pos 0) reverse (2 ∷ 3 ∷ []) a g) 0 2 two ≡ wholes (6 ∷ 5 ∷ 4 ∷ 3 ∷ 2 ∷ 1 ∷ [])

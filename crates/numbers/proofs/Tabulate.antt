@@ -5,7 +5,7 @@ use mathlib.Core.List.{List, _∷_}
 use Prim.Native.Nat.{ℕ, zero, suc, _+_, _-_, _≤_, _<_}
 use native.Mathlib.Nat.{not-suc-le-zero, le-of-suc-le-suc, add-zero, zero-add, suc-add, add-suc}
 use native.Mathlib.Omega.{arith}
-use lib.ListN.{length, getD, take, drop}
+use lib.ListN.{length, getD, take, drop, replicate}
 use lib.Seq.{ext-getD}
 use Rattle.numbers.specs.Lists.{tabulate}
 
@@ -35,6 +35,12 @@ pub tabulate-unique : {A : Type 0} (d : A) (f : ℕ → A) (l : List A) (n : ℕ
 tabulate-unique d f l n e h =
     ext-getD d l (tabulate f 0 n) (e ∙ sym (length-tabulate f 0 n))
     (λ k b. let c : k < n = omega arith in h k c ∙ sym (getD-tabulate f n k d c))
+
+-- a table of one value
+pub tabulate-replicate : {A : Type 0} (v : A) (m n : ℕ) → tabulate (λ k. v) m n ≡ replicate n v
+unfolding tabulate
+tabulate-replicate v m zero = refl
+tabulate-replicate v m (suc n) = ap (λ l. v ∷ l) (tabulate-replicate v (suc m) n)
 
 -- two tables that agree at every place
 pub tabulate-agree : {A : Type 0} (f g : ℕ → A) (m n : ℕ) → ((k : ℕ) → k < n → f (m + k) ≡ g (m + k)) → tabulate f m n ≡ tabulate g m n

@@ -24,6 +24,7 @@ returns c = record {
   write-out = refl;
   turned-down = refl;
   turned-across = refl;
+  turned-both = refl;
 }
 
 pub rows-spec : {M : Type 1} → statement M

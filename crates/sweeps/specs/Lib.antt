@@ -1,0 +1,5 @@
+-- One-axis minimum and maximum calls, lists of them, and the rule on the order of axes.
+pub mod Call
+pub mod Run
+pub mod Order
+pub mod Rows
