@@ -7,6 +7,8 @@ ghost use lib.ListN.{length};
 ghost use Rattle.border.specs.Border.{constant, along};
 ghost use Rattle.border.specs.Modes.{borderOf};
 ghost use Rattle.pad_line.specs.Line.{badAlong, badPad, padMiddle};
+use border::Along;
+use border::BorderMode;
 
 // Extends the n cells of the line from place left on by a constant level.
 fn extend_constant(c: i64, left: usize, n: usize, right: usize, line: &mut [i64])
@@ -27,7 +29,7 @@ fn extend_constant(c: i64, left: usize, n: usize, right: usize, line: &mut [i64]
 }
 
 // Extends the n cells of the line from place left on by cells among them.
-fn extend_along(mode: border::Along, left: usize, n: usize, right: usize, line: &mut [i64])
+fn extend_along(mode: Along, left: usize, n: usize, right: usize, line: &mut [i64])
     requires { ⌜ (0 < n) × (left + n + right ≤ length (now line)) × (badAlong mode n left ≡ false) × (badAlong mode n right ≡ false) ⌝ }
     ensures { λ _. ⌜ now (line .exit) ≡ padMiddle (pos 0) (along mode) left n right (now (line .entry)) ⌝ }
 {
@@ -50,21 +52,15 @@ fn extend_along(mode: border::Along, left: usize, n: usize, right: usize, line: 
 }
 
 // Extends the n cells of the line from place left on by the border.
-pub(crate) fn extend(
-    mode: border::BorderMode,
-    left: usize,
-    n: usize,
-    right: usize,
-    line: &mut [i64],
-)
+pub(crate) fn extend(mode: BorderMode, left: usize, n: usize, right: usize, line: &mut [i64])
     requires { ⌜ (0 < n) × (left + n + right ≤ length (now line)) × (badPad (borderOf mode) n left ≡ false) × (badPad (borderOf mode) n right ≡ false) ⌝ }
     ensures { λ _. ⌜ now (line .exit) ≡ padMiddle (pos 0) (borderOf mode) left n right (now (line .entry)) ⌝ }
 {
     match mode {
-        border::BorderMode::Constant(c) => extend_constant(c, left, n, right, line),
-        border::BorderMode::Mirror => extend_along(border::Along::Mirror, left, n, right, line),
-        border::BorderMode::Nearest => extend_along(border::Along::Nearest, left, n, right, line),
-        border::BorderMode::Reflect => extend_along(border::Along::Reflect, left, n, right, line),
-        border::BorderMode::Wrap => extend_along(border::Along::Wrap, left, n, right, line),
+        BorderMode::Constant(c) => extend_constant(c, left, n, right, line),
+        BorderMode::Mirror => extend_along(Along::Mirror, left, n, right, line),
+        BorderMode::Nearest => extend_along(Along::Nearest, left, n, right, line),
+        BorderMode::Reflect => extend_along(Along::Reflect, left, n, right, line),
+        BorderMode::Wrap => extend_along(Along::Wrap, left, n, right, line),
     }
 }

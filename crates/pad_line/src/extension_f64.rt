@@ -7,6 +7,8 @@ ghost use lib.ListN.{length};
 ghost use Rattle.border.specs.Border.{constant, along};
 ghost use Rattle.border.specs.Modes.{borderOfF64};
 ghost use Rattle.pad_line.specs.Line.{badAlong, badPad, padMiddle};
+use border::Along;
+use border::BorderModeF64;
 
 fn extend_constant_f64(c: f64, left: usize, n: usize, right: usize, line: &mut [f64])
     requires { ⌜ left + n + right ≤ length (now line) ⌝ }
@@ -25,7 +27,7 @@ fn extend_constant_f64(c: f64, left: usize, n: usize, right: usize, line: &mut [
     }
 }
 
-fn extend_along_f64(mode: border::Along, left: usize, n: usize, right: usize, line: &mut [f64])
+fn extend_along_f64(mode: Along, left: usize, n: usize, right: usize, line: &mut [f64])
     requires { ⌜ (0 < n) × (left + n + right ≤ length (now line)) × (badAlong mode n left ≡ false) × (badAlong mode n right ≡ false) ⌝ }
     ensures { λ _. ⌜ now (line .exit) ≡ padMiddle nan (along mode) left n right (now (line .entry)) ⌝ }
 {
@@ -47,39 +49,15 @@ fn extend_along_f64(mode: border::Along, left: usize, n: usize, right: usize, li
     }
 }
 
-pub(crate) fn extend_f64(
-    mode: border::BorderModeF64,
-    left: usize,
-    n: usize,
-    right: usize,
-    line: &mut [f64],
-)
+pub(crate) fn extend_f64(mode: BorderModeF64, left: usize, n: usize, right: usize, line: &mut [f64])
     requires { ⌜ (0 < n) × (left + n + right ≤ length (now line)) × (badPad (borderOfF64 mode) n left ≡ false) × (badPad (borderOfF64 mode) n right ≡ false) ⌝ }
     ensures { λ _. ⌜ now (line .exit) ≡ padMiddle nan (borderOfF64 mode) left n right (now (line .entry)) ⌝ }
 {
     match mode {
-        border::BorderModeF64::Constant(c) => extend_constant_f64(c, left, n, right, line),
-        border::BorderModeF64::Mirror => extend_along_f64(
-            border::Along::Mirror,
-            left,
-            n,
-            right,
-            line,
-        ),
-        border::BorderModeF64::Nearest => extend_along_f64(
-            border::Along::Nearest,
-            left,
-            n,
-            right,
-            line,
-        ),
-        border::BorderModeF64::Reflect => extend_along_f64(
-            border::Along::Reflect,
-            left,
-            n,
-            right,
-            line,
-        ),
-        border::BorderModeF64::Wrap => extend_along_f64(border::Along::Wrap, left, n, right, line),
+        BorderModeF64::Constant(c) => extend_constant_f64(c, left, n, right, line),
+        BorderModeF64::Mirror => extend_along_f64(Along::Mirror, left, n, right, line),
+        BorderModeF64::Nearest => extend_along_f64(Along::Nearest, left, n, right, line),
+        BorderModeF64::Reflect => extend_along_f64(Along::Reflect, left, n, right, line),
+        BorderModeF64::Wrap => extend_along_f64(Along::Wrap, left, n, right, line),
     }
 }

@@ -10,6 +10,8 @@ ghost use Rattle.lanes.specs.Lanes.{laneInside};
 ghost use Rattle.border.specs.Modes.{borderOf, borderOfF64};
 ghost use Rattle.pad_line.specs.Line.{badPad, paddedLane};
 ghost use Rattle.pad_line.specs.Rows.{PadLineRows};
+use border::BorderMode;
+use border::BorderModeF64;
 
 mod extension;
 mod extension_f64;
@@ -21,38 +23,38 @@ mod extension_f64;
 // * `pad` - how many places are padded on one side.
 //
 // Refuses nothing. Of three cells Mirror fills a pad of 2 and not of 3, Reflect and Wrap fill 3 and not 4, Nearest and Constant any.
-pub fn bad_pad(mode: border::BorderMode, n: usize, pad: usize) -> bool
+pub fn bad_pad(mode: BorderMode, n: usize, pad: usize) -> bool
     ensures { λ r. ⌜ r ≡ badPad (borderOf mode) n pad ⌝ }
 {
     match mode {
-        border::BorderMode::Constant(_) => false,
-        border::BorderMode::Mirror => {
+        BorderMode::Constant(_) => false,
+        BorderMode::Mirror => {
             if n < 1 {
                 return 0 < pad;
             }
             n - 1 < pad
         }
-        border::BorderMode::Nearest => false,
-        border::BorderMode::Reflect => n < pad,
-        border::BorderMode::Wrap => n < pad,
+        BorderMode::Nearest => false,
+        BorderMode::Reflect => n < pad,
+        BorderMode::Wrap => n < pad,
     }
 }
 
 // As `bad_pad`, of a float border.
-pub fn bad_pad_f64(mode: border::BorderModeF64, n: usize, pad: usize) -> bool
+pub fn bad_pad_f64(mode: BorderModeF64, n: usize, pad: usize) -> bool
     ensures { λ r. ⌜ r ≡ badPad (borderOfF64 mode) n pad ⌝ }
 {
     match mode {
-        border::BorderModeF64::Constant(_) => false,
-        border::BorderModeF64::Mirror => {
+        BorderModeF64::Constant(_) => false,
+        BorderModeF64::Mirror => {
             if n < 1 {
                 return 0 < pad;
             }
             n - 1 < pad
         }
-        border::BorderModeF64::Nearest => false,
-        border::BorderModeF64::Reflect => n < pad,
-        border::BorderModeF64::Wrap => n < pad,
+        BorderModeF64::Nearest => false,
+        BorderModeF64::Reflect => n < pad,
+        BorderModeF64::Wrap => n < pad,
     }
 }
 
@@ -99,7 +101,7 @@ pub fn pad_lane(
     stride: usize,
     lane: usize,
     n: usize,
-    mode: border::BorderMode,
+    mode: BorderMode,
     left: usize,
     right: usize,
     line: &mut [i64],
@@ -126,7 +128,7 @@ pub fn pad_lane_f64(
     stride: usize,
     lane: usize,
     n: usize,
-    mode: border::BorderModeF64,
+    mode: BorderModeF64,
     left: usize,
     right: usize,
     line: &mut [f64],
