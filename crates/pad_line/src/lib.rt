@@ -1,17 +1,20 @@
 // The padded line: a lane read into a lent line and extended in place, the window of a cell, and condition 11 of a lane.
 ghost use mathlib.Core.Path.{_≡_};
-ghost use mathlib.Core.Bool.{false, _&&_};
-ghost use Prim.Native.Nat.{_+_, _≤_, _<_};
+ghost use mathlib.Core.Bool.{_&&_};
+ghost use Prim.Native.Nat.{_+_};
 ghost use lib.Dec.{leb};
 ghost use lib.Ieee.{nan};
 ghost use lib.IntN.{pos};
-ghost use lib.ListN.{length};
 ghost use Rattle.numbers.specs.Windows.{windowOf};
 ghost use Rattle.lanes.specs.Lanes.{laneInside};
-ghost use Rattle.border.specs.Border.{constant, along};
 ghost use Rattle.border.specs.Modes.{borderOf, borderOfF64};
-ghost use Rattle.pad_line.specs.Line.{badAlong, badPad, padMiddle, paddedLane};
+ghost use Rattle.pad_line.specs.Line.{badPad, paddedLane};
 ghost use Rattle.pad_line.specs.Rows.{PadLineRows};
+use border::BorderMode;
+use border::BorderModeF64;
+
+mod extension;
+mod extension_f64;
 
 // Condition 11 of a lane: whether the border cannot fill a pad that long.
 //
@@ -20,38 +23,38 @@ ghost use Rattle.pad_line.specs.Rows.{PadLineRows};
 // * `pad` - how many places are padded on one side.
 //
 // Refuses nothing. Of three cells Mirror fills a pad of 2 and not of 3, Reflect and Wrap fill 3 and not 4, Nearest and Constant any.
-pub fn bad_pad(mode: border::BorderMode, n: usize, pad: usize) -> bool
+pub fn bad_pad(mode: BorderMode, n: usize, pad: usize) -> bool
     ensures { λ r. ⌜ r ≡ badPad (borderOf mode) n pad ⌝ }
 {
     match mode {
-        border::BorderMode::Constant(_) => false,
-        border::BorderMode::Mirror => {
+        BorderMode::Constant(_) => false,
+        BorderMode::Mirror => {
             if n < 1 {
                 return 0 < pad;
             }
             n - 1 < pad
         }
-        border::BorderMode::Nearest => false,
-        border::BorderMode::Reflect => n < pad,
-        border::BorderMode::Wrap => n < pad,
+        BorderMode::Nearest => false,
+        BorderMode::Reflect => n < pad,
+        BorderMode::Wrap => n < pad,
     }
 }
 
 // As `bad_pad`, of a float border.
-pub fn bad_pad_f64(mode: border::BorderModeF64, n: usize, pad: usize) -> bool
+pub fn bad_pad_f64(mode: BorderModeF64, n: usize, pad: usize) -> bool
     ensures { λ r. ⌜ r ≡ badPad (borderOfF64 mode) n pad ⌝ }
 {
     match mode {
-        border::BorderModeF64::Constant(_) => false,
-        border::BorderModeF64::Mirror => {
+        BorderModeF64::Constant(_) => false,
+        BorderModeF64::Mirror => {
             if n < 1 {
                 return 0 < pad;
             }
             n - 1 < pad
         }
-        border::BorderModeF64::Nearest => false,
-        border::BorderModeF64::Reflect => n < pad,
-        border::BorderModeF64::Wrap => n < pad,
+        BorderModeF64::Nearest => false,
+        BorderModeF64::Reflect => n < pad,
+        BorderModeF64::Wrap => n < pad,
     }
 }
 
@@ -82,131 +85,6 @@ fn lane_fits(
     true
 }
 
-// Extends the n cells of the line from place left on by a constant level.
-fn extend_constant(c: i64, left: usize, n: usize, right: usize, line: &mut [i64])
-    requires { ⌜ left + n + right ≤ length (now line) ⌝ }
-    ensures { λ _. ⌜ now (line .exit) ≡ padMiddle (pos 0) (constant c) left n right (now (line .entry)) ⌝ }
-{
-    let mut k = 0;
-    while k < left {
-        line[k] = c;
-        k += 1;
-    }
-    let end = left + n + right;
-    let mut j = left + n;
-    while j < end {
-        line[j] = c;
-        j += 1;
-    }
-}
-
-// Extends the n cells of the line from place left on by cells among them.
-fn extend_along(mode: border::Along, left: usize, n: usize, right: usize, line: &mut [i64])
-    requires { ⌜ (0 < n) × (left + n + right ≤ length (now line)) × (badAlong mode n left ≡ false) × (badAlong mode n right ≡ false) ⌝ }
-    ensures { λ _. ⌜ now (line .exit) ≡ padMiddle (pos 0) (along mode) left n right (now (line .entry)) ⌝ }
-{
-    let mut k = 0;
-    while k < left {
-        let at = left + border::cell_before(mode, n, left - k);
-        let v = line[at];
-        line[k] = v;
-        k += 1;
-    }
-    let e = left + n;
-    let end = e + right;
-    let mut j = e;
-    while j < end {
-        let at = left + border::cell_after(mode, n, j + 1 - e);
-        let v = line[at];
-        line[j] = v;
-        j += 1;
-    }
-}
-
-// Extends the n cells of the line from place left on by the border.
-fn extend(mode: border::BorderMode, left: usize, n: usize, right: usize, line: &mut [i64])
-    requires { ⌜ (0 < n) × (left + n + right ≤ length (now line)) × (badPad (borderOf mode) n left ≡ false) × (badPad (borderOf mode) n right ≡ false) ⌝ }
-    ensures { λ _. ⌜ now (line .exit) ≡ padMiddle (pos 0) (borderOf mode) left n right (now (line .entry)) ⌝ }
-{
-    match mode {
-        border::BorderMode::Constant(c) => extend_constant(c, left, n, right, line),
-        border::BorderMode::Mirror => extend_along(border::Along::Mirror, left, n, right, line),
-        border::BorderMode::Nearest => extend_along(border::Along::Nearest, left, n, right, line),
-        border::BorderMode::Reflect => extend_along(border::Along::Reflect, left, n, right, line),
-        border::BorderMode::Wrap => extend_along(border::Along::Wrap, left, n, right, line),
-    }
-}
-
-fn extend_constant_f64(c: f64, left: usize, n: usize, right: usize, line: &mut [f64])
-    requires { ⌜ left + n + right ≤ length (now line) ⌝ }
-    ensures { λ _. ⌜ now (line .exit) ≡ padMiddle nan (constant c) left n right (now (line .entry)) ⌝ }
-{
-    let mut k = 0;
-    while k < left {
-        line[k] = c;
-        k += 1;
-    }
-    let end = left + n + right;
-    let mut j = left + n;
-    while j < end {
-        line[j] = c;
-        j += 1;
-    }
-}
-
-fn extend_along_f64(mode: border::Along, left: usize, n: usize, right: usize, line: &mut [f64])
-    requires { ⌜ (0 < n) × (left + n + right ≤ length (now line)) × (badAlong mode n left ≡ false) × (badAlong mode n right ≡ false) ⌝ }
-    ensures { λ _. ⌜ now (line .exit) ≡ padMiddle nan (along mode) left n right (now (line .entry)) ⌝ }
-{
-    let mut k = 0;
-    while k < left {
-        let at = left + border::cell_before(mode, n, left - k);
-        let v = line[at];
-        line[k] = v;
-        k += 1;
-    }
-    let e = left + n;
-    let end = e + right;
-    let mut j = e;
-    while j < end {
-        let at = left + border::cell_after(mode, n, j + 1 - e);
-        let v = line[at];
-        line[j] = v;
-        j += 1;
-    }
-}
-
-fn extend_f64(mode: border::BorderModeF64, left: usize, n: usize, right: usize, line: &mut [f64])
-    requires { ⌜ (0 < n) × (left + n + right ≤ length (now line)) × (badPad (borderOfF64 mode) n left ≡ false) × (badPad (borderOfF64 mode) n right ≡ false) ⌝ }
-    ensures { λ _. ⌜ now (line .exit) ≡ padMiddle nan (borderOfF64 mode) left n right (now (line .entry)) ⌝ }
-{
-    match mode {
-        border::BorderModeF64::Constant(c) => extend_constant_f64(c, left, n, right, line),
-        border::BorderModeF64::Mirror => extend_along_f64(
-            border::Along::Mirror,
-            left,
-            n,
-            right,
-            line,
-        ),
-        border::BorderModeF64::Nearest => extend_along_f64(
-            border::Along::Nearest,
-            left,
-            n,
-            right,
-            line,
-        ),
-        border::BorderModeF64::Reflect => extend_along_f64(
-            border::Along::Reflect,
-            left,
-            n,
-            right,
-            line,
-        ),
-        border::BorderModeF64::Wrap => extend_along_f64(border::Along::Wrap, left, n, right, line),
-    }
-}
-
 // Reads a lane of the grid into a lent line and extends it by the border: the padded line.
 //
 // * `grid` - the cells of the grid.
@@ -223,7 +101,7 @@ pub fn pad_lane(
     stride: usize,
     lane: usize,
     n: usize,
-    mode: border::BorderMode,
+    mode: BorderMode,
     left: usize,
     right: usize,
     line: &mut [i64],
@@ -241,7 +119,7 @@ pub fn pad_lane(
     }
     let e = left + n;
     lanes::read_lane(grid, stride, lane, &mut line[left..e]);
-    extend(mode, left, n, right, line);
+    extension::extend(mode, left, n, right, line);
 }
 
 // As `pad_lane`, of float levels.
@@ -250,7 +128,7 @@ pub fn pad_lane_f64(
     stride: usize,
     lane: usize,
     n: usize,
-    mode: border::BorderModeF64,
+    mode: BorderModeF64,
     left: usize,
     right: usize,
     line: &mut [f64],
@@ -268,7 +146,7 @@ pub fn pad_lane_f64(
     }
     let e = left + n;
     lanes::read_lane_f64(grid, stride, lane, &mut line[left..e]);
-    extend_f64(mode, left, n, right, line);
+    extension_f64::extend_f64(mode, left, n, right, line);
 }
 
 // The window of a cell: the part of a padded line from place i to i + len, i + len not included.
@@ -297,15 +175,15 @@ pub fn window(line: &[i64], i: usize, len: usize) -> &[i64]
 pub fn window_f64(line: &[f64], i: usize, len: usize) -> &[f64]
     ensures { λ r. ⌜ now r ≡ windowOf (now (line .entry)) i len ⌝ }
 {
-    let n = line.len();
-    if n < len {
+    let count = line.len();
+    if count < len {
         return &line[..0];
     }
-    if n - len < i {
+    if count - len < i {
         return &line[..0];
     }
-    let e = i + len;
-    &line[i..e]
+    let end = i + len;
+    &line[i..end]
 }
 
 // Worked rows of this crate's definitions: T1, unequal pads, condition 11, windows, and lines that stay as they were. Refuses nothing.

@@ -20,8 +20,8 @@ slice-aggregate-result-2 c = search needs
 returns-2 : tie.Need-returns-2
 returns-2 c = sym (window-out (now (c .before .before .before .args .line)) _ _ (omega arith))
 
-add-e : tie.Need-add-e
-add-e c = search needs
+add-end : tie.Need-add-end
+add-end c = search needs
 
 mul-result : tie.Need-mul-result
 mul-result c = search needs
@@ -46,7 +46,7 @@ window-f64-spec =
     returns
     slice-aggregate-result-2
     returns-2
-    add-e
+    add-end
     mul-result
     sub-result
     part-result-start

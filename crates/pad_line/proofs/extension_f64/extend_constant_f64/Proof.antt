@@ -1,43 +1,38 @@
--- `pad_line::extend_constant` meets its contract: the two rims are filled with the constant, which belongs there.
+-- `pad_line::extension_f64::extend_constant_f64` meets its contract: the two rims are filled with the constant, which belongs there.
 -- Assumes nothing.
-use mathlib.Core.Path.{refl, ap, _∙_}
+use mathlib.Core.Path.{refl, _∙_}
 use Prim.Native.Nat.{_+_, _-_, _≤_}
 use native.Mathlib.Omega.{arith}
 use borrow.Author.Needs.{needs}
-use denote.Ref.{now}
-use lib.IntN.{ℤ, pos}
-use mir.Syntax.{w64}
-use mir.Val.{toZ}
-use Rattle.numbers.proofs.Read.{read}
+use lib.Ieee.{nan}
 use Rattle.border.specs.Border.{constant}
 use Rattle.pad_line.proofs.Rims.{Filled, filled-none, before-constant, after-constant, filled-middle, filled-all}
-use Rattle.pad_line.specs.Line.{padMiddle}
-use Rattle.pad_line.proofs.extend_constant.Statement.{statement}
-use Rattle.pad_line.proofs.extend_constant.Tie as tie
+use Rattle.pad_line.proofs.extension_f64.extend_constant_f64.Statement.{statement}
+use Rattle.pad_line.proofs.extension_f64.extend_constant_f64.Tie as tie
 
 abbrev Inv-loop : tie.InvT-loop
-Inv-loop c left n right line₀ k₀ line k = (k ≤ left) × Filled (pos 0) (constant (toZ w64 c)) left n line₀ line k
+Inv-loop c left n right line₀ i₀ line i = (i ≤ left) × Filled nan (constant c) left n line₀ line i
 
 abbrev μ-loop : tie.MeasureT-loop
-μ-loop c left n right line₀ k₀ line k = left - k
+μ-loop c left n right line₀ i₀ line i = left - i
 
 abbrev Inv-loop2 : tie.InvT-loop2
-Inv-loop2 c left n right line₀ k end j₀ line j = (left + n ≤ j) × (j ≤ left + n + right) × Filled (pos 0) (constant (toZ w64 c)) left n line₀ line j
+Inv-loop2 c left n right line₀ i end j₀ line j = (left + n ≤ j) × (j ≤ left + n + right) × Filled nan (constant c) left n line₀ line j
 
 abbrev μ-loop2 : tie.MeasureT-loop2
-μ-loop2 c left n right line₀ k end j₀ line j = left + n + right - j
+μ-loop2 c left n right line₀ i end j₀ line j = left + n + right - j
 
 loop-holds : tie.Need-loop-holds Inv-loop μ-loop Inv-loop2 μ-loop2
-loop-holds c = (search needs, filled-none (pos 0) _ _ _ _)
+loop-holds c = (search needs, filled-none nan _ _ _ _)
 
-mul-c : tie.Need-mul-c Inv-loop μ-loop Inv-loop2 μ-loop2
-mul-c c = search needs
+mul-line : tie.Need-mul-line Inv-loop μ-loop Inv-loop2 μ-loop2
+mul-line c = search needs
 
-slice-set-from-c : tie.Need-slice-set-from-c Inv-loop μ-loop Inv-loop2 μ-loop2
-slice-set-from-c c = search needs
+slice-write-line : tie.Need-slice-write-line Inv-loop μ-loop Inv-loop2 μ-loop2
+slice-write-line c = search needs
 
-add-k : tie.Need-add-k Inv-loop μ-loop Inv-loop2 μ-loop2
-add-k c = search needs
+add-i : tie.Need-add-i Inv-loop μ-loop Inv-loop2 μ-loop2
+add-i c = search needs
 
 loop-less : tie.Need-loop-less Inv-loop μ-loop Inv-loop2 μ-loop2
 loop-less c = search needs
@@ -57,11 +52,11 @@ add-j c = search needs
 loop2-holds : tie.Need-loop2-holds Inv-loop μ-loop Inv-loop2 μ-loop2
 loop2-holds c = (search needs, search needs, filled-middle (c .before .loop .inv .1) (omega arith) (omega arith))
 
-mul-c-2 : tie.Need-mul-c-2 Inv-loop μ-loop Inv-loop2 μ-loop2
-mul-c-2 c = search needs
+mul-line-2 : tie.Need-mul-line-2 Inv-loop μ-loop Inv-loop2 μ-loop2
+mul-line-2 c = search needs
 
-slice-set-from-c-2 : tie.Need-slice-set-from-c-2 Inv-loop μ-loop Inv-loop2 μ-loop2
-slice-set-from-c-2 c = search needs
+slice-write-line-2 : tie.Need-slice-write-line-2 Inv-loop μ-loop Inv-loop2 μ-loop2
+slice-write-line-2 c = search needs
 
 add-j-2 : tie.Need-add-j-2 Inv-loop μ-loop Inv-loop2 μ-loop2
 add-j-2 c = search needs
@@ -79,13 +74,11 @@ same-length c = c .before .loop2 .inv .2 .stored .kept ∙ c .before .before .be
 
 returns : tie.Need-returns Inv-loop μ-loop Inv-loop2 μ-loop2
 returns c =
-    let a = c .before .before .before .before .args in
-    let e = read (c .before .before .before .before .fits .c .sfits) refl in
-    filled-all (c .before .before .before .loop .inv .1) (omega arith) (omega arith) (a .right) (omega arith) (omega arith) (c .before .loop2 .inv .2)
-    ∙ ap (λ (z : ℤ). padMiddle (pos 0) (constant z) (a .left) (a .n) (a .right) (now (a .line))) e
+    let s = c .before .before .before .before in
+    filled-all (c .before .before .before .loop .inv .1) (omega arith) (omega arith) (s .args .right) (omega arith) (omega arith) (c .before .loop2 .inv .2)
 
-pub extend-constant-spec : {M : Type 1} → statement M
-extend-constant-spec =
+pub extend-constant-f64-spec : {M : Type 1} → statement M
+extend-constant-f64-spec =
     tie.close
     (tie.spec
     Inv-loop
@@ -93,17 +86,17 @@ extend-constant-spec =
     Inv-loop2
     μ-loop2
     loop-holds
-    mul-c
-    slice-set-from-c
-    add-k
+    mul-line
+    slice-write-line
+    add-i
     loop-less
     loop-again
     add-end
     add-end-2
     add-j
     loop2-holds
-    mul-c-2
-    slice-set-from-c-2
+    mul-line-2
+    slice-write-line-2
     add-j-2
     loop2-less
     loop2-again

@@ -1,4 +1,4 @@
--- `pad_line::extend` meets its contract: each arm is what the constant's or the cells' extension ensures.
+-- `pad_line::extension::extend` meets its contract: each arm is what the constant's or the cells' extension ensures.
 -- Assumes nothing.
 use mathlib.Core.Path.{_≡_, ap, _∙_}
 use borrow.Author.Needs.{needs}
@@ -8,8 +8,8 @@ use mir.Syntax.{w64}
 use mir.Val.{toZ, ofZ}
 use Rattle.border.specs.Border.{constant}
 use Rattle.pad_line.specs.Line.{padMiddle}
-use Rattle.pad_line.proofs.extend.Statement.{statement}
-use Rattle.pad_line.proofs.extend.Tie as tie
+use Rattle.pad_line.proofs.extension.extend.Statement.{statement}
+use Rattle.pad_line.proofs.extension.extend.Tie as tie
 
 enum-known-mode : tie.Need-enum-known-mode
 enum-known-mode c = search needs

@@ -1,0 +1,66 @@
+// The places before and after the cells in the middle of a line, filled in place from the border.
+ghost use mathlib.Core.Path.{_≡_};
+ghost use mathlib.Core.Bool.{false};
+ghost use Prim.Native.Nat.{_+_, _≤_, _<_};
+ghost use lib.IntN.{pos};
+ghost use lib.ListN.{length};
+ghost use Rattle.border.specs.Border.{constant, along};
+ghost use Rattle.border.specs.Modes.{borderOf};
+ghost use Rattle.pad_line.specs.Line.{badAlong, badPad, padMiddle};
+use border::Along;
+use border::BorderMode;
+
+// Extends the n cells of the line from place left on by a constant level.
+fn extend_constant(c: i64, left: usize, n: usize, right: usize, line: &mut [i64])
+    requires { ⌜ left + n + right ≤ length (now line) ⌝ }
+    ensures { λ _. ⌜ now (line .exit) ≡ padMiddle (pos 0) (constant c) left n right (now (line .entry)) ⌝ }
+{
+    let mut i = 0;
+    while i < left {
+        line[i] = c;
+        i += 1;
+    }
+    let end = left + n + right;
+    let mut j = left + n;
+    while j < end {
+        line[j] = c;
+        j += 1;
+    }
+}
+
+// Extends the n cells of the line from place left on by cells among them.
+fn extend_along(mode: Along, left: usize, n: usize, right: usize, line: &mut [i64])
+    requires { ⌜ (0 < n) × (left + n + right ≤ length (now line)) × (badAlong mode n left ≡ false) × (badAlong mode n right ≡ false) ⌝ }
+    ensures { λ _. ⌜ now (line .exit) ≡ padMiddle (pos 0) (along mode) left n right (now (line .entry)) ⌝ }
+{
+    let mut k = 0;
+    while k < left {
+        let at = left + border::cell_before(mode, n, left - k);
+        let v = line[at];
+        line[k] = v;
+        k += 1;
+    }
+    let e = left + n;
+    let end = e + right;
+    let mut j = e;
+    while j < end {
+        let at = left + border::cell_after(mode, n, j + 1 - e);
+        let v = line[at];
+        line[j] = v;
+        j += 1;
+    }
+}
+
+// Extends the n cells of the line from place left on by the border.
+pub(crate) fn extend(mode: BorderMode, left: usize, n: usize, right: usize, line: &mut [i64])
+    requires { ⌜ (0 < n) × (left + n + right ≤ length (now line)) × (badPad (borderOf mode) n left ≡ false) × (badPad (borderOf mode) n right ≡ false) ⌝ }
+    ensures { λ _. ⌜ now (line .exit) ≡ padMiddle (pos 0) (borderOf mode) left n right (now (line .entry)) ⌝ }
+{
+    match mode {
+        BorderMode::Constant(c) => extend_constant(c, left, n, right, line),
+        BorderMode::Mirror => extend_along(Along::Mirror, left, n, right, line),
+        BorderMode::Nearest => extend_along(Along::Nearest, left, n, right, line),
+        BorderMode::Reflect => extend_along(Along::Reflect, left, n, right, line),
+        BorderMode::Wrap => extend_along(Along::Wrap, left, n, right, line),
+    }
+}
