@@ -56,7 +56,7 @@ fn maximum_cells(line: &[i64], len: usize, out: &mut [i64])
             front = p.val;
             death = p.death;
         }
-        if front <= v {
+        if front <= v { // on a tie too: the cell dies later
             front = v;
             death = i + len;
             pairs[start] = Pair { val: v, death };

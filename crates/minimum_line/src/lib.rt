@@ -56,7 +56,7 @@ fn minimum_cells(line: &[i64], len: usize, out: &mut [i64])
             front = p.val;
             death = p.death;
         }
-        if v <= front {
+        if v <= front { // on a tie too: the cell dies later
             front = v;
             death = i + len;
             pairs[start] = Pair { val: v, death };

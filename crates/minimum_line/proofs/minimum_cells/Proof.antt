@@ -1,20 +1,21 @@
 -- `minimum_line::minimum_cells` meets its contract, from minlist's laws at the order ≤: the ring covers the cells of the window, so its front is the least.
+-- The answers stand in the order of the code; `search needs` closes the bounds of indexes and sums.
 -- Assumes nothing.
+use borrow.Author.Count.{falls-down}
 use borrow.Author.Needs.{needs}
-use mathlib.Core.Path.{_≡_, refl, ap, _∙_}
+use mathlib.Core.Path.{_≡_, refl}
 use mathlib.Core.Logic.{⊎-elim}
 use Prim.Native.Nat.{_+_, _-_}
 use native.Mathlib.Omega.{arith}
-use lib.ListN.{length, replicate}
 use lib.Signed.{leZ}
+use lib.ListN.{length, replicate}
 use mir.Syntax.{w64}
 use mir.Val.{toZ}
 use Rattle.numbers.proofs.IntOrder.{total-≤}
 use Rattle.numbers.proofs.Read.{read}
 use Rattle.minlist.specs.Ring.{noPair}
-use Rattle.minlist.proofs.Items.{place-mod}
-use Rattle.minlist.proofs.Ring.{Ring, Trimming, ring-begun, ring-replaced, ring-popped, ring-kept, ring-pushed, trim-begun, trim-two, trim-more}
-use Rattle.minlist.proofs.Steps.{Filling, Sweeping, sweep-begun, sweep-more, sweep-ended}
+use Rattle.minlist.proofs.Ring.{Ring, Trimming, ring-replaced, ring-popped, ring-kept, ring-pushed, trim-two, trim-more}
+use Rattle.minlist.proofs.Steps.{Filling, Sweeping, slot-fits, next-in, back-sum, back-in, behind-sum, behind-in, fill-begun, fill-trim, fill-trim-more, fill-pushed, sweep-begun, sweep-trim, sweep-more, sweep-ended}
 use Rattle.minimum_line.proofs.minimum_cells.Statement.{statement}
 use Rattle.minimum_line.proofs.minimum_cells.Tie as tie
 
@@ -42,45 +43,16 @@ Inv-loop3 line len out₀ pairs₀ front₀ death₀ count₀ i₀ start₀ out 
 abbrev μ-loop3 : tie.MeasureT-loop3
 μ-loop3 line len out₀ pairs₀ front₀ death₀ count₀ i₀ start₀ out pairs front death count i start = length line - i
 
--- the ring with the cell, while the first window fills
-early : (c : tie.Joined1 Inv-loop2 μ-loop2 Inv-loop μ-loop Inv-loop4 μ-loop4 Inv-loop3 μ-loop3) → (
-    let k = c .before .before .before in
-    let a = k .before .before .args in
-    Ring leZ (a .line .now) (a .len) (k .loop .i + 1) 0 (c .if1 .pairs) 0 (c .if1 .count) (toZ w64 (c .if1 .front)) (c .if1 .death))
-early c =
-    let k = c .before .before .before in
-    let is = read (c .before .v .given) refl in
-    ⊎-elim
-    (λ w. rw (w .1, w .2, w .3, w .4) (ring-replaced total-≤ (k .loop .inv .ring) is (omega arith) (w .0 .taken)))
-    (λ w. let g = w .2 .inv in rw (w .4, w .5, w .6, w .7) (ring-pushed total-≤ g is (k .before .before .pre .narrow) (w .3 .left) (omega arith)))
-    (c .if1 .came)
-
 -- the ring once a front whose time has come is gone
-mid : (c : tie.Joined2 Inv-loop2 μ-loop2 Inv-loop μ-loop Inv-loop4 μ-loop4 Inv-loop3 μ-loop3) → (
+aged : (c : tie.Joined2 Inv-loop2 μ-loop2 Inv-loop μ-loop Inv-loop4 μ-loop4 Inv-loop3 μ-loop3) → (
     let k = c .before .before .before in
     let a = k .before .before .before .before .args in
     Ring leZ (a .line .now) (a .len) (k .loop3 .i) (k .loop3 .i + 1 - a .len) (k .loop3 .pairs) (c .if2 .start) (c .if2 .count) (toZ w64 (c .if2 .front)) (c .if2 .death))
-mid c =
-    let k = c .before .before .before in
-    let l = k .loop3 .inv in
+aged c =
+    let r = c .before .before .before .loop3 .inv .ring in
     ⊎-elim
-    (λ w. rw (w .7, w .6, w .4, read (w .3 .given .0 .1) refl, w .5) (ring-popped total-≤ (l .ring) (l .begun) (k .before .before .before .before .pre .wide) (w .0 .taken) (w .1 .ensures)))
-    (λ w. rw (w .4, w .3, w .1, w .2) (ring-kept total-≤ (l .ring) (w .0 .left)))
-    (c .if2 .came)
-
--- the ring with the cell
-late : (c : tie.Joined3 Inv-loop2 μ-loop2 Inv-loop μ-loop Inv-loop4 μ-loop4 Inv-loop3 μ-loop3) → (
-    let k = c .before .before .before .before in
-    let a = k .before .before .before .before .args in
-    Ring leZ (a .line .now) (a .len) (k .loop3 .i + 1) (k .loop3 .i + 1 - a .len) (c .if3 .pairs) (c .before .if2 .start) (c .if3 .count) (toZ w64 (c .if3 .front)) (c .if3 .death))
-late c =
-    let r = mid (c .before) in
-    let p = c .before .before .before .before .before .before .before .before .pre in
-    let is = read (c .before .before .v2 .given) refl in
-    ⊎-elim
-    (λ w. rw (w .2, w .5, w .3, w .4) (ring-replaced total-≤ r is (omega arith) (w .0 .taken)))
-    (λ w. rw (w .7, w .10, w .8, w .9) (ring-pushed total-≤ (w .2 .inv) is (p .narrow) (w .3 .left) (w .6 .ensures ∙ place-mod _ (omega arith))))
-    (c .if3 .came)
+    (λ w. rw (w .7, w .6, w .4, read (w .3 .given .0 .1) refl, w .5) (ring-popped total-≤ r (w .0 .taken) (w .1 .ensures)))
+    (λ w. rw (w .4, w .3, w .1, w .2) (ring-kept total-≤ r (w .0 .left))) (c .if2 .came)
 
 pub minimum-cells-spec : {M : Type 1} → statement M
 minimum-cells-spec =
@@ -88,36 +60,60 @@ minimum-cells-spec =
     (tie.spec Inv-loop2 μ-loop2 Inv-loop μ-loop Inv-loop4 μ-loop4 Inv-loop3 μ-loop3
     -- the first cell
     (λ c. search needs) (λ c. search needs)
-    (λ c. record { begun = omega arith; short = c .before .pre .wide; ring = ring-begun total-≤ (replicate 65 noPair) refl (read (c .front .given) refl) })
-    -- the first window fills
-    (λ c. search needs) (λ c. search needs) (λ c. search needs) (λ c. search needs) (λ c. search needs) (λ c. search needs) (λ c. search needs) (λ c. search needs)
-    (λ c. trim-begun total-≤ (c .before .before .before .before .loop .inv .ring) (omega arith) (omega arith) (omega arith) (read (c .last .given) refl))
-    (λ c. search needs)
-    (λ c. omega (arith, trim-two total-≤ (c .before .loop2 .inv) (c .before .before .before .if1 .left) (c .loop2-test .taken)))
+    (λ c. fill-begun total-≤ (replicate 65 noPair) (c .before .pre .wide) (c .before .pre .narrow) refl (read (c .front .given) refl))
+    -- a cell of the first window
     (λ c. search needs) (λ c. search needs) (λ c. search needs)
-    (λ c. let m = c .before .before .before in let g = m .loop2 .inv in
-    trim-more total-≤ g (m .before .before .if1 .left) (c .before .before .loop2-test .taken) (λ n. omega arith) (read (c .struct-told .given .0 .1) refl))
-    (λ c. search needs) (λ c. search needs) (λ c. search needs) (λ c. search needs) (λ c. search needs) (λ c. search needs)
-    (λ c. record { begun = omega arith; short = omega arith; ring = early c })
-    -- it lacks one cell
-    (λ c. sweep-begun _ (c .before .loop .inv) (omega arith) (omega arith))
-    -- a front whose time has come
-    (λ c. search needs) (λ c. search needs) (λ c. search needs) (λ c κs. search needs) (λ c. search needs)
-    (λ c. omega (arith, c .place .ensures ∙ place-mod _ (omega arith))) (λ c. omega (arith, c .place .ensures ∙ place-mod _ (omega arith)))
-    -- a new front
-    (λ c. search needs) (λ c. omega (arith, mid (c .before .before) .within)) (λ c. mid (c .before .before) .within)
-    -- the back
-    (λ c. search needs) (λ c. search needs) (λ c. search needs)
-    (λ c. trim-begun total-≤ (mid (c .before .before)) (omega arith) (omega arith) (omega arith) (read (c .last2 .given) refl))
+    -- it is the new front
     (λ c. search needs) (λ c. search needs)
+    -- it is not: pairs go from the back
+    (λ c. c .before .before .before .loop .inv .ring .low) (λ c. search needs) (λ c. search needs)
+    (λ c. fill-trim total-≤ (c .before .before .before .before .loop .inv) (read (c .last .given) refl))
+    (λ c. c .before .loop2 .inv .some)
+    (λ c. omega (arith, trim-two total-≤ (c .before .loop2 .inv) (c .before .before .before .if1 .left) (c .loop2-test .taken)))
+    (λ c. search needs) (λ c. search needs) (λ c. falls-down _ (c .before .before .before .loop2 .inv .some))
+    (λ c. let m = c .before .before .before in
+    fill-trim-more total-≤ (m .loop2 .inv) (m .before .before .if1 .left) (c .before .before .loop2-test .taken) (read (c .struct-told .given .0 .1) refl))
+    -- and it goes to the back
+    (λ c. search needs) (λ c. search needs) (λ c. search needs) (λ c. search needs)
+    -- the ring has the cell
+    (λ c. search needs) (λ c. search needs)
+    (λ c. let is = read (c .before .v .given) refl in record {
+      short = c .before .before .loop-test .taken;
+      ring =
+          ⊎-elim
+          (λ w. rw (w .1, w .2, w .3, w .4) (ring-replaced total-≤ (c .before .before .before .loop .inv .ring) is (w .0 .taken)))
+          (λ w. rw (w .4, w .5, w .6, w .7) (fill-pushed total-≤ (w .2 .inv) is (w .3 .left))) (c .if1 .came);
+    })
+    -- the first window lacks one cell
+    (λ c. sweep-begun total-≤ _ (c .before .loop .inv) (c .loop-test .left) (c .before .before .before .pre))
+    -- a further cell
+    (λ c. search needs) (λ c. search needs)
+    -- a front whose time has come goes
+    (λ c. search needs) (λ c κs. tt) (λ c. c .before .before .before .before .loop3 .inv .ring .some)
+    (λ c. slot-fits (next-in (c .before .before .before .before .loop3 .inv .ring) (c .place .ensures))) (λ c. next-in (c .before .before .before .before .loop3 .inv .ring) (c .place .ensures))
+    -- the cell is the new front
+    (λ c. search needs) (λ c. slot-fits (aged (c .before .before) .within)) (λ c. aged (c .before .before) .within)
+    -- it is not: pairs go from the back
+    (λ c. search needs) (λ c. search needs) (λ c. search needs)
+    (λ c. let j = c .before .before in sweep-trim total-≤ (j .before .before .before .loop3 .inv) (aged j) (read (c .last2 .given) refl))
+    (λ c. c .before .before .loop4 .inv .some) (λ c. back-sum (c .before .before .before .loop4 .inv))
     (λ c. omega (arith, trim-two total-≤ (c .before .before .before .loop4 .inv) (c .before .before .before .before .before .if3 .left) (c .before .before .loop4-test .taken)))
-    (λ c κs. search needs) (λ c. omega (arith, c .place2 .ensures ∙ place-mod _ (omega arith))) (λ c. omega (arith, c .place2 .ensures ∙ place-mod _ (omega arith)))
-    (λ c. search needs)
+    (λ c κs. tt)
+    (λ c. slot-fits (back-in (c .before .before .before .before .loop4 .inv) (c .place2 .ensures))) (λ c. back-in (c .before .before .before .before .loop4 .inv) (c .place2 .ensures))
+    (λ c. falls-down _ (c .before .before .before .before .before .before .loop4 .inv .some))
     (λ c. let u = c .before .before in let m = u .before .before .before .before in
-    trim-more total-≤ (m .loop4 .inv) (m .before .before .if3 .left) (u .before .before .before .loop4-test .taken) (λ n. u .place2 .ensures ∙ place-mod _ (omega arith)) (read (c .struct-told3 .given .0 .1) refl))
-    (λ c. search needs) (λ c κs. search needs) (λ c. search needs) (λ c. omega (arith, c .place3 .ensures ∙ place-mod _ (omega arith))) (λ c. omega (arith, c .place3 .ensures ∙ place-mod _ (omega arith))) (λ c. search needs)
-    -- the front is written
-    (λ c. search needs) (λ c. search needs) (λ c. search needs) (λ c. search needs) (λ c. search needs) (λ c. search needs)
-    (λ c. sweep-more total-≤ (c .before .before .before .before .loop3 .inv) (late c) (omega arith) (omega arith) refl refl)
+    trim-more total-≤ (m .loop4 .inv) (m .before .before .if3 .left) (u .before .before .before .loop4-test .taken) (u .place2 .ensures) (read (c .struct-told3 .given .0 .1) refl))
+    -- and it goes to the back
+    (λ c. behind-sum (c .before .before .before .loop4 .inv)) (λ c κs. tt) (λ c. search needs)
+    (λ c. slot-fits (behind-in (c .before .before .before .before .loop4 .inv) (c .place3 .ensures))) (λ c. behind-in (c .before .before .before .before .loop4 .inv) (c .place3 .ensures))
     (λ c. search needs)
-    (λ c. sweep-ended (c .before .loop3 .inv) (omega arith) (omega arith)))
+    -- the ring has the cell: its front is written
+    (λ c. search needs) (λ c. search needs) (λ c. search needs) (λ c. search needs) (λ c. search needs) (λ c. search needs)
+    (λ c. let is = read (c .before .before .v2 .given) refl in
+    sweep-more total-≤ (c .before .before .before .before .loop3 .inv)
+    (⊎-elim
+    (λ w. rw (w .2, w .5, w .3, w .4) (ring-replaced total-≤ (aged (c .before)) is (w .0 .taken)))
+    (λ w. rw (w .7, w .10, w .8, w .9) (ring-pushed total-≤ (w .2 .inv) is (w .3 .left) (w .6 .ensures))) (c .if3 .came))
+    (c .before .before .before .loop3-test .taken))
+    -- every window is written
+    (λ c. c .before .loop3 .inv .stored .kept) (λ c. sweep-ended total-≤ (c .before .loop3 .inv) (c .loop3-test .left)))
