@@ -17,7 +17,7 @@ use Rattle.numbers.proofs.Tests.{T-true, T-false}
 use Rattle.minlist.specs.declared.Pair.{Pair}
 use Rattle.minlist.specs.Ring.{placeOf, noPair, itemsFrom}
 use Rattle.minlist.proofs.Items.{place-mod, length-items, items-turned, items-front, items-back, items-pushed}
-use Rattle.minlist.proofs.Chain.{Chain, Covered, Open, chain-open, chain-room, chain-some, chain-expired, chain-kept, chain-last-cell, chain-trimmed, chain-answer, chain-alone, chain-replaced, chain-pushed}
+use Rattle.minlist.proofs.Chain.{Covered, Open, chain-open, chain-room, chain-some, chain-expired, chain-kept, chain-last-cell, chain-trimmed, chain-answer, chain-alone, chain-replaced, chain-pushed}
 
 abbrev pub pair : ℤ → ℕ → Pair
 pair v d = record { val = v; death = d }
@@ -44,7 +44,8 @@ pub record Trimming (le : ℤ → ℤ → Bool) (line : List ℤ) (len : ℕ) (v
 
 module _ {le : ℤ → ℤ → Bool} (O : Total le) {line : List ℤ} {len : ℕ} where
   -- ---- a ring of one pair
-  ring-single : (i lo : ℕ) (ps : List Pair) (s : ℕ) (v : ℤ) (d : ℕ) → 1 < len → len ≤ 65 → length ps ≡ 65 → s < 65 → lo < i → Covered le line len i lo (pair v d ∷ []) → Ring le line len i lo (set ps s (pair v d)) s 1 v d
+  ring-single : (i lo : ℕ) (ps : List Pair) (s : ℕ) (v : ℤ) (d : ℕ) → 1 < len → len ≤ 65 → length ps ≡ 65 → s < 65 → lo < i → Covered le line len i lo (pair v d ∷ [])
+      → Ring le line len i lo (set ps s (pair v d)) s 1 v d
   unfolding itemsFrom
   ring-single i lo ps s v d w t n b l h =
       let e : getD (set ps s (pair v d)) s noPair ≡ pair v d = getD-set-same ps s (pair v d) noPair (omega arith) in
@@ -56,7 +57,9 @@ module _ {le : ℤ → ℤ → Bool} (O : Total le) {line : List ℤ} {len : ℕ
         low = l;
         some = omega arith;
         head = e;
-        covered = subst (λ (l : List Pair). Covered le line len i lo l) (sym (items-front (set ps s (pair v d)) s 1 b (omega arith) ∙ ap (λ (p : Pair). p ∷ []) e)) h;
+        covered =
+            subst (λ (l : List Pair). Covered le line len i lo l)
+            (sym (items-front (set ps s (pair v d)) s 1 b (omega arith) ∙ ap (λ (p : Pair). p ∷ []) e)) h;
       }
 
   -- the first cell
@@ -64,10 +67,11 @@ module _ {le : ℤ → ℤ → Bool} (O : Total le) {line : List ℤ} {len : ℕ
   ring-begun ps {v} w t n is = ring-single 1 0 ps 0 v len w t n (omega arith) (omega arith) (simp zero-add at (chain-alone O line len v 0 is 0 (omega arith) (λ j x y. absurd (omega arith))))
 
   module _ {i lo : ℕ} {ps : List Pair} {start count : ℕ} {front : ℤ} {death : ℕ} (r : Ring le line len i lo ps start count front death) where
+    ring-items : itemsFrom ps start count ≡ pair front death ∷ itemsFrom ps (start + 1) (count - 1)
+    ring-items = items-front ps start count (r .within) (r .some) ∙ ap (λ (p : Pair). p ∷ itemsFrom ps (start + 1) (count - 1)) (r .head)
+
     ring-front : Covered le line len i lo (pair front death ∷ itemsFrom ps (start + 1) (count - 1))
-    ring-front =
-        subst (λ (l : List Pair). Covered le line len i lo l)
-        (items-front ps start count (r .within) (r .some) ∙ ap (λ (p : Pair). p ∷ itemsFrom ps (start + 1) (count - 1)) (r .head)) (r .covered)
+    ring-front = subst (λ (l : List Pair). Covered le line len i lo l) ring-items (r .covered)
 
     -- the front is the first of its window
     pub ring-answer : i ≡ lo + len → i ≤ length line → front ≡ least le (pos 0) (windowOf line lo len)
@@ -125,8 +129,7 @@ module _ {le : ℤ → ℤ → Bool} (O : Total le) {line : List ℤ} {len : ℕ
       some = r .some;
       head = r .head;
       covered =
-          subst (λ (l : List Pair). Covered le line len i (i + 1 - len) l)
-          (sym (items-front ps start count (r .within) (r .some) ∙ ap (λ (p : Pair). p ∷ itemsFrom ps (start + 1) (count - 1)) (r .head)))
+          subst (λ (l : List Pair). Covered le line len i (i + 1 - len) l) (sym (ring-items r))
           (chain-kept le line len (λ m. i ≤ m) i (pair front death) (itemsFrom ps (start + 1) (count - 1)) n (ring-front r));
     }
 
@@ -170,7 +173,8 @@ module _ {le : ℤ → ℤ → Bool} (O : Total le) {line : List ℤ} {len : ℕ
         let is-at : at ≡ (start + count) % 65 = q ∙ place-mod (start + count) (omega arith) in
         let apart : start ≡ at → ⊥ = λ e. omega arith in
         let put : itemsFrom (set ps at p) start (count + 1) ≡ (itemsFrom ps start (count - 1) ++ (getD ps ((start + count - 1) % 65) noPair ∷ [])) ++ (p ∷ [])
-        = ap (λ (k : ℕ). itemsFrom (set ps k p) start (count + 1)) is-at ∙ items-pushed ps start count p (r .full) (omega arith) ∙ ap (λ (z : List Pair). z ++ (p ∷ [])) (items-back ps start count (g .some)) in
+        = ap (λ (k : ℕ). itemsFrom (set ps k p) start (count + 1)) is-at ∙ items-pushed ps start count p (r .full) (omega arith)
+        ∙ ap (λ (z : List Pair). z ++ (p ∷ [])) (items-back ps start count (g .some)) in
         record {
           wide = r .wide;
           narrow = r .narrow;

@@ -3,9 +3,9 @@
 use mathlib.Core.Path.{_≡_, sym}
 use mathlib.Core.Bool.{Bool, true, false, _&&_}
 use mathlib.Core.List.{List}
-use Prim.Native.Nat.{ℕ, _+_, _-_, _≤_}
+use Prim.Native.Nat.{ℕ, _+_, _-_}
 use native.Mathlib.Omega.{arith}
-use borrow.Author.Tests.{leb-true, eqb-true}
+use borrow.Author.Tests.{leb-true, eqb-true, le-leb, eq-eqb}
 use lib.Dec.{leb, eqb}
 use lib.IntN.{ℤ}
 use lib.ListN.{length}
@@ -25,6 +25,9 @@ served n len m e =
       cells = omega (arith, leb-true len (n + 1) (q .1), eqb-true m (n + 1 - len) (p .1));
     }
 
+pub serving-yes : (n len m : ℕ) → Served n len m → serving n len m ≡ true
+serving-yes n len m s = simp (le-leb 2 len (s .wide), le-leb len 65 (s .narrow), le-leb n 1088 (s .short), le-leb len (n + 1) (omega arith), eq-eqb m (n + 1 - len) (omega arith))
+
 module _ (le : ℤ → ℤ → Bool) (line : List ℤ) (len : ℕ) (out : List ℤ) where
   pub swept-served : serving (length line) len (length out) ≡ true → firsts le line len (length out) ≡ sweptBy le line len out
   unfolding sweptBy
@@ -33,3 +36,7 @@ module _ (le : ℤ → ℤ → Bool) (line : List ℤ) (len : ℕ) (out : List �
   pub swept-else : serving (length line) len (length out) ≡ false → out ≡ sweptBy le line len out
   unfolding sweptBy
   swept-else e = sym (cond-no _ _ out e)
+
+  -- what a caller that hands over a served line has afterwards
+  pub swept-filled : Served (length line) len (length out) → sweptBy le line len out ≡ firsts le line len (length out)
+  swept-filled s = sym (swept-served (serving-yes (length line) len (length out) s))

@@ -1,10 +1,9 @@
 -- Worked rows of this crate's definitions. Each holds by computing.
---   wholes ns       the natural numbers ns as whole levels
---   padded          4 2 7 1 with a cell on either side under Reflect: document 01's T4
---   leasts len n    the least of each of n windows of len cells of it
---   greatests len n the greatest of each
---   full            an array of 65 pairs, the pair at place k with death k
---   MinlistRows     the rows
+--   padded            4 2 7 1 with a cell on either side under Reflect: document 01's T4
+--   leasts len n      the least of each of n windows of len cells of it
+--   greatests len n   the greatest of each
+--   full              an array of 65 pairs, the pair at place k with death k
+--   MinlistRows       the rows
 use Prim.Native.Nat.{ℕ}
 use mathlib.Core.Path.{_≡_}
 use mathlib.Core.Bool.{true, false}
@@ -14,12 +13,10 @@ use lib.ListN.{replicate}
 use lib.Signed.{leZ}
 use Rattle.numbers.specs.Lists.{tabulate}
 use Rattle.numbers.specs.Order.{atLeast}
+use Rattle.numbers.specs.Rows.{wholes}
 use Rattle.minlist.specs.declared.Pair.{Pair}
 use Rattle.minlist.specs.Firsts.{firsts, serving, sweptBy}
 use Rattle.minlist.specs.Ring.{placeOf, itemsFrom}
-
-abbrev pub wholes : List ℕ → List ℤ
-wholes ns = map pos ns
 
 abbrev pub padded : List ℤ
 padded = wholes (4 ∷ 4 ∷ 2 ∷ 7 ∷ 1 ∷ 1 ∷ [])

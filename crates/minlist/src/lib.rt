@@ -1,14 +1,14 @@
 // What the ring of MINLIST rests on: its pair, its places, and the lines that it serves. The two hot functions over it are in
 // crates of their own, `minimum_line` and `maximum_line`, and keep the ring in their locals.
 //
-// MINLIST: Richard Harter, "The minimum on a sliding window algorithm". A ring of pairs, each a level of the window with the
-// cell at which it dies, from the front, the least of the window, to the back, the cell read last.
+// MINLIST: Richard Harter, "The minimum on a sliding window algorithm". The ring holds levels of the window, each with the cell
+// at which it dies, from the front, the least of the window, to the back, the cell read last.
 ghost use mathlib.Core.Path.{_≡_};
 ghost use Rattle.minlist.specs.Firsts.{serving};
 ghost use Rattle.minlist.specs.Ring.{placeOf};
 ghost use Rattle.minlist.specs.Rows.{MinlistRows};
 
-// A level of the window, and the first cell whose window it is no part of.
+// A level of the window, and the cell at whose reading it leaves the window: one window's length after its own.
 pub struct Pair {
     pub val: i64,
     pub death: usize,
