@@ -3,22 +3,21 @@
 use mathlib.Core.Path.{_≡_, refl, sym, ap, subst, _∙_}
 use mathlib.Core.Bool.{Bool, true, false, not, _&&_, cond}
 use mathlib.Core.List.{List, map}
-use Prim.Native.Nat.{ℕ, _+_, _-_, _/_, _≤_, _<_}
+use Prim.Native.Nat.{ℕ, _+_, _-_, _≤_, _<_}
 use native.Mathlib.Nat.{zero-add}
 use native.Mathlib.Omega.{arith}
-use borrow.Author.Tests.{ltb-true, ltb-false, eqb-true, not-false, lt-ltb}
+use borrow.Author.Tests.{ltb-true, eqb-true, not-false, lt-ltb}
 use lib.Dec.{ltb, eqb}
 use lib.IntN.{ℤ, pos, natAbs, negℤ, _+ℤ_, _-ℤ_, +ℤ-assoc, +ℤ-comm, negℤ-+ℤ, +ℤ-idl, +ℤ-invr}
-use lib.ListN.{length, getD, take, drop}
+use lib.ListN.{length, getD, take}
 use lib.Seq.{ext-getD}
 use Rattle.numbers.specs.Lists.{tabulate, upFrom}
 use Rattle.numbers.specs.Order.{least}
 use Rattle.numbers.specs.Windows.{windowOf}
 use Rattle.numbers.proofs.Range.{up-mem, map-up}
 use Rattle.numbers.proofs.Tabulate.{length-tabulate, getD-tabulate, drop-tabulate, take-tabulate}
-use Rattle.numbers.proofs.Tests.{or-false, cond-yes, cond-no}
+use Rattle.numbers.proofs.Tests.{cond-yes, cond-no}
 use Rattle.numbers.proofs.Window.{window-in}
-use Rattle.array.specs.Conditions.{badAxis}
 use Rattle.array.specs.Grid.{cellCount, coordinate, moved, levelAt}
 use Rattle.array.proofs.Places.{Positive, place-coordinate, place-ext, coordinate-within}
 use Rattle.array.proofs.Shapes.{shape-accepted}

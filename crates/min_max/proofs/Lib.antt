@@ -1,2 +1,6 @@
 -- Laws.
+pub mod Reach
 pub mod ByLanes
+pub mod OnePass
+pub mod OneLane
+pub mod EveryLane

@@ -2,7 +2,7 @@
 -- Assumes nothing.
 use Prim.Native.Nat.{ℕ, zero, suc, _+_, _<_, _≤_}
 use mathlib.Core.Path.{_≡_, refl, sym, ap, _∙_}
-use mathlib.Core.Bool.{Bool, true, false, _||_}
+use mathlib.Core.Bool.{Bool, true, false, _&&_, _||_}
 use mathlib.Core.List.{List, [], _∷_, List·Memᴰ, List·Memᴰ·head, List·Memᴰ·tail}
 use native.Mathlib.Nat.{not-suc-le-zero, le-of-suc-le-suc}
 use native.Mathlib.Numerals.{add-one}
@@ -20,6 +20,12 @@ module _ {A : Type 0} (t : A → Bool) (d : A) (i : ℕ) (s : List A) (b : i < l
 
 pub any-end : {A : Type 0} (t : A → Bool) (i : ℕ) (s : List A) → length s ≤ i → anyOf t s ≡ anyOf t (drop i s) → anyOf t s ≡ false
 any-end t i s h e = e ∙ ap (anyOf t) (drop-of-length-le s h)
+
+-- a test that is joined to one of no member
+pub any-and : {A : Type 0} (t : Bool) (p : A → Bool) (s : List A) → anyOf (λ x. t && p x) s ≡ t && anyOf p s
+any-and true p s = refl
+any-and false p [] = refl
+any-and false p (x ∷ xs) = any-and false p xs
 
 -- no member passes: every one fails
 pub any-none : {A : Type 0} (t : A → Bool) (s : List A) → anyOf t s ≡ false → Every (λ x. t x ≡ false) s

@@ -5,7 +5,7 @@ use mathlib.Core.Bool.{Bool, true, false, cond}
 use mathlib.Core.List.{List, [], _∷_, _++_}
 use Prim.Native.Nat.{ℕ, _<_}
 use native.Mathlib.Omega.{arith}
-use borrow.Author.Tests.{ne-eqb}
+use borrow.Author.Tests.{eq-eqb, ne-eqb}
 use lib.Dec.{T, eqb, ltb, ltb→lt}
 use Rattle.numbers.specs.Lists.{Every}
 use Rattle.numbers.specs.Refusal.{Judged, refusalOf, Answers}
@@ -43,6 +43,14 @@ judged-append (j ∷ js) ks p = go (judged-append js ks (p .1)) (j .0)
         → cond t (j .1) (refusalOf (js ++ ks)) ≡ cond (eqb (cond t (j .1) (refusalOf js)) 0) (refusalOf ks) (cond t (j .1) (refusalOf js))
     go ih true = sym (cond-no (eqb (j .1) 0) (refusalOf ks) (j .1) (ne-eqb (j .1) 0 (λ q. clash q (ltb→lt 0 (j .1) (p .0)))))
     go ih false = ih
+
+-- the same from the number of the first part, for a call that judges its first part by itself
+module _ (js ks : Judged) (p : Every (λ j. T (ltb 0 (j .1))) js) {r : ℕ} (e : r ≡ refusalOf js) where
+  pub chain-stops : (r ≡ 0 → ⊥) → r ≡ refusalOf (js ++ ks)
+  chain-stops h = e ∙ sym (judged-append js ks p ∙ cond-no (eqb (refusalOf js) 0) (refusalOf ks) (refusalOf js) (ne-eqb (refusalOf js) 0 (λ z. h (e ∙ z))))
+
+  pub chain-goes : {q : ℕ} → r ≡ 0 → q ≡ refusalOf ks → q ≡ refusalOf (js ++ ks)
+  chain-goes z h = h ∙ sym (judged-append js ks p ∙ cond-yes (eqb (refusalOf js) 0) (refusalOf ks) (refusalOf js) (eq-eqb (refusalOf js) 0 (sym e ∙ z)))
 
 module _ {A : Type 0} (js : Judged) (levels held : List A) (r : ℕ) (e : r ≡ refusalOf js) where
   pub answers-refused : (r ≡ 0 → ⊥) → Answers js levels held r held

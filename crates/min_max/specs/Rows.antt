@@ -1,0 +1,36 @@
+-- Worked rows of this crate's definitions: T4, pads, origins and reaches at their limits. Each holds by computing.
+--   levels        4 2 7 1
+--   MinMaxRows    the rows
+use mathlib.Core.Path.{_≡_}
+use mathlib.Core.Bool.{true, false}
+use mathlib.Core.List.{List, [], _∷_, map}
+use lib.IntN.{ℤ, pos, negsuc}
+use lib.Signed.{leZ}
+use Rattle.border.specs.Border.{constant, along}
+use Rattle.border.specs.declared.Along.the-variants.{Mirror, Reflect}
+use Rattle.border.specs.declared.BorderMode.the-variants as modes
+use Rattle.sweeps.specs.Run.{answerOf}
+use Rattle.min_max.specs.Lane.{extremesOf}
+use Rattle.min_max.specs.Filters.{orderOf, callOf, windowOrigin, badReach}
+use Rattle.min_max.specs.declared.Extreme.the-variants.{Least, Greatest}
+
+abbrev pub levels : List ℤ
+levels = pos 4 ∷ pos 2 ∷ pos 7 ∷ pos 1 ∷ []
+
+pub record MinMaxRows : Type 0 where
+  pub orders : orderOf Least (pos 1) (pos 2) ∷ orderOf Greatest (pos 1) (pos 2) ∷ [] ≡ true ∷ false ∷ []
+  -- T4, length 3 under Reflect
+  pub t4-minimum : answerOf (orderOf Least) levels (callOf (4 ∷ []) 3 0 modes.Reflect (pos 0) levels) ≡ pos 2 ∷ pos 2 ∷ pos 1 ∷ pos 1 ∷ []
+  pub t4-maximum : answerOf (orderOf Greatest) levels (callOf (4 ∷ []) 3 0 modes.Reflect (pos 0) levels) ≡ pos 4 ∷ pos 7 ∷ pos 7 ∷ pos 7 ∷ []
+  -- length 2 under Constant 5: origin 0 reads the cell before, origin −1 the cell after
+  pub before : answerOf (orderOf Least) levels (callOf (4 ∷ []) 2 0 (modes.Constant (pos 5)) (pos 0) levels) ≡ pos 4 ∷ pos 2 ∷ pos 2 ∷ pos 1 ∷ []
+  pub after : answerOf (orderOf Least) levels (callOf (4 ∷ []) 2 0 (modes.Constant (pos 5)) (negsuc 0) levels) ≡ pos 2 ∷ pos 2 ∷ pos 1 ∷ pos 1 ∷ []
+  -- the same as lines
+  pub line-both : extremesOf leZ (along Reflect) 1 1 levels ≡ pos 2 ∷ pos 2 ∷ pos 1 ∷ pos 1 ∷ []
+  pub line-before : extremesOf leZ (constant (pos 5)) 1 0 levels ≡ pos 4 ∷ pos 2 ∷ pos 2 ∷ pos 1 ∷ []
+  -- length 4: origins −2 and 1 pass, −3 and 2 do not; length 1 passes with origin 99
+  pub origins : map (windowOrigin 4) (negsuc 1 ∷ pos 1 ∷ negsuc 2 ∷ pos 2 ∷ []) ≡ false ∷ false ∷ true ∷ true ∷ []
+  pub origin-alone : windowOrigin 1 (pos 99) ≡ false
+  -- three cells: Mirror takes length 5 and refuses 7, Reflect takes 7 and refuses 9; length 4 with origin −2 needs 0 and 3 places
+  pub reaches : badReach (along Mirror) 5 (pos 0) 3 ∷ badReach (along Mirror) 7 (pos 0) 3 ∷ badReach (along Reflect) 7 (pos 0) 3 ∷ badReach (along Reflect) 9 (pos 0) 3 ∷ [] ≡ false ∷ true ∷ false ∷ true ∷ []
+  pub reach-right : badReach (along Mirror) 4 (negsuc 1) 3 ∷ badReach (along Reflect) 4 (negsuc 1) 3 ∷ [] ≡ true ∷ false ∷ []

@@ -1,0 +1,93 @@
+// The conditions of the one-axis forms, in rising order.
+ghost use mathlib.Core.Path.{_≡_};
+ghost use mathlib.Core.Bool.{false, not, _&&_};
+ghost use mathlib.Core.List.{[]};
+ghost use lib.Dec.{eqb};
+ghost use Rattle.numbers.specs.Ranges.{outside};
+ghost use Rattle.numbers.specs.Refusal.{refusalOf};
+ghost use Rattle.border.specs.Modes.{borderOf};
+ghost use Rattle.sweeps.specs.Call.{windowJudged, callJudged};
+ghost use Rattle.min_max.specs.Filters.{badReach, windowOrigin, callOf};
+use border::BorderMode;
+use origin::Origin;
+
+// Condition 5: the length of the window is outside 1..65.
+fn bad_size(size: usize) -> bool
+    ensures { λ r. ⌜ r ≡ outside 1 65 size ⌝ }
+{
+    if size < 1 {
+        return true;
+    }
+    65 < size
+}
+
+// Condition 7: a window of more than one cell refuses the origin.
+fn bad_window_origin(size: usize, origin: isize) -> bool
+    ensures { λ r. ⌜ r ≡ windowOrigin size origin ⌝ }
+{
+    if size == 1 {
+        return false;
+    }
+    origin::bad_origin(size, origin)
+}
+
+// Condition 11 of a lane of n cells: the border cannot fill one of the pads that an accepted window needs.
+fn bad_reach(mode: BorderMode, n: usize, size: usize, origin: isize) -> bool
+    requires { ⌜ windowOrigin size origin ≡ false ⌝ }
+    ensures { λ r. ⌜ r ≡ (not (eqb size 1) && badReach (borderOf mode) size origin n) ⌝ }
+{
+    if size == 1 {
+        return false;
+    }
+    match origin::origin_check(size, origin) {
+        Origin::Refused => false,
+        Origin::Pads(left, right) => {
+            if pad_line::bad_pad(mode, n, left) {
+                return true;
+            }
+            pad_line::bad_pad(mode, n, right)
+        }
+    }
+}
+
+// Conditions 5, 7, 8, 9 and 11 of a window along one axis.
+fn judge_window(shape: &[usize], size: usize, axis: usize, mode: BorderMode, origin: isize) -> u8
+    ensures { λ r. ⌜ r ≡ refusalOf (windowJudged (callOf (now (shape .entry)) size axis mode origin [])) ⌝ }
+{
+    if bad_size(size) {
+        return numbers::KERNEL;
+    }
+    if bad_window_origin(size, origin) {
+        return numbers::ORIGIN;
+    }
+    if array::bad_axis(shape, axis) {
+        return numbers::AXIS;
+    }
+    if border::bad_constant(mode) {
+        return numbers::CONSTANT;
+    }
+    let n = array::len_of(shape, axis);
+    if bad_reach(mode, n, size, origin) {
+        return numbers::REACH;
+    }
+    numbers::ACCEPTED
+}
+
+// The conditions of a one-axis call.
+pub(crate) fn judge_call(
+    data: &[i64],
+    shape: &[usize],
+    size: usize,
+    axis: usize,
+    mode: BorderMode,
+    origin: isize,
+    out: &[i64],
+) -> u8
+    ensures { λ r. ⌜ r ≡ refusalOf (callJudged (now («data» .entry)) (callOf (now (shape .entry)) size axis mode origin (now (out .entry)))) ⌝ }
+{
+    let refusal = array::judge_grid(data, shape, out.len(), out.len());
+    if refusal != 0 {
+        return refusal;
+    }
+    judge_window(shape, size, axis, mode, origin)
+}
