@@ -1,12 +1,12 @@
 -- The window of a line: inside it is the part itself, past the end it is empty; its length, and its level at a place.
 -- Assumes nothing.
 use mathlib.Core.Path.{_≡_, sym, ap, _∙_}
-use mathlib.Core.List.{List, []}
+use mathlib.Core.List.{List, [], _++_}
 use Prim.Native.Nat.{ℕ, _+_, _-_, _≤_, _<_}
 use native.Mathlib.Omega.{arith}
 use borrow.Author.Tests.{le-leb, lt-leb}
-use lib.ListN.{length, getD, take, drop, length-take, length-drop}
-use lib.Seq.{getD-take, getD-drop}
+use lib.ListN.{length, getD, take, drop, length-append, length-take, length-drop}
+use lib.Seq.{getD-take, getD-drop, take-append-le, drop-append-le}
 use Rattle.numbers.specs.Windows.{windowOf}
 use Rattle.numbers.proofs.Tests.{cond-yes, cond-no}
 
@@ -28,3 +28,11 @@ module _ {A : Type 0} (s : List A) (i len : ℕ) where
 
   pub getD-window : (j : ℕ) (d : A) → i + len ≤ length s → j < len → getD (windowOf s i len) j d ≡ getD s (i + j) d
   getD-window j d h b = ap (λ w. getD w j d) (window-in h) ∙ getD-take len (drop i s) j d b ∙ getD-drop i s j d
+
+-- a window inside the first of two lists
+pub window-append : {A : Type 0} (s t : List A) (i len : ℕ) → i + len ≤ length s → windowOf (s ++ t) i len ≡ windowOf s i len
+window-append s t i len h =
+    window-in (s ++ t) i len (omega (arith, length-append s t))
+    ∙ ap (take len) (drop-append-le i s t (omega arith))
+    ∙ take-append-le len (drop i s) t (omega (arith, length-drop i s))
+    ∙ sym (window-in s i len h)

@@ -10,12 +10,15 @@ use borrow.Rule.Slice.PartMut.{midOf, postOf, putMid, mid-len, same-len-mid, dro
 use lib.Dec.{leb}
 use lib.ListN.{length, take, drop}
 use lib.Seq.{length-take-le, take-at, drop-at, drop-drop}
+use Rattle.numbers.specs.Windows.{windowOf}
 use Rattle.numbers.proofs.Tests.{and-true, cond-yes, cond-no, told}
+use Rattle.numbers.proofs.Window.{window-append}
 use Rattle.lanes.specs.Lanes.{laneBase, laneInside, lane, readLane}
 use Rattle.lanes.proofs.Cells.{Inside, lane-inside, length-laneAt}
 use Rattle.lanes.proofs.FirstPlace.{place-none, place-some}
 use Rattle.border.specs.Border.{Border}
 use Rattle.pad_line.specs.Line.{paddedLine, badPad, padMiddle, padServes, paddedLane}
+use Rattle.pad_line.proofs.Padded.{length-padded}
 
 -- ---- a lane that is inside, and a padded line that is short enough
 pub too-long : (n s l count total room : ℕ) → room < total → false ≡ laneInside n s l count && leb total room
@@ -73,6 +76,15 @@ module _ {A : Type 0} (d : A) {b : Border A} {n s l left right : ℕ} {g held : 
   unfolding padServes
   serves = (λ j. S .fits j && not (S .fills-left j) && not (S .fills-right j))
 
+  -- ---- for a caller: what the line holds, and its windows
+  pub served-line : paddedLane d b n s l left right g held ≡ paddedLine d b left right (lane d n s l g) ++ drop (left + n + right) held
+  served-line = cond-yes _ (paddedLine d b left right (lane d n s l g) ++ drop (left + n + right) held) held serves
+
+  pub served-window : (i len : ℕ) → i + len ≤ left + n + right → windowOf (paddedLane d b n s l left right g held) i len ≡ windowOf (paddedLine d b left right (lane d n s l g)) i len
+  served-window i len h =
+      ap (λ (x : List A). windowOf x i len) served-line
+      ∙ window-append (paddedLine d b left right (lane d n s l g)) (drop (left + n + right) held) i len (omega (arith, length-padded d left (lane d n s l g) b right, length-laneAt d g (laneBase n s l) s n))
+
   cells : length (midOf left (left + n - left) held) ≡ n
   cells = mid-len left (left + n) held (omega (arith, line-room)) ∙ omega arith
 
@@ -91,7 +103,7 @@ module _ {A : Type 0} (d : A) {b : Border A} {n s l left right : ℕ} {g held : 
     pub lane-padded : {line : List A} → line ≡ padMiddle d b left n right (putMid left (left + n - left) held part) → line ≡ paddedLane d b n s l left right g held
     lane-padded e =
         e ∙ (λ j. paddedLine d b left right (middle j) ++ rest j)
-        ∙ sym (cond-yes _ (paddedLine d b left right (lane d n s l g) ++ drop (left + n + right) held) held serves)
+        ∙ sym served-line
       where
         post : List A
         post = postOf left (left + n - left) held
