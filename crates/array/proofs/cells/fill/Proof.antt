@@ -48,7 +48,7 @@ same-length : tie.Need-same-length Inv-loop μ-loop
 same-length c = c .before .loop .inv .2 .kept
 
 returns : tie.Need-returns Inv-loop μ-loop
-returns c = 
+returns c =
     let s = c .before .before in
     let n = length (now (s .args .out)) in
     front-all (pos 0) _ (omega arith) (c .before .loop .inv .2) ∙ tabulate-replicate (toZ w64 (ofZ w64 (s .args .level))) 0 n ∙ ap (replicate n) (toZ-ofZ {w = w64} (s .fits .level))
