@@ -1,8 +1,11 @@
-// The numeric examples of the leaf crates' public comments, run and printed; `stdout` beside src/ has what they must be.
-// The theorems of worked rows are called here too, so that no crate can drop its own unnoticed.
+// The numeric examples of the public comments of the crates below the filters, run and printed; `stdout` beside src/ has what they must be.
+// The theorems of worked rows and the rule on the order of axes are called here too, so that no crate can drop its own unnoticed.
 mod arrays;
+mod averages;
 mod borders;
+mod extremes;
 mod kernels;
+mod padded;
 mod print;
 
 fn rows() {
@@ -13,6 +16,11 @@ fn rows() {
     origin::rows();
     kernel3d::rows();
     symmetry::rows();
+    pad_line::rows();
+    minlist::rows();
+    statistics::rows();
+    sweeps::rows();
+    sweeps::order_of_axes();
 }
 
 fn main() {
@@ -26,4 +34,13 @@ fn main() {
     borders::origins();
     kernels::shapes();
     kernels::symmetries();
+    padded::pad_conditions();
+    padded::lines();
+    padded::lines_f64();
+    padded::windows();
+    extremes::rings();
+    extremes::lines();
+    averages::extremes();
+    averages::means();
+    averages::medians();
 }

@@ -1,17 +1,13 @@
--- Worked rows of this crate's definitions: T1, T4, T5, refused calls, windows and boxes. Each holds by computing.
+-- Worked rows of this crate's definitions: T4, T5, refused calls, windows and boxes. Each holds by computing.
 --   call .. , up, across, mixed, ..   the calls that the rows speak of
 --   SweepsRows                        the rows
 use Prim.Native.Nat.{ℕ}
 use mathlib.Core.Path.{_≡_}
-use mathlib.Core.Bool.{cond}
-use mathlib.Core.List.{List, [], _∷_, map}
-use lib.Dec.{eqb}
+use mathlib.Core.List.{List, [], _∷_}
 use lib.IntN.{ℤ, pos, negsuc}
 use lib.Signed.{leZ}
-use lib.ListN.{getD}
-use Rattle.numbers.specs.Lists.{upFrom}
 use Rattle.numbers.specs.Order.{atLeast}
-use Rattle.border.specs.Border.{Border, constant, along, extendedLane, extendedGrid}
+use Rattle.border.specs.Border.{Border, constant, along}
 use Rattle.border.specs.declared.Along.the-variants.{Nearest, Mirror, Reflect, Wrap}
 use Rattle.sweeps.specs.Call.{Call, firstIn, lastIn}
 use Rattle.sweeps.specs.Run.{run, numbers}
@@ -81,6 +77,8 @@ pub record SweepsRows : Type 0 where
   -- three cells, origin 0: mirror takes length 5 and refuses 7 with 11; reflect takes 7 and refuses 9
   pub pads : numbers leZ three (onThree 5 (along Mirror) (pos 0) ∷ onThree 7 (along Mirror) (pos 0) ∷ onThree 7 (along Reflect) (pos 0) ∷ onThree 9 (along Reflect) (pos 0) ∷ [])
       ≡ 0 ∷ 11 ∷ 0 ∷ 11 ∷ []
+  -- length 4 under mirror: pads 2 and 1 pass; pads 3 and 0 (origin 1) and pads 0 and 3 (origin −2) give 11
+  pub each-pad : numbers leZ three (onThree 4 (along Mirror) (pos 0) ∷ onThree 4 (along Mirror) (pos 1) ∷ onThree 4 (along Mirror) (negsuc 1) ∷ []) ≡ 0 ∷ 11 ∷ 11 ∷ []
   pub wrap-pads : numbers leZ three (onThree 7 (along Wrap) (pos 0) ∷ onThree 9 (along Wrap) (pos 0) ∷ []) ≡ 0 ∷ 11 ∷ []
   -- length 4, origin 1, cell 5: from 5 − 2 − 1 to 5 + 1 − 1
   pub window-from : firstIn (onThree 4 (along Nearest) (pos 1)) (pos 5) ≡ pos 2

@@ -43,6 +43,7 @@ returns c = record {
   alone-99 = refl;
   alone-copies = refl;
   pads = refl;
+  each-pad = refl;
   wrap-pads = refl;
   window-from = refl;
   window-to = refl;
