@@ -2,5 +2,6 @@
 pub mod Reach
 pub mod ByLanes
 pub mod OnePass
+pub mod EveryAxis
 pub mod OneLane
 pub mod EveryLane

@@ -1,13 +1,14 @@
-// The conditions of the one-axis forms, in rising order.
+// The conditions of the one-axis and the grid forms, in rising order.
 ghost use mathlib.Core.Path.{_≡_};
 ghost use mathlib.Core.Bool.{false, not, _&&_};
 ghost use mathlib.Core.List.{[]};
 ghost use lib.Dec.{eqb};
+ghost use Rattle.numbers.specs.Lists.{anyOf};
 ghost use Rattle.numbers.specs.Ranges.{outside};
 ghost use Rattle.numbers.specs.Refusal.{refusalOf};
 ghost use Rattle.border.specs.Modes.{borderOf};
 ghost use Rattle.sweeps.specs.Call.{windowJudged, callJudged};
-ghost use Rattle.min_max.specs.Filters.{badReach, windowOrigin, callOf};
+ghost use Rattle.min_max.specs.Filters.{badReach, windowOrigin, axesJudged, filterJudged, callOf};
 use border::BorderMode;
 use origin::Origin;
 
@@ -90,4 +91,58 @@ pub(crate) fn judge_call(
         return refusal;
     }
     judge_window(shape, size, axis, mode, origin)
+}
+
+// Condition 11 of a grid: a lane of some axis has it.
+fn bad_reach_any(mode: BorderMode, shape: &[usize], size: usize, origin: isize) -> bool
+    requires { ⌜ windowOrigin size origin ≡ false ⌝ }
+    ensures { λ r. ⌜ r ≡ (not (eqb size 1) && anyOf (badReach (borderOf mode) size origin) (now (shape .entry))) ⌝ }
+{
+    let mut a = 0;
+    while a < shape.len() {
+        let n = shape[a];
+        if bad_reach(mode, n, size, origin) {
+            return true;
+        }
+        a += 1;
+    }
+    false
+}
+
+// Conditions 5, 7, 9 and 11 of a window along every axis.
+fn judge_axes(shape: &[usize], size: usize, mode: BorderMode, origin: isize) -> u8
+    ensures { λ r. ⌜ r ≡ refusalOf (axesJudged (now (shape .entry)) size (borderOf mode) origin) ⌝ }
+{
+    if bad_size(size) {
+        return numbers::KERNEL;
+    }
+    if bad_window_origin(size, origin) {
+        return numbers::ORIGIN;
+    }
+    if border::bad_constant(mode) {
+        return numbers::CONSTANT;
+    }
+    if bad_reach_any(mode, shape, size, origin) {
+        return numbers::REACH;
+    }
+    numbers::ACCEPTED
+}
+
+// The conditions of a grid call whose output and second grid have out and second cells.
+pub(crate) fn judge_filter(
+    data: &[i64],
+    shape: &[usize],
+    size: usize,
+    mode: BorderMode,
+    origin: isize,
+    out: &[i64],
+    second: usize,
+) -> u8
+    ensures { λ r. ⌜ r ≡ refusalOf (filterJudged (now («data» .entry)) (callOf (now (shape .entry)) size 0 mode origin (now (out .entry))) second) ⌝ }
+{
+    let refusal = array::judge_grid(data, shape, out.len(), second);
+    if refusal != 0 {
+        return refusal;
+    }
+    judge_axes(shape, size, mode, origin)
 }

@@ -3,6 +3,7 @@
 use mathlib.Core.Path.{refl}
 use Rattle.numbers.specs.Lists.{tabulate}
 use Rattle.numbers.specs.Windows.{windowOf}
+use Rattle.array.specs.Conditions.{badShape, gridCount, badLevel}
 use Rattle.array.specs.Grid.{placeOf, coordinate}
 use Rattle.border.specs.Border.{cellFor, extendedLane}
 use Rattle.origin.specs.Origin.{badOrigin}
@@ -10,11 +11,12 @@ use Rattle.pad_line.specs.Line.{paddedAt, paddedLine}
 use Rattle.minlist.specs.Firsts.{firsts}
 use Rattle.sweeps.specs.Call.{firstIn}
 use Rattle.sweeps.specs.Run.{answerOf}
+use Rattle.min_max.specs.Filters.{filterAnswer}
 use Rattle.min_max.proofs.rows.Statement.{statement}
 use Rattle.min_max.proofs.rows.Tie as tie
 
 returns : tie.Need-returns
-unfolding tabulate windowOf placeOf coordinate cellFor extendedLane badOrigin paddedAt paddedLine firsts firstIn answerOf
+unfolding tabulate windowOf placeOf coordinate cellFor extendedLane badOrigin paddedAt paddedLine firsts firstIn answerOf filterAnswer badShape gridCount badLevel
 returns c = record {
   orders = refl;
   t4-minimum = refl;
@@ -27,6 +29,16 @@ returns c = record {
   origin-alone = refl;
   reaches = refl;
   reach-right = refl;
+  t5-minimum = refl;
+  t5-maximum = refl;
+  third-axis = refl;
+  second-short = refl;
+  accepted = refl;
+  size-66 = refl;
+  origin-1 = refl;
+  constant-out = refl;
+  reach-out = refl;
+  last-axis-out = refl;
 }
 
 pub rows-spec : {M : Type 1} → statement M

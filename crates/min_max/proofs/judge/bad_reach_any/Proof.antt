@@ -1,75 +1,3 @@
-// Grid forms of min_max, unfinished: the judge of every axis (bad_reach_any is proved below; judge_axes and judge_filter are as judge_window and judge_call).
-
-// Condition 11 of a grid: a lane of some axis has it.
-fn bad_reach_any(mode: BorderMode, shape: &[usize], size: usize, origin: isize) -> bool
-    requires { ⌜ windowOrigin size origin ≡ false ⌝ }
-    ensures { λ r. ⌜ r ≡ (not (eqb size 1) && anyOf (badReach (borderOf mode) size origin) (now (shape .entry))) ⌝ }
-{
-    let mut a = 0;
-    while a < shape.len() {
-        let n = shape[a];
-        if bad_reach(mode, n, size, origin) {
-            return true;
-        }
-        a += 1;
-    }
-    false
-}
-
-// Conditions 5, 7, 9 and 11 of a window along every axis.
-fn judge_axes(shape: &[usize], size: usize, mode: BorderMode, origin: isize) -> u8
-    ensures { λ r. ⌜ r ≡ refusalOf (axesJudged (now (shape .entry)) size (borderOf mode) origin) ⌝ }
-{
-    if bad_size(size) {
-        return numbers::KERNEL;
-    }
-    if bad_window_origin(size, origin) {
-        return numbers::ORIGIN;
-    }
-    if border::bad_constant(mode) {
-        return numbers::CONSTANT;
-    }
-    if bad_reach_any(mode, shape, size, origin) {
-        return numbers::REACH;
-    }
-    numbers::ACCEPTED
-}
-
-// The conditions of a grid call whose output and second grid have out and second cells.
-pub(crate) fn judge_filter(
-    data: &[i64],
-    shape: &[usize],
-    size: usize,
-    mode: BorderMode,
-    origin: isize,
-    out: &[i64],
-    second: usize,
-) -> u8
-    ensures { λ r. ⌜ r ≡ refusalOf (filterJudged (now («data» .entry)) (callOf (now (shape .entry)) size 0 mode origin (now (out .entry))) second) ⌝ }
-{
-    let refusal = array::judge_grid(data, shape, out.len(), second);
-    if refusal != 0 {
-        return refusal;
-    }
-    judge_axes(shape, size, mode, origin)
-}
-
--- ---- specs
-abbrev pub onAxis : Call → ℕ → Call
-onAxis c a = record { shape = c .shape; size = c .size; axis = a; border = c .border; origin = c .origin; out = c .out }
-
-unfoldable pub filterAnswer : (ℤ → ℤ → Bool) → Call → List ℤ → List ℤ
-filterAnswer le c cells = overAxes (λ a g. answerOf le g (onAxis c a)) 0 (length (c .shape)) cells
-
-abbrev pub axesJudged : List ℕ → ℕ → Border ℤ → ℤ → Judged
-axesJudged ns size b o =
-    (outside 1 65 size, 5) ∷ (windowOrigin size o, 7) ∷ (badConstantBy badLevel b, 9) ∷ (not (eqb size 1) && anyOf (badReach b size o) ns, 11) ∷ []
-
-abbrev pub filterJudged : List ℤ → Call → ℕ → Judged
-filterJudged cells c second =
-    gridJudged (c .shape) cells (length cells ∷ length (c .out) ∷ second ∷ []) ++ axesJudged (c .shape) (c .size) (c .border) (c .origin)
-
--- ---- proofs/judge/bad_reach_any/Proof.antt
 -- `min_max::judge::bad_reach_any` meets its contract: no axis before the one that the loop has reached refuses its pads.
 -- Assumes nothing.
 use borrow.Author.Needs.{needs}
@@ -82,7 +10,7 @@ use mir.Syntax.{w64}
 use mir.Val.{toZ, ofZ}
 use lib.Dec.{eqb}
 use lib.IntN.{ℤ}
-use lib.ListN.{length, drop, getD}
+use lib.ListN.{length, drop}
 use Rattle.numbers.proofs.Any.{any-hit, any-miss, any-end, any-and}
 use Rattle.border.specs.declared.BorderMode.{BorderMode}
 use Rattle.border.specs.Modes.{borderOf}
@@ -91,9 +19,6 @@ use denote.Ref.{now}
 use Rattle.numbers.specs.Lists.{anyOf}
 use Rattle.min_max.proofs.judge.bad_reach_any.Statement.{statement}
 use Rattle.min_max.proofs.judge.bad_reach_any.Tie as tie
-use Rattle.min_max.proofs.judge.bad_reach_any.Reads as reads
-use Rattle.min_max.proofs.judge.bad_reach_any.Lts as lts
-use Rattle.min_max.proofs.judge.bad_reach.Reads as bad-reach-reads
 
 -- condition 11 of a lane of n cells
 abbrev reach : BorderMode → ℕ → ℤ → ℕ → Bool

@@ -1,0 +1,108 @@
+-- An accepted grid call: each of its passes is an accepted one-axis call, and the passes, one after the other, are its answer.
+-- Assumes nothing.
+use mathlib.Core.Path.{_≡_, refl, sym, ap, _∙_}
+use mathlib.Core.Bool.{Bool, false, not, _&&_}
+use mathlib.Core.List.{List, [], _∷_}
+use Prim.Native.Nat.{ℕ, _<_}
+use borrow.Author.Tests.{eq-eqb, lt-ltb}
+use lib.Dec.{eqb}
+use lib.IntN.{ℤ}
+use lib.ListN.{length}
+use Rattle.numbers.specs.Lists.{anyOf}
+use Rattle.numbers.specs.Ranges.{outside}
+use Rattle.numbers.specs.Refusal.{refusalOf}
+use Rattle.numbers.proofs.Any.{any-none, every-at, any-and}
+use Rattle.numbers.proofs.Refusal.{judged-all}
+use Rattle.array.specs.Conditions.{badShape, badLength, badLevel, gridCount}
+use Rattle.array.specs.Grid.{lengthOf}
+use Rattle.array.proofs.Shapes.{length-judged}
+use Rattle.border.specs.declared.BorderMode.{BorderMode}
+use Rattle.border.specs.Modes.{borderOf, badConstantBy}
+use Rattle.lanes.specs.Axes.{overAxes}
+use Rattle.sweeps.specs.Call.{firstIn, numberOf}
+use Rattle.sweeps.specs.Run.{answerOf}
+use Rattle.sweeps.proofs.Passed.{length-answer, answer-in}
+use Rattle.min_max.specs.Filters.{callOf, windowOrigin, badReach, filterAnswer, filterJudged}
+
+module _ (cells : List ℤ) (ns : List ℕ) (size : ℕ) (m : BorderMode) (o : ℤ) (out : List ℤ) (second : ℕ) where
+  -- what an accepted grid call has passed
+  pub record Filtered : Type 0 where
+    pub shape : badShape ns ≡ false
+    pub input : length cells ≡ gridCount ns
+    pub output : length out ≡ gridCount ns
+    pub between : second ≡ gridCount ns
+    pub levels : anyOf badLevel cells ≡ false
+    pub sizes : outside 1 65 size ≡ false
+    pub origin : windowOrigin size o ≡ false
+    pub level : badConstantBy badLevel (borderOf m) ≡ false
+    pub reach : (not (eqb size 1) && anyOf (badReach (borderOf m) size o) ns) ≡ false
+
+  pub filtered : refusalOf (filterJudged cells (callOf ns size 0 m o out) second) ≡ 0 → Filtered
+  filtered e =
+      let p = judged-all (filterJudged cells (callOf ns size 0 m o out) second) (tt, (tt, (tt, (tt, (tt, (tt, (tt, tt))))))) e in
+      let q = any-none (badLength ns) (length cells ∷ length out ∷ second ∷ []) (p .1 .0) in
+      record {
+        shape = p .0;
+        input = length-judged ns (length cells) (q .0);
+        output = length-judged ns (length out) (q .1 .0);
+        between = length-judged ns second (q .1 .1 .0);
+        levels = p .1 .1 .0;
+        sizes = p .1 .1 .1 .0;
+        origin = p .1 .1 .1 .1 .0;
+        level = p .1 .1 .1 .1 .1 .0;
+        reach = p .1 .1 .1 .1 .1 .1 .0;
+      }
+
+  module _ (F : Filtered) where
+    -- a grid between two passes
+    pub record Between (g : List ℤ) : Type 0 where
+      pub count : length g ≡ gridCount ns
+      pub range : anyOf badLevel g ≡ false
+
+    pub between-input : Between cells
+    between-input = record { count = F .input; range = F .levels }
+
+    reach-at : (a : ℕ) → a < length ns → (not (eqb size 1) && badReach (borderOf m) size o (lengthOf ns a)) ≡ false
+    reach-at a h =
+        every-at (λ n. (not (eqb size 1) && badReach (borderOf m) size o n) ≡ false) ns 1
+        (any-none (λ n. not (eqb size 1) && badReach (borderOf m) size o n) ns (any-and (not (eqb size 1)) (badReach (borderOf m) size o) ns ∙ F .reach)) a h
+
+    -- a pass along any axis of the grid is accepted
+    pub pass-accepted : {g : List ℤ} (held : List ℤ) (a : ℕ) → Between g → length held ≡ gridCount ns → a < length ns → numberOf g (callOf ns size a m o held) ≡ 0
+    unfolding numberOf
+    pass-accepted {g} held a B e h =
+        simp (F .shape, eq-eqb (length g) (gridCount ns) (B .count), eq-eqb (length held) (gridCount ns) e, B .range, F .sizes, F .origin, lt-ltb a (length ns) h, F .level, reach-at a h) refl
+
+    pub between-pass : (le : ℤ → ℤ → Bool) {g : List ℤ} (held : List ℤ) (a : ℕ) → Between g → {new : List ℤ} → new ≡ answerOf le g (callOf ns size a m o held) → Between new
+    between-pass le {g} held a B e = record {
+      count = ap length e ∙ length-answer le g (callOf ns size a m o held) ∙ B .count;
+      range = ap (anyOf badLevel) e ∙ answer-in le g (callOf ns size a m o held) (F .level) (B .range);
+    }
+
+-- the grid that a pass is lent is not read
+pub answer-held : (le : ℤ → ℤ → Bool) (g : List ℤ) (ns : List ℕ) (size a : ℕ) (m : BorderMode) (o : ℤ) (held held′ : List ℤ) → answerOf le g (callOf ns size a m o held) ≡ answerOf le g (callOf ns size a m o held′)
+unfolding answerOf firstIn
+answer-held le g ns size a m o held held′ = refl
+
+-- ---- one, two and three passes; h, k and l are the grids that they are lent
+module _ (le : ℤ → ℤ → Bool) (cells : List ℤ) (ns : List ℕ) (size : ℕ) (m : BorderMode) (o : ℤ) (out : List ℤ) where
+  step : ℕ → List ℤ → List ℤ
+  step a g = answerOf le g (callOf ns size a m o out)
+
+  whole : (n : ℕ) → length ns ≡ n → overAxes step 0 n cells ≡ filterAnswer le (callOf ns size 0 m o out) cells
+  unfolding filterAnswer step
+  whole n e = sym (ap (λ x. overAxes step 0 x cells) e)
+
+  made : {x g g′ : List ℤ} (a : ℕ) (h : List ℤ) → g ≡ g′ → x ≡ answerOf le g (callOf ns size a m o h) → x ≡ step a g′
+  unfolding step
+  made {x} {g} {g′} a h p e = e ∙ answer-held le g ns size a m o h out ∙ ap (step a) p
+
+  pub one-pass : {x : List ℤ} (h : List ℤ) → length ns ≡ 1 → x ≡ answerOf le cells (callOf ns size 0 m o h) → x ≡ filterAnswer le (callOf ns size 0 m o out) cells
+  one-pass h n e = made 0 h refl e ∙ whole 1 n
+
+  pub two-passes : {x y : List ℤ} (h k : List ℤ) → length ns ≡ 2 → x ≡ answerOf le cells (callOf ns size 0 m o h) → y ≡ answerOf le x (callOf ns size 1 m o k) → y ≡ filterAnswer le (callOf ns size 0 m o out) cells
+  two-passes h k n e f = made 1 k (made 0 h refl e) f ∙ whole 2 n
+
+  pub three-passes : {x y z : List ℤ} (h k l : List ℤ) → length ns ≡ 3 → x ≡ answerOf le cells (callOf ns size 0 m o h) → y ≡ answerOf le x (callOf ns size 1 m o k) → z ≡ answerOf le y (callOf ns size 2 m o l)
+      → z ≡ filterAnswer le (callOf ns size 0 m o out) cells
+  three-passes h k l n e f g = made 2 l (made 1 k (made 0 h refl e) f) g ∙ whole 3 n

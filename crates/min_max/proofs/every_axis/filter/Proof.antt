@@ -1,0 +1,65 @@
+-- `min_max::every_axis::filter` meets its contract: refused by the judge's number, or the passes' answer, and the second grid cleared.
+-- Assumes nothing.
+use mathlib.Core.Path.{_≡_, ap, _∙_}
+use denote.Ref.{now}
+use mir.Syntax.{w64}
+use mir.Val.{toZ, ofZ}
+use lib.IntN.{ℤ, pos}
+use lib.ListN.{length, replicate}
+use Prim.Native.Nat.{ℕ}
+use Rattle.numbers.specs.Refusal.{refusalOf}
+use Rattle.numbers.proofs.Refusal.{answers-refused, answers-accepted}
+use Rattle.min_max.specs.Filters.{orderOf, callOf, filterAnswer, filterJudged}
+use borrow.Author.Needs.{needs}
+use Rattle.min_max.proofs.every_axis.filter.Statement.{statement}
+use Rattle.min_max.proofs.every_axis.filter.Tie as tie
+
+-- the judge's number
+judged : (c : tie.After-judge-filter) → let a = c .before .before .before .args in c .judge-filter .result ≡ refusalOf (filterJudged (now (a .«data»)) (callOf (now (a .shape)) (a .size) 0 (a .mode) (a .origin) (now (a .out))) (length (now (a .second))))
+judged c =
+    let a = c .before .before .before .args in
+    let e : toZ w64 (ofZ w64 (a .origin)) ≡ a .origin = search needs in
+    c .judge-filter .ensures ∙ ap (λ (o : ℤ). refusalOf (filterJudged (now (a .«data»)) (callOf (now (a .shape)) (a .size) 0 (a .mode) o (now (a .out))) (length (now (a .second))))) e
+
+judge-filter-requires : tie.Need-judge-filter-requires
+judge-filter-requires c κs = search needs
+
+same-length : tie.Need-same-length
+same-length c = search needs
+
+returns : tie.Need-returns
+returns c = record { filled = answers-refused _ _ _ _ (judged (c .before)) (c .if1 .taken); cleared = answers-refused _ _ _ _ (judged (c .before)) (c .if1 .taken) }
+
+passes-requires : tie.Need-passes-requires
+passes-requires c κs = search needs
+
+fill-requires : tie.Need-fill-requires
+fill-requires c κs = search needs
+
+same-length-2 : tie.Need-same-length-2
+same-length-2 c = search needs
+
+same-length-3 : tie.Need-same-length-3
+same-length-3 c = search needs
+
+returns-2 : tie.Need-returns-2
+returns-2 c = let a = c .before .before .before .before .before .before .before .before .before .before .before .before .args in
+    let e : toZ w64 (ofZ w64 (a .origin)) ≡ a .origin = search needs in
+    let p = c .before .before .before .before .before .passes in
+    record {
+      filled = answers-accepted _ _ _ _ (judged (c .before .before .before .before .before .before .before .before .before)) (c .before .before .before .before .before .before .before .before .if1 .left) (p .ensures ∙ ap (λ (o : ℤ). filterAnswer (orderOf (a .extreme)) (callOf (now (a .shape)) (a .size) 0 (a .mode) o (now (a .out))) (now (a .«data»))) e);
+      cleared = answers-accepted _ _ _ _ (judged (c .before .before .before .before .before .before .before .before .before)) (c .before .before .before .before .before .before .before .before .if1 .left) (c .before .fill .ensures ∙ ap (λ (n : ℕ). replicate n (pos 0)) (p .kept .1 .1 .1 .1 .1 .1 .0));
+    }
+
+pub filter-spec : {M : Type 1} → statement M
+filter-spec =
+    tie.close
+    (tie.spec
+    judge-filter-requires
+    same-length
+    returns
+    passes-requires
+    fill-requires
+    same-length-2
+    same-length-3
+    returns-2)

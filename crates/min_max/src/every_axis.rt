@@ -1,0 +1,114 @@
+// The grid forms: one pass for each axis, in rising order, between the output and a second grid.
+ghost use mathlib.Core.Path.{_≡_};
+ghost use lib.ListN.{length};
+ghost use lib.Signed.{leZ};
+ghost use Rattle.numbers.specs.Order.{atLeast};
+ghost use Rattle.numbers.specs.Refusal.{refusalOf};
+ghost use Rattle.min_max.specs.Filters.{orderOf, callOf, filterAnswer, filterJudged, FilterAnswers};
+use crate::Extreme;
+use crate::judge;
+use crate::one_axis;
+use border::BorderMode;
+
+// Fills out with the answer of an accepted grid call; second holds what a pass between leaves.
+fn passes(
+    extreme: Extreme,
+    data: &[i64],
+    shape: &[usize],
+    size: usize,
+    mode: BorderMode,
+    origin: isize,
+    second: &mut [i64],
+    out: &mut [i64],
+)
+    requires { ⌜ refusalOf (filterJudged (now «data») (callOf (now shape) size 0 mode origin (now out)) (length (now second))) ≡ 0 ⌝ }
+    ensures { λ _. ⌜ now (out .exit) ≡ filterAnswer (orderOf extreme) (callOf (now (shape .entry)) size 0 mode origin (now (out .entry))) (now («data» .entry)) ⌝ }
+{
+    let axes = shape.len();
+    if axes == 1 {
+        one_axis::pass(extreme, data, shape, size, 0, mode, origin, out);
+        return;
+    }
+    if axes == 2 {
+        one_axis::pass(extreme, data, shape, size, 0, mode, origin, second);
+        one_axis::pass(extreme, second, shape, size, 1, mode, origin, out);
+        return;
+    }
+    one_axis::pass(extreme, data, shape, size, 0, mode, origin, out);
+    one_axis::pass(extreme, out, shape, size, 1, mode, origin, second);
+    one_axis::pass(extreme, second, shape, size, 2, mode, origin, out);
+}
+
+// Judges a grid call, and fills out where it is accepted; second then holds zeros.
+fn filter(
+    extreme: Extreme,
+    data: &[i64],
+    shape: &[usize],
+    size: usize,
+    mode: BorderMode,
+    origin: isize,
+    second: &mut [i64],
+    out: &mut [i64],
+) -> u8
+    ensures { λ r. ⌜ FilterAnswers (orderOf extreme) (now («data» .entry)) (callOf (now (shape .entry)) size 0 mode origin (now (out .entry))) (now (second .entry)) r (now (second .exit)) (now (out .exit)) ⌝ }
+{
+    let refusal = judge::judge_filter(data, shape, size, mode, origin, out, second.len());
+    if refusal != 0 {
+        return refusal;
+    }
+    passes(extreme, data, shape, size, mode, origin, second, out);
+    array::fill(second, 0);
+    numbers::ACCEPTED
+}
+
+// Fills each cell of out with the least level of its box: the minimum along every axis, in rising order; SciPy's minimum_filter.
+//
+// * `data` - the cells of the grid, in row-major order.
+// * `shape` - the length of each axis.
+// * `size` - the length of the window on every axis; with 1 no origin is read and nothing is padded.
+// * `mode` - the border.
+// * `origin` - moves the window on every axis: that of cell i starts at i - size / 2 - origin.
+// * `second` - a second grid as long as data, for what a pass leaves to the next; an accepted call leaves zeros in it.
+// * `out` - as long as data.
+//
+// Returns 0, or the lowest number of a condition that holds: 1 (shape), 2 (a length), 3 (a level), 5 (size), 7 (origin),
+// 9 (constant) or 11 (the border cannot fill a pad of some axis). A refused call leaves both lent grids as they were.
+// The rows 5 3 / 4 9 with size 2 under Constant(0) and origin 0 give 0 0 / 0 3.
+pub fn minimum_filter(
+    data: &[i64],
+    shape: &[usize],
+    size: usize,
+    mode: BorderMode,
+    origin: isize,
+    second: &mut [i64],
+    out: &mut [i64],
+) -> u8
+    ensures { λ r. ⌜ FilterAnswers leZ (now («data» .entry)) (callOf (now (shape .entry)) size 0 mode origin (now (out .entry))) (now (second .entry)) r (now (second .exit)) (now (out .exit)) ⌝ }
+{
+    filter(Extreme::Least, data, shape, size, mode, origin, second, out)
+}
+
+// As `minimum_filter`, with the greatest level; SciPy's maximum_filter.
+// The rows 5 3 / 4 9 with size 2 under Constant(0) and origin 0 give 5 5 / 5 9.
+pub fn maximum_filter(
+    data: &[i64],
+    shape: &[usize],
+    size: usize,
+    mode: BorderMode,
+    origin: isize,
+    second: &mut [i64],
+    out: &mut [i64],
+) -> u8
+    ensures { λ r. ⌜ FilterAnswers atLeast (now («data» .entry)) (callOf (now (shape .entry)) size 0 mode origin (now (out .entry))) (now (second .entry)) r (now (second .exit)) (now (out .exit)) ⌝ }
+{
+    filter(
+        Extreme::Greatest,
+        data,
+        shape,
+        size,
+        mode,
+        origin,
+        second,
+        out,
+    )
+}
