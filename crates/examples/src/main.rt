@@ -1,9 +1,10 @@
-// The numeric examples of the public comments of the crates below the filters, run and printed; `stdout` beside src/ has what they must be.
+// The numeric examples of the public comments, run and printed; `stdout` beside src/ has what they must be.
 // The theorems of worked rows and the rule on the order of axes are called here too, so that no crate can drop its own unnoticed.
 mod arrays;
 mod averages;
 mod borders;
 mod extremes;
+mod filters;
 mod kernels;
 mod padded;
 mod print;
@@ -21,6 +22,7 @@ fn rows() {
     statistics::rows();
     sweeps::rows();
     sweeps::order_of_axes();
+    min_max::rows();
 }
 
 fn main() {
@@ -43,4 +45,9 @@ fn main() {
     averages::extremes();
     averages::means();
     averages::medians();
+    filters::one_axis();
+    filters::t4();
+    filters::limits();
+    filters::both_orders();
+    filters::every_axis();
 }
