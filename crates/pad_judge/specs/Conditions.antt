@@ -28,7 +28,7 @@ use Rattle.statistics.specs.Statistics.{ranked}
 use Rattle.pad_axis.specs.Fill.{rimOf}
 use Rattle.pad_judge.specs.Levels.{ownCells}
 use Rattle.pad_judge.specs.Pads.{pairOf, leftsOf, rightsOf, paddedShape, middleFrom}
-use Rattle.pad_judge.specs.declared.Pair.{Pair}
+use Rattle.pad_judge.specs.declared.pads.Pair.{Pair}
 
 abbrev pub badConstant : PadMode → Bool
 badConstant (Constant c) = badLevel c

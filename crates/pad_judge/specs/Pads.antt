@@ -12,7 +12,7 @@ use lib.Dec.{leb, ltb, eqb}
 use lib.ListN.{length, getD}
 use Rattle.numbers.specs.Lists.{tabulate}
 use Rattle.array.specs.Grid.{lengthOf}
-use Rattle.pad_judge.specs.declared.Pair.{Pair}
+use Rattle.pad_judge.specs.declared.pads.Pair.{Pair}
 
 abbrev pub pairOf : List Pair → ℕ → ℕ → Pair
 pairOf pads count a = getD pads (cond (eqb count 1) 0 a) (record { left = 0; right = 0 })

@@ -16,7 +16,7 @@ use Rattle.border.specs.declared.PadMode.the-variants.{Constant, Edge, Maximum,
 use Rattle.pad_judge.specs.Conditions.{padJudged}
 use Rattle.pad_judge.specs.Levels.{paddedGrid, paddedOver}
 use Rattle.pad_judge.specs.Pads.{leftsOf, rightsOf}
-use Rattle.pad_judge.specs.declared.Pair.{Pair}
+use Rattle.pad_judge.specs.declared.pads.Pair.{Pair}
 
 abbrev pub pair : ℕ → ℕ → Pair
 pair l r = record { left = l; right = r }

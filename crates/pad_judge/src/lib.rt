@@ -1,11 +1,12 @@
 // The pads of a grid and the conditions of padding: what `pad` and `pad_to` refuse, judged before anything is stored.
 ghost use Rattle.pad_judge.specs.Rows.{PadRows};
 
-// The pads of an axis: how many cells are padded before it and after it.
-pub struct Pair {
-    pub left: usize,
-    pub right: usize,
-}
+mod judge;
+mod pads;
+
+pub use judge::judge;
+pub use pads::Pair;
+pub use pads::pair_of;
 
 // Worked rows of this crate's definitions: T1, T10, corners under each mode, rims that stay, and refusals at their limits. Refuses nothing.
 pub fn rows()

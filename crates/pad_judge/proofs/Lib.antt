@@ -1,0 +1,3 @@
+-- Laws of pads and of padded levels that belong to no one function.
+pub mod Pairs
+pub mod Sizes
