@@ -175,7 +175,16 @@ pub fn fill_lane(
         border::PadMode::Median => fill_statistic(Statistic::Median, base, p, s, l, left, n, out),
         border::PadMode::Minimum => fill_statistic(Statistic::Minimum, base, p, s, l, left, n, out),
         border::PadMode::Reflect => fill_along(border::Along::Mirror, base, p, s, l, left, n, out),
-        border::PadMode::Symmetric => fill_along(border::Along::Reflect, base, p, s, l, left, n, out),
+        border::PadMode::Symmetric => fill_along(
+            border::Along::Reflect,
+            base,
+            p,
+            s,
+            l,
+            left,
+            n,
+            out,
+        ),
         border::PadMode::Wrap => fill_along(border::Along::Wrap, base, p, s, l, left, n, out),
     }
 }

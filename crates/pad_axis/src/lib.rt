@@ -3,9 +3,7 @@ ghost use Rattle.pad_axis.specs.Rows.{PadAxisRows};
 
 mod fill;
 mod lane;
-
 mod reach;
-
 
 pub use lane::fill_lane;
 pub use reach::bad_pad;

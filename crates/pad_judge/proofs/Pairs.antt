@@ -4,9 +4,9 @@ use mathlib.Core.Path.{_≡_, refl, sym, ap, _∙_}
 use mathlib.Core.Bool.{Bool, true, false, _||_, not, cond, true≢false}
 use mathlib.Core.Logic.{_⊎_, inl, inr}
 use mathlib.Core.List.{List, [], _∷_}
-use Prim.Native.Nat.{ℕ, zero, suc, _+_, _≤_, _<_}
+use Prim.Native.Nat.{ℕ, zero, suc, _+_, _*_, _≤_, _<_}
 use native.Mathlib.Omega.{arith}
-use borrow.Author.Tests.{le-ltb, eq-eqb, ne-eqb, eqb-true, eqb-false, ltb-false}
+use borrow.Author.Tests.{le-ltb, eq-eqb, ne-eqb, eqb-true, eqb-false, ltb-true, ltb-false}
 use lib.Dec.{ltb, eqb}
 use lib.ListN.{length, getD, take, drop, List·getD-eq-default}
 use lib.Seq.{getD-take, length-take-le}
@@ -14,11 +14,13 @@ use Rattle.numbers.specs.Lists.{tabulate, anyOf}
 use Rattle.numbers.proofs.Any.{any-hit, any-miss, any-end, any-none, every-at}
 use Rattle.numbers.proofs.Tests.{or-false}
 use Rattle.numbers.proofs.Tabulate.{length-tabulate, getD-tabulate}
+use Rattle.array.specs.Conditions.{badShape}
 use Rattle.array.specs.Grid.{lengthOf}
+use Rattle.array.proofs.Shapes.{shape-accepted, count-three}
 use Rattle.border.specs.declared.PadMode.{PadMode}
 use Rattle.pad_line.specs.Line.{badPad}
 use Rattle.pad_axis.specs.Fill.{rimOf}
-use Rattle.pad_judge.specs.Conditions.{badCount, overPad, badReachOn}
+use Rattle.pad_judge.specs.Conditions.{badCount, overPad, paddedCount, badReachOn}
 use Rattle.pad_judge.specs.Pads.{pairOf, leftsOf, rightsOf, paddedShape}
 use Rattle.pad_judge.specs.declared.pads.Pair.{Pair}
 
@@ -130,3 +132,24 @@ module _ (ns : List ℕ) (pads : List Pair) (count a : ℕ) where
 
   pub padded-missing : length ns ≤ a → 1 ≡ lengthOf (paddedShape ns (leftsOf ns pads count) (rightsOf ns pads count)) a
   padded-missing h = sym (List·getD-eq-default (paddedShape ns (leftsOf ns pads count) (rightsOf ns pads count)) 1 (omega (arith, length-tabulate (λ k. getD (leftsOf ns pads count) k 0 + lengthOf ns k + getD (rightsOf ns pads count) k 0) 0 (length ns))))
+
+-- ---- the padded count, from three padded lengths
+module _ (ns : List ℕ) (pads : List Pair) (count : ℕ) (shape : badShape ns ≡ false) (three : length pads ≡ 3) (c : badCount ns count ≡ false) (o : anyOf overPad (take count pads) ≡ false) where
+  pub pair-asked : (a : ℕ) → (lengthOf ns a ≤ 1024) × (a < length ns → overPad (pairOf pads count a) ≡ false)
+  pair-asked a = let A = shape-accepted ns shape in (A .short a, pair-small ns pads count three (A .few) c o a)
+
+  pub padded-short : (a : ℕ) {n : ℕ} → n ≡ lengthOf (paddedShape ns (leftsOf ns pads count) (rightsOf ns pads count)) a → n ≤ 1152
+  padded-short a {n} e = go (ltb a (length ns)) refl
+    where
+      go : (t : Bool) → ltb a (length ns) ≡ t → n ≤ 1152
+      go true q =
+          let h = ltb-true a (length ns) q in
+          omega (arith, pad-limits (pairOf pads count a) (pair-asked a .1 h) .0, pad-limits (pairOf pads count a) (pair-asked a .1 h) .1, pair-asked a .0, padded-length ns pads count a h)
+      go false q = omega (arith, padded-missing ns pads count a (ltb-false a (length ns) q))
+
+  pub padded-three : {x y z r : ℕ} → x ≡ lengthOf (paddedShape ns (leftsOf ns pads count) (rightsOf ns pads count)) 0 → y ≡ lengthOf (paddedShape ns (leftsOf ns pads count) (rightsOf ns pads count)) 1
+      → z ≡ lengthOf (paddedShape ns (leftsOf ns pads count) (rightsOf ns pads count)) 2 → r ≡ x * (y * z) → r ≡ paddedCount ns pads count
+  padded-three e f g h =
+      let A = shape-accepted ns shape in
+      let m = length-tabulate (λ k. getD (leftsOf ns pads count) k 0 + lengthOf ns k + getD (rightsOf ns pads count) k 0) 0 (length ns) in
+      h ∙ (λ j. e j * (f j * g j)) ∙ sym (count-three (paddedShape ns (leftsOf ns pads count) (rightsOf ns pads count)) (omega (arith, m, A .some)) (omega (arith, m, A .few)))

@@ -4,23 +4,25 @@
 --   overPad p                     10: a pad over 64
 --   paddedCount ns pads count     the number of cells of the padded grid
 --   badPads ns pads count out     10: a bad count, a pad over 64 among the pairs that count, over 32,768 padded cells, or an output of another length
+--   badReachOn mode ns pads count a   11 of axis a
 --   badReach mode ns pads count   11: on some axis a pad over n − 1 under Reflect, over n under Symmetric and Wrap
+--   beyond z                      a whole number outside signed 64 bits
 --   badSum mode s                 a sum outside signed 64 bits: under Mean of the cells of s, under Median of an even number the two middle levels'
 --   badSums mode ns pads count cells    12: such a sum of a lane that is summed, one whose coordinates on all later axes are in the middle
---   padJudged mode ns pads count cells out    what both calls refuse, in rising order; out is the output's length
+--   padsJudged mode ns pads count cells out   conditions 9 to 12, in rising order; out is the output's length
+--   padJudged mode ns pads count cells out    what both calls refuse, in rising order
 use Prim.Native.Nat.{ℕ, suc, _-_, _/_, _%_, _^_}
 use mathlib.Core.Bool.{Bool, false, not, _||_, _&&_}
 use mathlib.Core.List.{List, [], _∷_, _++_}
 use lib.Dec.{ltb, eqb}
 use lib.IntN.{ℤ, pos, negℤ, _+ℤ_}
-use lib.ListN.{length, getD, take}
+use lib.ListN.{length, take}
 use Rattle.numbers.specs.Lists.{tabulate, anyOf}
 use Rattle.numbers.specs.Ranges.{outsideZ}
 use Rattle.numbers.specs.Refusal.{Judged}
 use Rattle.numbers.specs.Sums.{sumOf}
 use Rattle.array.specs.Conditions.{badLevel, gridJudged}
 use Rattle.array.specs.Grid.{cellCount, lengthOf, coordinate}
-use Rattle.border.specs.Modes.{badConstantBy}
 use Rattle.border.specs.declared.PadMode.{PadMode}
 use Rattle.border.specs.declared.PadMode.the-variants.{Constant, Edge, Maximum, Mean, Median, Minimum, Reflect, Symmetric, Wrap}
 use Rattle.pad_line.specs.Line.{badPad}
@@ -83,7 +85,9 @@ badSums mode ns pads count cells =
     (tabulate (λ k. k) 0 (cellCount ps)))
     (tabulate (λ a. a) 0 (length ns))
 
+abbrev pub padsJudged : PadMode → List ℕ → List Pair → ℕ → List ℤ → ℕ → Judged
+padsJudged mode ns pads count cells out =
+    (badConstant mode, 9) ∷ (badPads ns pads count out, 10) ∷ (badReach mode ns pads count, 11) ∷ (badSums mode ns pads count cells, 12) ∷ []
+
 abbrev pub padJudged : PadMode → List ℕ → List Pair → ℕ → List ℤ → ℕ → Judged
-padJudged mode ns pads count cells out =
-    gridJudged ns cells (length cells ∷ [])
-    ++ ((badConstant mode, 9) ∷ (badPads ns pads count out, 10) ∷ (badReach mode ns pads count, 11) ∷ (badSums mode ns pads count cells, 12) ∷ [])
+padJudged mode ns pads count cells out = gridJudged ns cells (length cells ∷ []) ++ padsJudged mode ns pads count cells out

@@ -1,10 +1,10 @@
 // The pads of a grid and the conditions of padding: what `pad` and `pad_to` refuse, judged before anything is stored.
 ghost use Rattle.pad_judge.specs.Rows.{PadRows};
 
-mod judge;
+mod judging;
 mod pads;
 
-pub use judge::judge;
+pub use judging::judge;
 pub use pads::Pair;
 pub use pads::pair_of;
 

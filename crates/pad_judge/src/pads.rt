@@ -100,7 +100,13 @@ pub fn over_pads(pads: [Pair; 3], count: usize) -> bool
 }
 
 // Condition 11 of an axis.
-pub fn bad_reach_on(mode: border::PadMode, shape: &[usize], pads: [Pair; 3], count: usize, axis: usize) -> bool
+pub fn bad_reach_on(
+    mode: border::PadMode,
+    shape: &[usize],
+    pads: [Pair; 3],
+    count: usize,
+    axis: usize,
+) -> bool
     ensures { λ r. ⌜ r ≡ badReachOn mode (now (shape .entry)) pads count axis ⌝ }
 {
     let n = array::len_of(shape, axis);
