@@ -1,0 +1,2 @@
+-- Laws of padded grids that belong to no one function.
+pub mod Levels

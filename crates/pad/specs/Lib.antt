@@ -1,0 +1,1 @@
+-- The definitions of padding stand in pad_axis and pad_judge.
