@@ -1,7 +1,6 @@
 // Padding a lane of a grid in place: its own cells, in the middle of the lane, are extended to both ends of it.
 ghost use Rattle.pad_axis.specs.Rows.{PadAxisRows};
 
-mod fill;
 mod lane;
 mod reach;
 

@@ -1,13 +1,14 @@
-// The pads of a grid, and conditions 9, 10 and 11 on them.
+// The pads of a grid, conditions 9, 10 and 11 on them, and the judge of `pad` and `pad_to`.
 ghost use mathlib.Core.Path.{_≡_};
 ghost use mathlib.Core.Bool.{false, _||_};
 ghost use mathlib.Core.List.{[]};
 ghost use Prim.Native.Nat.{_*_, _≤_, _<_};
 ghost use lib.ListN.{length, take};
 ghost use Rattle.numbers.specs.Lists.{anyOf};
+ghost use Rattle.numbers.specs.Refusal.{refusalOf};
 ghost use Rattle.array.specs.Conditions.{badShape};
 ghost use Rattle.array.specs.Grid.{lengthOf};
-ghost use Rattle.pad_judge.specs.Conditions.{badConstant, badCount, overPad, paddedCount, badPads, badReachOn, badReach};
+ghost use Rattle.pad_judge.specs.Conditions.{badConstant, badCount, overPad, paddedCount, badPads, badReachOn, badReach, padJudged};
 ghost use Rattle.pad_judge.specs.Pads.{pairOf, leftsOf, rightsOf, paddedShape};
 
 // The pads of an axis: how many cells are padded before it and after it.
@@ -41,7 +42,7 @@ pub fn pair_of(pads: [Pair; 3], count: usize, axis: usize) -> Pair
 }
 
 // Condition 9: whether mode carries a level that condition 3 would refuse.
-pub fn bad_constant(mode: border::PadMode) -> bool
+fn bad_constant(mode: border::PadMode) -> bool
     ensures { λ r. ⌜ r ≡ badConstant mode ⌝ }
 {
     match mode {
@@ -58,7 +59,7 @@ pub fn bad_constant(mode: border::PadMode) -> bool
 }
 
 // Condition 10 of the count: neither 1 nor the axis count.
-pub fn bad_count(shape: &[usize], count: usize) -> bool
+fn bad_count(shape: &[usize], count: usize) -> bool
     ensures { λ r. ⌜ r ≡ badCount (now (shape .entry)) count ⌝ }
 {
     if count == 1 {
@@ -68,7 +69,7 @@ pub fn bad_count(shape: &[usize], count: usize) -> bool
 }
 
 // Condition 10 of one pair: a pad over 64.
-pub fn over_pad(p: Pair) -> bool
+fn over_pad(p: Pair) -> bool
     ensures { λ r. ⌜ r ≡ overPad p ⌝ }
 {
     if 64 < p.left {
@@ -78,7 +79,7 @@ pub fn over_pad(p: Pair) -> bool
 }
 
 // Condition 10 of the pairs that count: a pad over 64.
-pub fn over_pads(pads: [Pair; 3], count: usize) -> bool
+fn over_pads(pads: [Pair; 3], count: usize) -> bool
     ensures { λ r. ⌜ r ≡ anyOf overPad (take count pads) ⌝ }
 {
     if count < 1 {
@@ -100,7 +101,7 @@ pub fn over_pads(pads: [Pair; 3], count: usize) -> bool
 }
 
 // Condition 11 of an axis.
-pub fn bad_reach_on(
+fn bad_reach_on(
     mode: border::PadMode,
     shape: &[usize],
     pads: [Pair; 3],
@@ -118,7 +119,7 @@ pub fn bad_reach_on(
 }
 
 // Condition 11: on some axis a pad that the mode cannot fill.
-pub fn bad_reach(mode: border::PadMode, shape: &[usize], pads: [Pair; 3], count: usize) -> bool
+fn bad_reach(mode: border::PadMode, shape: &[usize], pads: [Pair; 3], count: usize) -> bool
     ensures { λ r. ⌜ r ≡ badReach mode (now (shape .entry)) pads count ⌝ }
 {
     let mut a = 0;
@@ -163,7 +164,7 @@ fn padded_cells(shape: &[usize], pads: [Pair; 3], count: usize) -> usize
 }
 
 // Condition 10 of an accepted shape: a bad count, a pad over 64, over 32,768 padded cells, or an output of another length.
-pub fn bad_pads(shape: &[usize], pads: [Pair; 3], count: usize, out: usize) -> bool
+fn bad_pads(shape: &[usize], pads: [Pair; 3], count: usize, out: usize) -> bool
     requires { ⌜ badShape (now shape) ≡ false ⌝ }
     ensures { λ r. ⌜ r ≡ badPads (now (shape .entry)) pads count out ⌝ }
 {
@@ -178,4 +179,40 @@ pub fn bad_pads(shape: &[usize], pads: [Pair; 3], count: usize, out: usize) -> b
         return true;
     }
     out != cells
+}
+
+// What `pad` and `pad_to` refuse, in rising order: the number of the first condition that holds, or 0.
+//
+// * `data` - the cells of the grid.
+// * `shape` - the length of each axis.
+// * `pads`, `count` - the pairs of pads, and how many of them count: one for all axes, or one for each.
+// * `mode` - the padding mode.
+// * `out` - the length of the lent output.
+//
+// Refuses: 1, 2, 3, 9, 10, 11. 12 never occurs: no sum of accepted levels leaves 64 bits.
+// Three cells with a pad of 3 under Reflect give 11.
+pub fn judge(
+    data: &[i64],
+    shape: &[usize],
+    pads: [Pair; 3],
+    count: usize,
+    mode: border::PadMode,
+    out: usize,
+) -> u8
+    ensures { λ r. ⌜ r ≡ refusalOf (padJudged mode (now (shape .entry)) pads count (now («data» .entry)) out) ⌝ }
+{
+    let refusal = array::judge_grid(data, shape, data.len(), data.len());
+    if refusal != 0 {
+        return refusal;
+    }
+    if bad_constant(mode) {
+        return numbers::CONSTANT;
+    }
+    if bad_pads(shape, pads, count, out) {
+        return numbers::PADS;
+    }
+    if bad_reach(mode, shape, pads, count) {
+        return numbers::REACH;
+    }
+    numbers::ACCEPTED
 }

@@ -1,4 +1,4 @@
--- `pad_axis::fill::fill_along` meets its contract: each turn copies the cell of the lane that belongs at its place; the lane's own cells are never changed, and condition 11 keeps the cell among them.
+-- `pad_axis::lane::fill_along` meets its contract: each turn copies the cell of the lane that belongs at its place; the lane's own cells are never changed, and condition 11 keeps the cell among them.
 -- Assumes nothing.
 use mathlib.Core.Path.{_≡_, refl, _∙_}
 use mathlib.Core.Bool.{true}
@@ -12,8 +12,8 @@ use Rattle.lanes.specs.Lanes.{laneInside}
 use Rattle.border.specs.Border.{along}
 use Rattle.pad_line.proofs.Reach.{cell-before-in, cell-after-in}
 use Rattle.pad_axis.proofs.Rims.{Filled, filled-none, cell-in, inside-kept, before-more, after-more, filled-again, filled-joined, filled-all}
-use Rattle.pad_axis.proofs.fill.fill_along.Statement.{statement}
-use Rattle.pad_axis.proofs.fill.fill_along.Tie as tie
+use Rattle.pad_axis.proofs.lane.fill_along.Statement.{statement}
+use Rattle.pad_axis.proofs.lane.fill_along.Tie as tie
 
 abbrev Inv-loop : tie.InvT-loop
 Inv-loop mode base p s l left n out₀ k₀ out k = (k ≤ left) × Filled (pos 0) (along mode) p s l left n out₀ out k

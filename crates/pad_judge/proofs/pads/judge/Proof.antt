@@ -1,4 +1,4 @@
--- `pad_judge::judging::judge` meets its contract: each return has the answers of the conditions on its way, and condition 12 never holds.
+-- `pad_judge::pads::judge` meets its contract: each return has the answers of the conditions on its way, and condition 12 never holds.
 -- Assumes nothing.
 use denote.Ref.{now}
 use lib.ListN.{length}
@@ -7,10 +7,10 @@ use Rattle.pad_judge.specs.Conditions.{padsJudged}
 use Rattle.pad_judge.proofs.Chain.{grid-refused, grid-passed, shape-passed, levels-passed}
 use Rattle.pad_judge.proofs.Sizes.{no-bad-sums}
 use borrow.Author.Needs.{needs}
-use Rattle.pad_judge.proofs.judging.judge.Statement.{statement}
-use Rattle.pad_judge.proofs.judging.judge.Tie as tie
-use Rattle.pad_judge.proofs.judging.judge.Reads as reads
-use Rattle.pad_judge.proofs.judging.judge.Lts as lts
+use Rattle.pad_judge.proofs.pads.judge.Statement.{statement}
+use Rattle.pad_judge.proofs.pads.judge.Tie as tie
+use Rattle.pad_judge.proofs.pads.judge.Reads as reads
+use Rattle.pad_judge.proofs.pads.judge.Lts as lts
 use Rattle.array.proofs.judge_grid.Reads as judge-grid-reads
 use Rattle.pad_judge.proofs.pads.bad_constant.Reads as bad-constant-reads
 use Rattle.pad_judge.proofs.pads.bad_pads.Reads as bad-pads-reads

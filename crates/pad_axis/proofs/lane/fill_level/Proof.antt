@@ -1,4 +1,4 @@
--- `pad_axis::fill::fill_level` meets its contract: each turn stores the level at the next place of a rim; the lane's own cells are never changed.
+-- `pad_axis::lane::fill_level` meets its contract: each turn stores the level at the next place of a rim; the lane's own cells are never changed.
 -- Assumes nothing.
 use mathlib.Core.Path.{_≡_, refl, ap, _∙_}
 use mathlib.Core.Bool.{true}
@@ -15,8 +15,8 @@ use Rattle.lanes.specs.Lanes.{laneBase, laneInside, withLane}
 use Rattle.border.specs.Border.{constant}
 use Rattle.pad_line.specs.Line.{paddedLine}
 use Rattle.pad_axis.proofs.Rims.{ownOf, Filled, filled-none, cell-in, inside-kept, before-constant, after-constant, filled-again, filled-joined, filled-all}
-use Rattle.pad_axis.proofs.fill.fill_level.Statement.{statement}
-use Rattle.pad_axis.proofs.fill.fill_level.Tie as tie
+use Rattle.pad_axis.proofs.lane.fill_level.Statement.{statement}
+use Rattle.pad_axis.proofs.lane.fill_level.Tie as tie
 
 abbrev Inv-loop : tie.InvT-loop
 Inv-loop c base p s l left n out₀ k₀ out k = (k ≤ left) × Filled (pos 0) (constant (toZ w64 c)) p s l left n out₀ out k
