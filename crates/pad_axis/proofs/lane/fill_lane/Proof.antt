@@ -18,13 +18,6 @@ use Rattle.pad_axis.proofs.Serves.{Serving, lane-stays, lane-served, la
 use borrow.Author.Needs.{needs}
 use Rattle.pad_axis.proofs.lane.fill_lane.Statement.{statement}
 use Rattle.pad_axis.proofs.lane.fill_lane.Tie as tie
-use Rattle.pad_axis.proofs.lane.fill_lane.Reads as reads
-use Rattle.pad_axis.proofs.lane.fill_lane.Lts as lts
-use Rattle.lanes.proofs.first_place.Reads as first-place-reads
-use Rattle.pad_axis.proofs.lane.fill_along.Reads as fill-along-reads
-use Rattle.pad_axis.proofs.lane.fill_level.Reads as fill-level-reads
-use Rattle.pad_axis.proofs.lane.fill_statistic.Reads as fill-statistic-reads
-use Rattle.pad_axis.proofs.lane.serves.Reads as serves-reads
 
 first-place-requires : tie.Need-first-place-requires
 first-place-requires c κs = search needs

@@ -12,10 +12,6 @@ use Rattle.pad_axis.proofs.Rims.{ownOf}
 use borrow.Author.Needs.{needs}
 use Rattle.pad_axis.proofs.lane.fill_statistic.Statement.{statement}
 use Rattle.pad_axis.proofs.lane.fill_statistic.Tie as tie
-use Rattle.pad_axis.proofs.lane.fill_statistic.Reads as reads
-use Rattle.pad_axis.proofs.lane.fill_statistic.Lts as lts
-use Rattle.pad_axis.proofs.lane.fill_level.Reads as fill-level-reads
-use Rattle.pad_axis.proofs.lane.own_level.Reads as own-level-reads
 
 own-level-requires : tie.Need-own-level-requires
 own-level-requires c κs = search needs

@@ -8,10 +8,6 @@ use Rattle.pad_axis.proofs.Serves.{own-read}
 use borrow.Author.Needs.{needs}
 use Rattle.pad_axis.proofs.lane.level_by.Statement.{statement}
 use Rattle.pad_axis.proofs.lane.level_by.Tie as tie
-use Rattle.pad_axis.proofs.lane.level_by.Reads as reads
-use Rattle.pad_axis.proofs.lane.level_by.Lts as lts
-use Rattle.lanes.proofs.read_lane.Reads as read-lane-reads
-use Rattle.pad_axis.proofs.lane.level_of.Reads as level-of-reads
 
 read-lane-requires : tie.Need-read-lane-requires
 read-lane-requires c κs = search needs

@@ -11,9 +11,6 @@ use Rattle.pad_axis.proofs.Rims.{ownOf}
 use borrow.Author.Needs.{needs}
 use Rattle.pad_axis.proofs.lane.level_in.Statement.{statement}
 use Rattle.pad_axis.proofs.lane.level_in.Tie as tie
-use Rattle.pad_axis.proofs.lane.level_in.Reads as reads
-use Rattle.pad_axis.proofs.lane.level_in.Lts as lts
-use Rattle.pad_axis.proofs.lane.level_by.Reads as level-by-reads
 
 slice-relend-prefix-level-by : tie.Need-slice-relend-prefix-level-by
 slice-relend-prefix-level-by c = search needs

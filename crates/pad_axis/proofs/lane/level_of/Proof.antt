@@ -4,12 +4,6 @@ use Rattle.numbers.proofs.Read.{read}
 use borrow.Author.Needs.{needs}
 use Rattle.pad_axis.proofs.lane.level_of.Statement.{statement}
 use Rattle.pad_axis.proofs.lane.level_of.Tie as tie
-use Rattle.pad_axis.proofs.lane.level_of.Reads as reads
-use Rattle.pad_axis.proofs.lane.level_of.Lts as lts
-use Rattle.statistics.proofs.maximum.Reads as maximum-reads
-use Rattle.statistics.proofs.mean.Reads as mean-reads
-use Rattle.statistics.proofs.median.Reads as median-reads
-use Rattle.statistics.proofs.minimum.Reads as minimum-reads
 
 enum-told : tie.Need-enum-told
 enum-told c = search needs

@@ -13,9 +13,6 @@ use Rattle.pad_axis.specs.Fill.{rimOf, laneServes}
 use borrow.Author.Needs.{needs}
 use Rattle.pad_axis.proofs.lane.serves.Statement.{statement}
 use Rattle.pad_axis.proofs.lane.serves.Tie as tie
-use Rattle.pad_axis.proofs.lane.serves.Reads as reads
-use Rattle.pad_axis.proofs.lane.serves.Lts as lts
-use Rattle.pad_axis.proofs.reach.bad_pad.Reads as bad-pad-reads
 
 returns : tie.Need-returns
 unfolding laneServes

@@ -7,9 +7,6 @@ use Rattle.array.specs.Conditions.{badLevel}
 use borrow.Author.Needs.{needs}
 use Rattle.pad_judge.proofs.pads.bad_constant.Statement.{statement}
 use Rattle.pad_judge.proofs.pads.bad_constant.Tie as tie
-use Rattle.pad_judge.proofs.pads.bad_constant.Reads as reads
-use Rattle.pad_judge.proofs.pads.bad_constant.Lts as lts
-use Rattle.array.proofs.bad_level.Reads as bad-level-reads
 
 enum-known-mode : tie.Need-enum-known-mode
 enum-known-mode c = search needs

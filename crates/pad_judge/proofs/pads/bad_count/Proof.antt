@@ -3,8 +3,6 @@
 use borrow.Author.Tests.{eq-eqb, ne-eqb}
 use Rattle.pad_judge.proofs.pads.bad_count.Statement.{statement}
 use Rattle.pad_judge.proofs.pads.bad_count.Tie as tie
-use Rattle.pad_judge.proofs.pads.bad_count.Reads as reads
-use Rattle.pad_judge.proofs.pads.bad_count.Lts as lts
 
 returns : tie.Need-returns
 returns c = simp (eq-eqb _ _ (c .if1 .taken))

@@ -10,11 +10,6 @@ use Rattle.pad_judge.specs.Conditions.{badPads}
 use borrow.Author.Needs.{needs}
 use Rattle.pad_judge.proofs.pads.bad_pads.Statement.{statement}
 use Rattle.pad_judge.proofs.pads.bad_pads.Tie as tie
-use Rattle.pad_judge.proofs.pads.bad_pads.Reads as reads
-use Rattle.pad_judge.proofs.pads.bad_pads.Lts as lts
-use Rattle.pad_judge.proofs.pads.bad_count.Reads as bad-count-reads
-use Rattle.pad_judge.proofs.pads.over_pads.Reads as over-pads-reads
-use Rattle.pad_judge.proofs.pads.padded_cells.Reads as padded-cells-reads
 
 bad-count-requires : tie.Need-bad-count-requires
 bad-count-requires c κs = search needs

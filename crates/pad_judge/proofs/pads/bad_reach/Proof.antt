@@ -12,9 +12,6 @@ use Rattle.pad_judge.specs.Conditions.{badReachOn, badReach}
 use Rattle.pad_judge.proofs.Pairs.{axis-hit, axis-miss, axis-end}
 use Rattle.pad_judge.proofs.pads.bad_reach.Statement.{statement}
 use Rattle.pad_judge.proofs.pads.bad_reach.Tie as tie
-use Rattle.pad_judge.proofs.pads.bad_reach.Reads as reads
-use Rattle.pad_judge.proofs.pads.bad_reach.Lts as lts
-use Rattle.pad_judge.proofs.pads.bad_reach_on.Reads as bad-reach-on-reads
 
 abbrev Inv-loop : tie.InvT-loop
 Inv-loop mode shape pads count a₀ a =

@@ -5,11 +5,6 @@ use Rattle.pad_judge.proofs.Pairs.{reach-left, reach-right}
 use borrow.Author.Needs.{needs}
 use Rattle.pad_judge.proofs.pads.bad_reach_on.Statement.{statement}
 use Rattle.pad_judge.proofs.pads.bad_reach_on.Tie as tie
-use Rattle.pad_judge.proofs.pads.bad_reach_on.Reads as reads
-use Rattle.pad_judge.proofs.pads.bad_reach_on.Lts as lts
-use Rattle.array.proofs.len_of.Reads as len-of-reads
-use Rattle.pad_axis.proofs.bad_pad.Reads as bad-pad-reads
-use Rattle.pad_judge.proofs.pads.pair_of.Reads as pair-of-reads
 
 len-of-requires : tie.Need-len-of-requires
 len-of-requires c κs = search needs

@@ -5,8 +5,6 @@ use native.Mathlib.Omega.{arith}
 use borrow.Author.Needs.{needs}
 use Rattle.pad_judge.proofs.pads.count_of_three.Statement.{statement}
 use Rattle.pad_judge.proofs.pads.count_of_three.Tie as tie
-use Rattle.pad_judge.proofs.pads.count_of_three.Reads as reads
-use Rattle.pad_judge.proofs.pads.count_of_three.Lts as lts
 
 mul-result : tie.Need-mul-result
 mul-result c = omega (arith, mul-le-mul (c .pre .1) (c .pre .2))

@@ -9,12 +9,6 @@ use Rattle.pad_judge.proofs.Sizes.{no-bad-sums}
 use borrow.Author.Needs.{needs}
 use Rattle.pad_judge.proofs.pads.judge.Statement.{statement}
 use Rattle.pad_judge.proofs.pads.judge.Tie as tie
-use Rattle.pad_judge.proofs.pads.judge.Reads as reads
-use Rattle.pad_judge.proofs.pads.judge.Lts as lts
-use Rattle.array.proofs.judge_grid.Reads as judge-grid-reads
-use Rattle.pad_judge.proofs.pads.bad_constant.Reads as bad-constant-reads
-use Rattle.pad_judge.proofs.pads.bad_pads.Reads as bad-pads-reads
-use Rattle.pad_judge.proofs.pads.bad_reach.Reads as bad-reach-reads
 
 judge-grid-requires : tie.Need-judge-grid-requires
 judge-grid-requires c κs = search needs

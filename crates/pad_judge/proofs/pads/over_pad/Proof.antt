@@ -3,8 +3,6 @@
 use borrow.Author.Tests.{lt-ltb, le-ltb}
 use Rattle.pad_judge.proofs.pads.over_pad.Statement.{statement}
 use Rattle.pad_judge.proofs.pads.over_pad.Tie as tie
-use Rattle.pad_judge.proofs.pads.over_pad.Reads as reads
-use Rattle.pad_judge.proofs.pads.over_pad.Lts as lts
 
 returns : tie.Need-returns
 returns c = simp (lt-ltb _ _ (c .if1 .taken))

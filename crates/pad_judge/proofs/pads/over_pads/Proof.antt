@@ -9,9 +9,6 @@ use Rattle.pad_judge.proofs.Pairs.{any-three}
 use borrow.Author.Needs.{needs}
 use Rattle.pad_judge.proofs.pads.over_pads.Statement.{statement}
 use Rattle.pad_judge.proofs.pads.over_pads.Tie as tie
-use Rattle.pad_judge.proofs.pads.over_pads.Reads as reads
-use Rattle.pad_judge.proofs.pads.over_pads.Lts as lts
-use Rattle.pad_judge.proofs.pads.over_pad.Reads as over-pad-reads
 
 -- three pairs
 pads-three : (c : tie.Start) → length (c .args .t1) ≡ 3

@@ -12,10 +12,6 @@ use Rattle.pad_judge.specs.Pads.{pairOf, leftsOf, rightsOf, paddedShape}
 use Rattle.pad_judge.proofs.Pairs.{pair-asked, padded-short, padded-three}
 use Rattle.pad_judge.proofs.pads.padded_cells.Statement.{statement}
 use Rattle.pad_judge.proofs.pads.padded_cells.Tie as tie
-use Rattle.pad_judge.proofs.pads.padded_cells.Reads as reads
-use Rattle.pad_judge.proofs.pads.padded_cells.Lts as lts
-use Rattle.pad_judge.proofs.pads.count_of_three.Reads as count-of-three-reads
-use Rattle.pad_judge.proofs.pads.padded_len.Reads as padded-len-reads
 
 pads-three : (c : tie.After-shared-slice-known) → length (c .before .args .pads) ≡ 3
 pads-three c = search needs

@@ -9,10 +9,6 @@ use Rattle.pad_judge.proofs.Pairs.{pad-limits, padded-length, padded-mi
 use borrow.Author.Needs.{needs}
 use Rattle.pad_judge.proofs.pads.padded_len.Statement.{statement}
 use Rattle.pad_judge.proofs.pads.padded_len.Tie as tie
-use Rattle.pad_judge.proofs.pads.padded_len.Reads as reads
-use Rattle.pad_judge.proofs.pads.padded_len.Lts as lts
-use Rattle.array.proofs.len_of.Reads as len-of-reads
-use Rattle.pad_judge.proofs.pads.pair_of.Reads as pair-of-reads
 
 returns : tie.Need-returns
 returns c = let a = c .before .before .args in padded-missing (now (a .shape)) (a .pads) (a .count) (a .axis) (c .if1 .taken)

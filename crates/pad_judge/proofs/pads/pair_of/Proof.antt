@@ -7,8 +7,6 @@ use Rattle.pad_judge.proofs.Pairs.{pair-only, pair-own, pair-none}
 use borrow.Author.Needs.{needs}
 use Rattle.pad_judge.proofs.pads.pair_of.Statement.{statement}
 use Rattle.pad_judge.proofs.pads.pair_of.Tie as tie
-use Rattle.pad_judge.proofs.pads.pair_of.Reads as reads
-use Rattle.pad_judge.proofs.pads.pair_of.Lts as lts
 
 array-copy-out-result : tie.Need-array-copy-out-result
 array-copy-out-result c = search needs
