@@ -20,6 +20,8 @@ fn rows() {
     pad_line::rows();
     minlist::rows();
     statistics::rows();
+    pad_axis::rows();
+    pad_judge::rows();
     sweeps::rows();
     sweeps::order_of_axes();
     min_max::rows();

@@ -1,0 +1,3 @@
+-- Laws of lanes padded in place that belong to no one function.
+pub mod Rims
+pub mod Serves

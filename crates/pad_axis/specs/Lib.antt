@@ -1,0 +1,3 @@
+-- What padding fills a lane with.
+pub mod Fill
+pub mod Rows
