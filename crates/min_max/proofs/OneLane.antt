@@ -3,9 +3,9 @@
 use mathlib.Core.Path.{_≡_, sym, ap, _∙_}
 use mathlib.Core.Bool.{Bool, true, not, _&&_, cond}
 use mathlib.Core.List.{List, _++_}
-use Prim.Native.Nat.{ℕ, _+_, _-_, _≤_, _<_}
+use Prim.Native.Nat.{ℕ, _+_, _≤_}
 use native.Mathlib.Omega.{arith}
-use borrow.Author.Tests.{le-leb, leb-true, eq-eqb}
+use borrow.Author.Tests.{leb-true}
 use lib.Dec.{leb}
 use lib.IntN.{ℤ, pos}
 use lib.ListN.{length, take, drop}
@@ -17,19 +17,13 @@ use Rattle.lanes.proofs.Cells.{length-laneAt}
 use Rattle.border.specs.Border.{Border}
 use Rattle.pad_line.specs.Line.{paddedLine, paddedLane, badPad, padServes}
 use Rattle.pad_line.proofs.Padded.{length-padded}
-use Rattle.minlist.specs.Firsts.{firsts, serving, sweptBy}
-use Rattle.minlist.proofs.Served.{swept-served}
+use Rattle.minlist.specs.Firsts.{firsts, Served, sweptBy}
+use Rattle.minlist.proofs.Served.{swept-filled}
 use Rattle.min_max.specs.Lane.{extremesOf, Room}
 
 pub length-firsts : (le : ℤ → ℤ → Bool) (line : List ℤ) (len n : ℕ) → length (firsts le line len n) ≡ n
 unfolding firsts
 length-firsts le line len n = length-tabulate _ 0 n
-
-serving-yes : (n len m : ℕ) → 1 < len → len ≤ 65 → n ≤ 1088 → m + len ≡ n + 1 → serving n len m ≡ true
-serving-yes n len m w h r e =
-    let fits : len ≤ n + 1 = omega arith in
-    let cells : m ≡ n + 1 - len = omega arith in
-    (λ j. le-leb 2 len w j && le-leb len 65 h j && le-leb n 1088 r j && le-leb len (n + 1) fits j && eq-eqb m (n + 1 - len) cells j)
 
 module _ (le : ℤ → ℤ → Bool) {b : Border ℤ} {s l left right : ℕ} {g line₀ swept₀ out₀ : List ℤ} (R : Room b s l left right g line₀ swept₀ out₀) where
   n : ℕ
@@ -71,19 +65,18 @@ module _ (le : ℤ → ℤ → Bool) {b : Border ℤ} {s l left right : ℕ} {g 
     front-is : take total line ≡ padded
     front-is = ap (take total) line-is ∙ take-at padded (drop total line₀) total length-line
 
-    served : serving (length padded) (left + right + 1) n ≡ true
+    served : Served (length padded) (left + right + 1) n
     unfolding total n
     served =
         let p = length-line in
-        serving-yes (length padded) (left + right + 1) n
-        (omega (arith, R .wide)) (omega (arith, R .narrow)) (omega (arith, p, line-room, R .buffer)) (omega (arith, p))
+        record { wide = omega (arith, R .wide); narrow = omega (arith, R .narrow); short = omega (arith, p, line-room, R .buffer); cells = omega (arith, p) }
 
     module _ {swept : List ℤ} (found : swept ≡ sweptBy le (take (left + length swept₀ + right) line) (left + right + 1) swept₀) where
       found-is : swept ≡ extremesOf le b left right source
       unfolding total n padded
       found-is =
           found ∙ ap (λ (x : List ℤ). sweptBy le x (left + right + 1) swept₀) front-is
-          ∙ sym (swept-served le padded (left + right + 1) swept₀ served) ∙ ap (firsts le padded (left + right + 1)) (sym length-source)
+          ∙ swept-filled le padded (left + right + 1) swept₀ served ∙ ap (firsts le padded (left + right + 1)) (sym length-source)
 
       pub lane-swept : {out : List ℤ} → out ≡ writeLane (pos 0) s l swept out₀
           → out ≡ withLane (pos 0) (length swept₀) s l (extremesOf le b left right (lane (pos 0) (length swept₀) s l g)) out₀
