@@ -4,6 +4,7 @@
 --   rightsOf ns pads count       the pad after each axis
 --   paddedShape ns lefts rights  the shape of the padded grid
 --   inMiddle ns lefts q a        whether coordinates q of the padded grid are in the middle on axis a: where the grid itself stands
+--   allFrom t a n                whether the test t holds of a, a + 1, .., n of them
 --   middleFrom ns lefts d q      whether they are on every axis from d on
 use Prim.Native.Nat.{ℕ, zero, suc, _+_, _-_}
 use mathlib.Core.Bool.{Bool, true, _&&_, cond}
