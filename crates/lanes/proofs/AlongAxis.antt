@@ -30,9 +30,9 @@ count-lanes ns a p h =
     let e : cellCount ns ≡ outerOf ns a * strideOf ns a * n = count-split ns a h ∙ ap (λ x. outerOf ns a * x) (mul-comm n (strideOf ns a)) ∙ sym (mul-assoc (outerOf ns a) (strideOf ns a) n) in
     ap (λ x. x / n) e ∙ mul-div-cancel (outerOf ns a * strideOf ns a) (length-pos ns a p)
 
--- every lane of an accepted shape is inside a grid of that shape
-pub lanes-inside : (ns : List ℕ) (a l : ℕ) → Accepted ns → a < length ns → l < cellCount ns / lengthOf ns a → laneInside (lengthOf ns a) (strideOf ns a) l (cellCount ns) ≡ true
-lanes-inside ns a l A h b = inside-yes (record { small = omega (arith, A .small); some = pn; apart = ps; short = short; last = last })
+-- every lane of a grid of at most 32,768 cells is inside it
+pub lanes-within : (ns : List ℕ) (a l : ℕ) → Positive ns → cellCount ns ≤ 32768 → a < length ns → l < cellCount ns / lengthOf ns a → laneInside (lengthOf ns a) (strideOf ns a) l (cellCount ns) ≡ true
+lanes-within ns a l full small h b = inside-yes (record { small = small; some = pn; apart = ps; short = short; last = last })
   where
     n : ℕ
     n = lengthOf ns a
@@ -41,13 +41,13 @@ lanes-inside ns a l A h b = inside-yes (record { small = omega (arith, A .small)
     s = strideOf ns a
 
     pn : 0 < n
-    pn = length-pos ns a (A .full)
+    pn = length-pos ns a full
 
     ps : 0 < s
-    ps = stride-pos ns a (A .full)
+    ps = stride-pos ns a full
 
     run : l / s * (n * s) + n * s ≤ cellCount ns
-    run = subst (λ (m : ℕ). l / s * (n * s) + n * s ≤ m) (sym (count-split ns a h)) (step-le (n * s) (div-lt-iff-lt-mul ps .1 (subst (λ (m : ℕ). l < m) (count-lanes ns a (A .full) h) b)))
+    run = subst (λ (m : ℕ). l / s * (n * s) + n * s ≤ m) (sym (count-split ns a h)) (step-le (n * s) (div-lt-iff-lt-mul ps .1 (subst (λ (m : ℕ). l < m) (count-lanes ns a full h) b)))
 
     whole : (n : ℕ) → 0 < n → n * s ≡ (n - 1) * s + s
     whole zero h = absurd (not-suc-le-zero h)
@@ -58,6 +58,10 @@ lanes-inside ns a l A h b = inside-yes (record { small = omega (arith, A .small)
 
     last : laneBase n s l + (n - 1) * s < cellCount ns
     last = omega (arith, run, whole n pn, mod-lt l ps)
+
+-- of an accepted shape too
+pub lanes-inside : (ns : List ℕ) (a l : ℕ) → Accepted ns → a < length ns → l < cellCount ns / lengthOf ns a → laneInside (lengthOf ns a) (strideOf ns a) l (cellCount ns) ≡ true
+lanes-inside ns a l A h b = lanes-within ns a l (A .full) (omega (arith, A .small)) h b
 
 -- ---- the level at a place: cell p a of f of the lane through that place
 lane-through : {A : Type 0} (d : A) (ns : List ℕ) (a : ℕ) (g : List A) (p : ℕ → ℕ) → Positive ns → a < length ns → Within ns p

@@ -1,12 +1,11 @@
 // The lanes of an axis: how long, how far apart and how many they are, a lane read into a line, and a line written back to a lane.
 ghost use mathlib.Core.Path.{_≡_};
-ghost use mathlib.Core.Bool.{false, cond};
-ghost use Prim.Native.Nat.{_+_, _*_, _<_};
+ghost use mathlib.Core.Bool.{cond};
+ghost use Prim.Native.Nat.{ℕ, _+_, _*_, _≤_, _<_};
 ghost use lib.Ieee.{nan};
 ghost use lib.IntN.{pos};
 ghost use lib.ListN.{length};
-ghost use Rattle.array.specs.Conditions.{badShape};
-ghost use Rattle.array.specs.Grid.{strideOf};
+ghost use Rattle.array.specs.Grid.{lengthOf, strideOf};
 ghost use Rattle.lanes.specs.Rows.{LanesRows};
 ghost use Rattle.lanes.specs.Lanes.{lanesOf, laneBase, laneAt, laneInside, withLane, readLane, writeLane};
 
@@ -17,9 +16,10 @@ pub struct Lanes {
     pub count: usize,
 }
 
-// How many places apart the cells of an axis of an accepted shape stand.
-fn stride_of(shape: &[usize], axis: usize) -> usize
-    requires { ⌜ badShape (now shape) ≡ false ⌝ }
+// How many places apart the cells of an axis stand, in a grid of at most three axes of at most 1,152 cells each: a padded grid has so many.
+// Of 4 2 3 the cells of axis 0 stand 6 apart.
+pub fn stride_of(shape: &[usize], axis: usize) -> usize
+    requires { ⌜ (length (now shape) ≤ 3) × ((a : ℕ) → lengthOf (now shape) a ≤ 1152) ⌝ }
     ensures { λ r. ⌜ r ≡ strideOf (now (shape .entry)) axis ⌝ }
 {
     if axis == 0 {

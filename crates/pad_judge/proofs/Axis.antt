@@ -62,12 +62,12 @@ module _ (mode : PadMode) (ns lefts ps : List ℕ) (cells : List ℤ) (F : Frame
         go true q = let e : a ≡ d = eqb-true a d q in subst (λ (x : ℕ). moved d j (coordinate ps k) x < lengthOf ps x) (sym e) (subst (λ (x : ℕ). x < lengthOf ps d) (sym (moved-at d j (coordinate ps k))) u)
         go false q = subst (λ (x : ℕ). x < lengthOf ps a) (sym (moved-off d a j (coordinate ps k) (eqb-false a d q))) (coordinate-within ps k (F .full) b a l)
 
-    lane-place : (j : ℕ) → laneBase (lengthOf ps d) (strideOf ps d) (laneOf (lengthOf ps d) (strideOf ps d) k) + j * strideOf ps d ≡ placeOf ps (moved d j (coordinate ps k))
+    pub lane-place : (j : ℕ) → laneBase (lengthOf ps d) (strideOf ps d) (laneOf (lengthOf ps d) (strideOf ps d) k) + j * strideOf ps d ≡ placeOf ps (moved d j (coordinate ps k))
     lane-place j =
         ap (λ x. x + j * strideOf ps d) (base-of (lengthOf ps d) (strideOf ps d) (length-pos ps d (F .full)) (stride-pos ps d (F .full)) k)
         ∙ sym (place-moved ps d k j (F .full) axis b)
 
-    same-coordinates : (j : ℕ) → j < lengthOf ps d → (a : ℕ) → a < length ns → coordinate ps (placeOf ps (moved d j (coordinate ps k))) a ≡ moved d j (coordinate ps k) a
+    pub same-coordinates : (j : ℕ) → j < lengthOf ps d → (a : ℕ) → a < length ns → coordinate ps (placeOf ps (moved d j (coordinate ps k))) a ≡ moved d j (coordinate ps k) a
     same-coordinates j u a l = coordinate-place ps (moved d j (coordinate ps k)) (moved-within j u) a (omega (arith, F .axes))
 
     module _ (out : List ℤ) (m : middleFrom ns lefts (suc d) (coordinate ps k) ≡ true)

@@ -98,7 +98,7 @@ module _ (mode : PadMode) (ns lefts : List ℕ) (cells : List ℤ) where
       ap (λ (m : ℕ). levelTo mode ns lefts cells m q) (sym r) ∙ level-from (length ns - d) d (omega arith) q e
 
   -- ---- an axis: the later ones in the middle, the lane's own cells extended
-  all-agree : (n d : ℕ) (p q : ℕ → ℕ) → ((a : ℕ) → d ≤ a → p a ≡ q a) → allFrom (inMiddle ns lefts p) d n ≡ allFrom (inMiddle ns lefts q) d n
+  pub all-agree : (n d : ℕ) (p q : ℕ → ℕ) → ((a : ℕ) → d ≤ a → p a ≡ q a) → allFrom (inMiddle ns lefts p) d n ≡ allFrom (inMiddle ns lefts q) d n
   all-agree zero d p q e = refl
   all-agree (suc n) d p q e =
       (λ j. (leb (getD lefts d 0) (first j) && ltb (first j) (getD lefts d 0 + lengthOf ns d)) && all-agree n (suc d) p q later j)

@@ -4,7 +4,8 @@ use borrow.Author.Needs.{needs}
 use mathlib.Core.Path.{_≡_, sym, subst, _∙_}
 use mathlib.Core.Bool.{false}
 use mathlib.Core.List.{List}
-use Prim.Native.Nat.{ℕ, _/_, _<_}
+use Prim.Native.Nat.{ℕ, _/_, _≤_, _<_}
+use native.Mathlib.Omega.{arith}
 use denote.Ref.{now}
 use Rattle.array.specs.Conditions.{badShape, gridCount}
 use Rattle.lanes.specs.declared.Lanes.{Lanes}
@@ -27,7 +28,12 @@ accepted : (ns : List ℕ) (r : ℕ) → r ≡ gridCount ns → (r ≡ 0 → ⊥
 accepted ns r e h = count-some ns (λ z. h (e ∙ z))
 
 stride-of-requires : tie.Need-stride-of-requires
-stride-of-requires c κs = accepted _ _ (c .before .before .cell-count .ensures) (c .before .if1 .left)
+stride-of-requires c κs =
+    let A = shape-accepted _ (accepted _ _ (c .before .before .cell-count .ensures) (c .before .if1 .left)) in
+    (A .few, λ a. more _ (A .short a))
+  where
+    more : (n : ℕ) → n ≤ 1024 → n ≤ 1152
+    more n h = omega arith
 
 div-t7 : tie.Need-div-t7
 div-t7 c =

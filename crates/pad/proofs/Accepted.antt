@@ -1,0 +1,121 @@
+-- A call that the judge accepts: the padded grid has room for the grid, every rim can be filled, and the output is as long as it must be.
+-- Assumes nothing.
+use mathlib.Core.Path.{_≡_, sym, ap, subst, _∙_}
+use mathlib.Core.Bool.{Bool, true, false, _||_, not}
+use mathlib.Core.List.{List, []}
+use Prim.Native.Nat.{ℕ, _+_, _-_, _≤_, _<_}
+use native.Mathlib.Omega.{arith}
+use borrow.Author.Tests.{ltb-false, eqb-true, not-false}
+use lib.Dec.{ltb, eqb}
+use lib.IntN.{ℤ}
+use lib.ListN.{length, getD, take}
+use Rattle.numbers.specs.Lists.{tabulate, anyOf}
+use Rattle.numbers.specs.Refusal.{refusalOf}
+use Rattle.numbers.proofs.Any.{any-none, every-at}
+use Rattle.numbers.proofs.Refusal.{judged-all}
+use Rattle.numbers.proofs.Tabulate.{length-tabulate, getD-tabulate, tabulate-agree}
+use Rattle.numbers.proofs.Tests.{or-false}
+use Rattle.array.specs.Conditions.{badShape, badLength, badLevel}
+use Rattle.array.specs.Grid.{cellCount, lengthOf}
+use Rattle.array.proofs.Shapes.{count-accepted, length-judged}
+use Rattle.border.specs.declared.PadMode.{PadMode}
+use Rattle.pad_line.specs.Line.{badPad}
+use Rattle.pad_axis.specs.Fill.{rimOf}
+use Rattle.pad_judge.specs.Conditions.{badConstant, badCount, overPad, paddedCount, badPads, badReachOn, badReach, padJudged}
+use Rattle.pad_judge.specs.Pads.{pairOf, leftsOf, rightsOf, paddedShape}
+use Rattle.pad_judge.specs.declared.pads.Pair.{Pair}
+use Rattle.pad_judge.proofs.Pairs.{axis-at, padded-length, padded-short}
+use Rattle.pad.specs.Frame.{Framed, Filling}
+
+-- what each condition of an accepted call says
+pub record Passed (mode : PadMode) (ns : List ℕ) (pads : List Pair) (count : ℕ) (cells : List ℤ) (out : ℕ) : Type 0 where
+  pub shape : badShape ns ≡ false
+  pub whole : length cells ≡ cellCount ns
+  pub levels : anyOf badLevel cells ≡ false
+  pub level : badConstant mode ≡ false
+  pub pairs : badCount ns count ≡ false
+  pub limits : anyOf overPad (take count pads) ≡ false
+  pub small : paddedCount ns pads count ≤ 32768
+  pub lent : out ≡ paddedCount ns pads count
+  pub reach : (a : ℕ) → a < length ns → badReachOn mode ns pads count a ≡ false
+
+pub passed : (mode : PadMode) (ns : List ℕ) (pads : List Pair) (count : ℕ) (cells : List ℤ) (out : ℕ) → refusalOf (padJudged mode ns pads count cells out) ≡ 0 → Passed mode ns pads count cells out
+unfolding badPads badReach
+passed mode ns pads count cells out z =
+    let J = judged-all (padJudged mode ns pads count cells out) (tt, (tt, (tt, (tt, (tt, (tt, (tt, tt))))))) z in
+    let p = or-false (badCount ns count) _ (J .1 .1 .1 .1 .0) in
+    let q = or-false (anyOf overPad (take count pads)) _ (p .1) in
+    let r = or-false (ltb 32768 (paddedCount ns pads count)) _ (q .1) in
+    let l = or-false (badLength ns (length cells)) false (J .1 .0) in record {
+      shape = J .0;
+      whole = length-judged ns (length cells) (l .0) ∙ count-accepted ns (J .0);
+      levels = J .1 .1 .0;
+      level = J .1 .1 .1 .0;
+      pairs = p .0;
+      limits = q .0;
+      small = ltb-false 32768 (paddedCount ns pads count) (r .0);
+      lent = eqb-true out (paddedCount ns pads count) (not-false (eqb out (paddedCount ns pads count)) (r .1));
+      reach = λ a h. ap (badReachOn mode ns pads count) (sym (axis-at (length ns) a h))
+          ∙ every-at (λ x. badReachOn mode ns pads count x ≡ false) (tabulate (λ k. k) 0 (length ns)) 0 (any-none (badReachOn mode ns pads count) (tabulate (λ k. k) 0 (length ns)) (J .1 .1 .1 .1 .1 .0)) a
+          (in-axes a h);
+    }
+  where
+    in-axes : (a : ℕ) → a < length ns → a < length (tabulate (λ k. k) 0 (length ns))
+    in-axes a h = omega (arith, length-tabulate (λ k. k) 0 (length ns))
+
+module _ {mode : PadMode} {ns : List ℕ} {pads : List Pair} {count : ℕ} {cells : List ℤ} {out : ℕ} (P : Passed mode ns pads count cells out) (three : length pads ≡ 3) where
+  left-is : (a : ℕ) → a < length ns → getD (leftsOf ns pads count) a 0 ≡ pairOf pads count a .left
+  left-is a h = getD-tabulate (λ k. pairOf pads count k .left) (length ns) a 0 h
+
+  pub framed : Framed ns (leftsOf ns pads count) (paddedShape ns (leftsOf ns pads count) (rightsOf ns pads count))
+  framed = record {
+    shape = P .shape;
+    starts = length-tabulate (λ k. pairOf pads count k .left) 0 (length ns);
+    axes = length-tabulate (λ a. getD (leftsOf ns pads count) a 0 + lengthOf ns a + getD (rightsOf ns pads count) a 0) 0 (length ns);
+    room = λ a h. fits a h;
+    short = λ a. padded-short ns pads count (P .shape) three (P .pairs) (P .limits) a (λ j. lengthOf (paddedShape ns (leftsOf ns pads count) (rightsOf ns pads count)) a);
+    small = P .small;
+  }
+    where
+      fits : (a : ℕ) → a < length ns → getD (leftsOf ns pads count) a 0 + lengthOf ns a ≤ lengthOf (paddedShape ns (leftsOf ns pads count) (rightsOf ns pads count)) a
+      fits a h = omega (arith, left-is a h, padded-length ns pads count a h)
+
+  reach-both : (a : ℕ) → a < length ns
+      → (badPad (rimOf mode []) (lengthOf ns a) (pairOf pads count a .left) ≡ false) × (badPad (rimOf mode []) (lengthOf ns a) (pairOf pads count a .right) ≡ false)
+  reach-both a h = or-false (badPad (rimOf mode []) (lengthOf ns a) (pairOf pads count a .left)) (badPad (rimOf mode []) (lengthOf ns a) (pairOf pads count a .right)) (P .reach a h)
+
+  pub filling : Filling mode ns (leftsOf ns pads count) (paddedShape ns (leftsOf ns pads count) (rightsOf ns pads count))
+  filling = record {
+    framed = framed;
+    level = P .level;
+    fills-left = λ a h. ap (badPad (rimOf mode []) (lengthOf ns a)) (left-is a h) ∙ reach-both a h .0;
+    fills-right = λ a h. ap (badPad (rimOf mode []) (lengthOf ns a)) (rest a h) ∙ reach-both a h .1;
+  }
+    where
+      rest : (a : ℕ) → a < length ns
+          → lengthOf (paddedShape ns (leftsOf ns pads count) (rightsOf ns pads count)) a - (getD (leftsOf ns pads count) a 0 + lengthOf ns a) ≡ pairOf pads count a .right
+      rest a h = omega (arith, left-is a h, padded-length ns pads count a h)
+
+  -- the same of the frame as it was set
+  pub filling-set : {l p : List ℕ} → l ≡ leftsOf ns pads count → p ≡ paddedShape ns (leftsOf ns pads count) (rightsOf ns pads count) → Filling mode ns l p
+  filling-set {l} {p} e f = subst (λ (x : List ℕ). Filling mode ns x p) (sym e) (subst (Filling mode ns (leftsOf ns pads count)) (sym f) filling)
+
+  pub lent-set : {p : List ℕ} → p ≡ paddedShape ns (leftsOf ns pads count) (rightsOf ns pads count) → out ≡ cellCount p
+  lent-set f = P .lent ∙ ap cellCount (sym f)
+
+-- ---- the pads and padded lengths axis by axis, as they are set
+abbrev pub leftAt : List Pair → ℕ → ℕ → ℕ
+leftAt pads count a = pairOf pads count a .left
+
+abbrev pub paddedLengthAt : List ℕ → List Pair → ℕ → ℕ → ℕ
+paddedLengthAt ns pads count a = pairOf pads count a .left + lengthOf ns a + pairOf pads count a .right
+
+pub padded-table : (ns : List ℕ) (pads : List Pair) (count : ℕ) → tabulate (paddedLengthAt ns pads count) 0 (length ns) ≡ paddedShape ns (leftsOf ns pads count) (rightsOf ns pads count)
+padded-table ns pads count =
+    tabulate-agree (paddedLengthAt ns pads count) (λ a. getD (leftsOf ns pads count) a 0 + lengthOf ns a + getD (rightsOf ns pads count) a 0) 0 (length ns) (λ a h. at (0 + a) (less a h))
+  where
+    less : (a : ℕ) → a < length ns → 0 + a < length ns
+    less a h = omega arith
+
+    at : (a : ℕ) → a < length ns → paddedLengthAt ns pads count a ≡ getD (leftsOf ns pads count) a 0 + lengthOf ns a + getD (rightsOf ns pads count) a 0
+    at a h = sym (λ j. getD-tabulate (λ k. pairOf pads count k .left) (length ns) a 0 h j + lengthOf ns a + getD-tabulate (λ k. pairOf pads count k .right) (length ns) a 0 h j)

@@ -1,0 +1,165 @@
+// The two calls: a judge that only returns a number, then the grid laid over what the output holds.
+ghost use mathlib.Core.Path.{_≡_};
+ghost use mathlib.Core.Bool.{false};
+ghost use lib.ListN.{length};
+ghost use Rattle.numbers.specs.Lists.{anyOf};
+ghost use Rattle.numbers.specs.Refusal.{refusalOf, Answers};
+ghost use Rattle.array.specs.Conditions.{badLevel};
+ghost use Rattle.array.specs.Grid.{cellCount};
+ghost use Rattle.pad_judge.specs.Conditions.{padJudged};
+ghost use Rattle.pad_judge.specs.Levels.{keepsRim, paddedGrid, paddedOver};
+ghost use Rattle.pad_judge.specs.Pads.{leftsOf, rightsOf};
+ghost use Rattle.pad.specs.Frame.{Filling};
+ghost use Rattle.pad.specs.Filled.{laidOver, started};
+use crate::frame;
+use crate::middle;
+use crate::rims;
+use border::PadMode;
+use pad_judge::Pair;
+
+// Whether the rim keeps what was lent: under Constant.
+fn keeps_rim(mode: PadMode) -> bool
+    ensures { λ r. ⌜ r ≡ keepsRim mode ⌝ }
+{
+    match mode {
+        PadMode::Constant(_) => true,
+        PadMode::Edge => false,
+        PadMode::Maximum => false,
+        PadMode::Mean => false,
+        PadMode::Median => false,
+        PadMode::Minimum => false,
+        PadMode::Reflect => false,
+        PadMode::Symmetric => false,
+        PadMode::Wrap => false,
+    }
+}
+
+// Sets every cell to the constant under Constant.
+fn start(mode: PadMode, out: &mut [i64])
+    ensures { λ _. ⌜ now (out .exit) ≡ started mode (now (out .entry)) ⌝ }
+{
+    match mode {
+        PadMode::Constant(c) => array::fill(out, c),
+        PadMode::Edge => {}
+        PadMode::Maximum => {}
+        PadMode::Mean => {}
+        PadMode::Median => {}
+        PadMode::Minimum => {}
+        PadMode::Reflect => {}
+        PadMode::Symmetric => {}
+        PadMode::Wrap => {}
+    }
+}
+
+// Lays a grid over a padded grid, in its middle, and fills the rim unless the mode keeps it.
+fn lay_over(
+    data: &[i64],
+    shape: &[usize],
+    lefts: &[usize],
+    padded: &[usize],
+    mode: PadMode,
+    out: &mut [i64],
+)
+    requires { ⌜ Filling mode (now shape) (now lefts) (now padded) × (anyOf badLevel (now «data») ≡ false) × (length (now «data») ≡ cellCount (now shape)) × (length (now out) ≡ cellCount (now padded)) ⌝ }
+    ensures { λ _. ⌜ now (out .exit) ≡ laidOver mode (now (shape .entry)) (now (lefts .entry)) (now (padded .entry)) (now («data» .entry)) (now (out .entry)) ⌝ }
+{
+    middle::copy_middle(data, shape, lefts, padded, out);
+    if keeps_rim(mode) {
+        return;
+    }
+    rims::fill_axes(mode, shape, lefts, padded, out);
+}
+
+// The same from the pairs of pads; lefts and padded are buffers, as long as the shape.
+fn lay_in(
+    data: &[i64],
+    shape: &[usize],
+    pads: [Pair; 3],
+    count: usize,
+    mode: PadMode,
+    lefts: &mut [usize],
+    padded: &mut [usize],
+    out: &mut [i64],
+)
+    requires { ⌜ (refusalOf (padJudged mode (now shape) pads count (now «data») (length (now out))) ≡ 0) × (length (now lefts) ≡ length (now shape)) × (length (now padded) ≡ length (now shape)) ⌝ }
+    ensures { λ _. ⌜ now (out .exit) ≡ paddedOver mode (now (shape .entry)) (leftsOf (now (shape .entry)) pads count) (rightsOf (now (shape .entry)) pads count) (now («data» .entry)) (now (out .entry)) ⌝ }
+{
+    frame::set_frame(shape, pads, count, lefts, padded);
+    lay_over(data, shape, lefts, padded, mode, out);
+}
+
+// The same with buffers of its own.
+fn lay(data: &[i64], shape: &[usize], pads: [Pair; 3], count: usize, mode: PadMode, out: &mut [i64])
+    requires { ⌜ refusalOf (padJudged mode (now shape) pads count (now «data») (length (now out))) ≡ 0 ⌝ }
+    ensures { λ _. ⌜ now (out .exit) ≡ paddedOver mode (now (shape .entry)) (leftsOf (now (shape .entry)) pads count) (rightsOf (now (shape .entry)) pads count) (now («data» .entry)) (now (out .entry)) ⌝ }
+{
+    let axes = shape.len();
+    let mut lefts = [0; 3];
+    let mut padded = [0; 3];
+    lay_in(
+        data,
+        shape,
+        pads,
+        count,
+        mode,
+        &mut lefts[..axes],
+        &mut padded[..axes],
+        out,
+    );
+}
+
+// Pads a grid into a lent output, axis by axis in rising order, later axes reading what earlier ones filled. Under Constant only the middle is
+// written and the rim keeps what was lent; in every other mode nothing lent affects the result.
+//
+// * `data` - the cells of the grid.
+// * `shape` - the length of each axis.
+// * `pads`, `count` - the pairs of pads, and how many of them count: one for all axes, or one for each.
+// * `mode` - the padding mode.
+// * `out` - the lent output, as many cells as the padded grid.
+//
+// Refuses: 1, 2, 3, 9, 10, 11, 12. Of 1 2 with pads of 1, lent 8 8 8 8: Constant leaves 8 1 2 8, Edge 1 1 2 2.
+pub fn pad_to(
+    data: &[i64],
+    shape: &[usize],
+    pads: [Pair; 3],
+    count: usize,
+    mode: PadMode,
+    out: &mut [i64],
+) -> u8
+    ensures { λ r. ⌜ Answers (padJudged mode (now (shape .entry)) pads count (now («data» .entry)) (length (now (out .entry)))) (paddedOver mode (now (shape .entry)) (leftsOf (now (shape .entry)) pads count) (rightsOf (now (shape .entry)) pads count) (now («data» .entry)) (now (out .entry))) (now (out .entry)) r (now (out .exit)) ⌝ }
+{
+    let refusal = pad_judge::judge(data, shape, pads, count, mode, out.len());
+    if refusal != 0 {
+        return refusal;
+    }
+    lay(data, shape, pads, count, mode, out);
+    numbers::ACCEPTED
+}
+
+// Pads a grid into a lent output as `pad_to` does, and under Constant fills the rim with the constant: nothing lent affects the result.
+//
+// * `data` - the cells of the grid.
+// * `shape` - the length of each axis.
+// * `pads`, `count` - the pairs of pads, and how many of them count: one for all axes, or one for each.
+// * `mode` - the padding mode.
+// * `out` - the lent output, as many cells as the padded grid.
+//
+// Refuses: 1, 2, 3, 9, 10, 11, 12. Of 1 2 3 with pads of 2: Edge gives 1 1 1 2 3 3 3, Reflect 3 2 1 2 3 2 1, Constant(7) 7 7 1 2 3 7 7.
+pub fn pad(
+    data: &[i64],
+    shape: &[usize],
+    pads: [Pair; 3],
+    count: usize,
+    mode: PadMode,
+    out: &mut [i64],
+) -> u8
+    ensures { λ r. ⌜ Answers (padJudged mode (now (shape .entry)) pads count (now («data» .entry)) (length (now (out .entry)))) (paddedGrid mode (now (shape .entry)) (leftsOf (now (shape .entry)) pads count) (rightsOf (now (shape .entry)) pads count) (now («data» .entry))) (now (out .entry)) r (now (out .exit)) ⌝ }
+{
+    let refusal = pad_judge::judge(data, shape, pads, count, mode, out.len());
+    if refusal != 0 {
+        return refusal;
+    }
+    start(mode, out);
+    lay(data, shape, pads, count, mode, out);
+    numbers::ACCEPTED
+}

@@ -1,0 +1,15 @@
+// Padding of grids: `pad` fills the rim, `pad_to` under Constant keeps what was lent there.
+ghost use Rattle.pad.specs.Rows.{PaddedRows};
+
+mod calls;
+mod frame;
+mod middle;
+mod rims;
+
+pub use calls::pad;
+pub use calls::pad_to;
+
+// Worked rows of this crate's definitions. Refuses nothing.
+pub fn rows()
+    ensures { λ _. ⌜ PaddedRows ⌝ }
+{}
