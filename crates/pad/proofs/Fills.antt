@@ -3,12 +3,12 @@
 use mathlib.Core.Path.{_≡_, refl, sym, ap, subst, _∙_}
 use mathlib.Core.Bool.{Bool, true, false, _&&_, not, cond}
 use mathlib.Core.List.{List}
-use Prim.Native.Nat.{ℕ, zero, suc, _+_, _-_, _≤_, _<_}
+use Prim.Native.Nat.{ℕ, suc, _+_, _-_, _<_}
 use native.Mathlib.Omega.{arith}
 use lib.IntN.{ℤ, pos}
 use lib.ListN.{length, getD}
-use Rattle.numbers.specs.Lists.{tabulate, anyOf}
-use Rattle.numbers.proofs.Tabulate.{length-tabulate, getD-tabulate, tabulate-unique, tabulate-agree}
+use Rattle.numbers.specs.Lists.{anyOf}
+use Rattle.numbers.proofs.Tabulate.{length-tabulate, getD-tabulate, tabulate-unique}
 use Rattle.array.specs.Conditions.{badLevel}
 use Rattle.array.specs.Grid.{cellCount, coordinate}
 use Rattle.border.specs.declared.PadMode.{PadMode}

@@ -6,11 +6,11 @@ use mathlib.Core.List.{List}
 use Prim.Native.Nat.{ℕ, suc, _+_, _-_, _/_, _%_, _≤_, _<_}
 use native.Mathlib.Omega.{arith}
 use borrow.Author.Tests.{le-leb, lt-leb}
-use lib.Dec.{leb, ltb}
+use lib.Dec.{ltb}
 use lib.ListN.{length, getD}
 use Rattle.array.specs.Grid.{cellCount, lengthOf, strideOf, coordinate}
 use Rattle.array.proofs.Strides.{coordinate-digit}
-use Rattle.pad_judge.specs.Pads.{inMiddle, allFrom, middleFrom}
+use Rattle.pad_judge.specs.Pads.{inMiddle, allFrom}
 use Rattle.pad.specs.Frame.{Framed}
 use Rattle.pad.proofs.Room.{padded-full}
 

@@ -1,29 +1,29 @@
 -- Every lane of an axis, one after the other: a lane whose later coordinates are in the middle is filled from its own cells, which hold their levels, and so gets its levels; the others stay.
 -- Assumes nothing.
 use mathlib.Core.Path.{_≡_, refl, sym, ap, subst, _∙_}
-use mathlib.Core.Bool.{Bool, true, false, _&&_, _||_, not, cond, true≢false}
+use mathlib.Core.Bool.{Bool, true, false, _&&_, _||_, cond, true≢false}
 use mathlib.Core.List.{List, []}
-use Prim.Native.Nat.{ℕ, zero, suc, _+_, _-_, _*_, _/_, _%_, _≤_, _<_, zero-le}
+use Prim.Native.Nat.{ℕ, suc, _+_, _-_, _*_, _/_, _%_, _≤_, _<_, zero-le}
 use native.Mathlib.Nat.{mod-lt, div-le-self}
 use native.Mathlib.Omega.{arith}
 use borrow.Author.Tests.{le-ltb, lt-ltb, le-leb, eqb-true}
-use lib.Dec.{leb, ltb, eqb}
+use lib.Dec.{ltb, eqb}
 use lib.IntN.{ℤ, pos}
 use lib.ListN.{length, getD}
-use Rattle.numbers.specs.Lists.{tabulate, anyOf}
+use Rattle.numbers.specs.Lists.{anyOf}
 use Rattle.numbers.proofs.Tabulate.{length-tabulate, getD-tabulate}
 use Rattle.numbers.proofs.Tests.{and-true, cond-yes, cond-no, ltb-more}
 use Rattle.array.specs.Conditions.{badLevel}
-use Rattle.array.specs.Grid.{cellCount, lengthOf, strideOf, placeOf, coordinate, moved}
-use Rattle.array.proofs.Places.{length-pos}
+use Rattle.array.specs.Grid.{cellCount, lengthOf, strideOf, coordinate, moved}
+use Rattle.array.proofs.Places.{length-pos, coordinate-within}
 use Rattle.array.proofs.Strides.{outerOf, count-split}
-use Rattle.lanes.specs.Lanes.{laneOf, laneBase, laneInside, withLane}
+use Rattle.lanes.specs.Lanes.{laneOf, laneBase, withLane}
 use Rattle.lanes.proofs.AlongAxis.{lanes-within, count-lanes}
 use Rattle.lanes.proofs.Cells.{lane-below}
 use Rattle.border.specs.Border.{constant}
 use Rattle.border.specs.declared.PadMode.{PadMode}
 use Rattle.border.specs.declared.PadMode.the-variants.{Constant, Edge, Maximum, Mean, Median, Minimum, Reflect, Symmetric, Wrap}
-use Rattle.pad_line.specs.Line.{paddedAt, paddedLine, badPad}
+use Rattle.pad_line.specs.Line.{paddedAt, paddedLine}
 use Rattle.pad_line.proofs.Padded.{getD-padded}
 use Rattle.statistics.specs.Statistics.{meanOf, medianOf, unserved}
 use Rattle.statistics.proofs.Served.{Sized, sized-served, answered-served}
@@ -32,7 +32,7 @@ use Rattle.pad_axis.proofs.Rims.{ownOf, length-own}
 use Rattle.pad_judge.specs.Levels.{levelTo}
 use Rattle.pad_judge.specs.Pads.{inMiddle, allFrom, middleFrom}
 use Rattle.pad_judge.proofs.Axis.{middle-ext, final, lane-place, same-coordinates, own-lane, final-lane}
-use Rattle.pad_judge.proofs.Levels.{moved-off, all-agree}
+use Rattle.pad_judge.proofs.Levels.{middle-in, moved-off, all-agree}
 use Rattle.pad_judge.proofs.Sizes.{limit, every-table, levels-sized, size-level}
 use Rattle.pad.specs.Frame.{Framed, Filling}
 use Rattle.pad.specs.Filled.{Filled}
@@ -185,6 +185,17 @@ module _ {mode : PadMode} {ns lefts ps : List ℕ} (G : Filling mode ns lefts ps
               → (u : Bool) → eqb (laneOf N s k) l ≡ u → cond u (getD line (k / s % N) (pos 0)) (getD out k (pos 0)) ≡ levelTo mode ns lefts cells (length ns) (coordinate ps k)
           at k b m t true q = padded k b ∙ lane-level k b m (eqb-true (laneOf N s k) l q)
           at k b m t false q = R .finals k b m (earlier k q t)
+
+-- an axis without pads has no rim
+pub axis-full : {mode : PadMode} {ns lefts ps : List ℕ} {out : List ℤ} (F : Framed ns lefts ps) (d : ℕ) → d < length ns → lengthOf ps d ≡ lengthOf ns d
+    → (cells : List ℤ) → Filled mode ns lefts ps cells d out → Filled mode ns lefts ps cells (suc d) out
+axis-full {ns = ns} {lefts} {ps} F d h e cells A = record { levels = A .levels; count = A .count; finals = λ k b m. A .finals k b (middle-both ns lefts d h (coordinate ps k) ∙ (λ j. within k b j && m j)) }
+  where
+    within : (k : ℕ) → k < cellCount ps → inMiddle ns lefts (coordinate ps k) d ≡ true
+    within k b =
+        let l = coordinate-within ps k (padded-full F) b d (omega (arith, F .axes)) in
+        let r = F .room d h in
+        middle-in ns lefts (coordinate ps k) d (omega arith) (omega arith)
 
 -- ---- the loop over the lanes of an axis, whatever grid was laid in the middle
 pub record OnAxis (ps : List ℕ) (a p s count : ℕ) : Type 0 where

@@ -1,11 +1,10 @@
 -- A padded grid with room for the grid in its middle: it has as many axes, each with a cell.
 -- Assumes nothing.
-use mathlib.Core.Path.{_≡_}
 use mathlib.Core.List.{List, [], _∷_}
-use Prim.Native.Nat.{ℕ, zero, suc, _+_, _≤_, _<_, zero-le, suc-le-suc}
+use Prim.Native.Nat.{ℕ, zero, suc, _≤_, _<_, zero-le, suc-le-suc}
 use native.Mathlib.Omega.{arith}
-use lib.ListN.{length, getD}
-use Rattle.array.specs.Grid.{cellCount, lengthOf, strideOf}
+use lib.ListN.{length}
+use Rattle.array.specs.Grid.{lengthOf, strideOf}
 use Rattle.array.proofs.Places.{Positive, length-pos}
 use Rattle.array.proofs.Shapes.{Accepted, shape-accepted}
 use Rattle.array.proofs.Strides.{stride-pos}

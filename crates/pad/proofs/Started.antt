@@ -10,7 +10,6 @@ use borrow.Author.Tests.{leb-false, ltb-false}
 use lib.Dec.{leb, ltb}
 use lib.IntN.{ℤ, pos}
 use lib.ListN.{length, getD, replicate}
-use Rattle.numbers.specs.Lists.{tabulate}
 use Rattle.numbers.proofs.Tabulate.{length-tabulate, getD-tabulate, tabulate-replicate, tabulate-agree}
 use Rattle.array.specs.Grid.{cellCount, lengthOf, coordinate, moved}
 use Rattle.border.specs.Border.{constant}

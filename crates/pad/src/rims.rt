@@ -87,6 +87,10 @@ fn fill_axis(
     ensures { λ _. ⌜ Fills mode (now (shape .entry)) (now (lefts .entry)) (now (padded .entry)) axis (suc axis) (now (out .entry)) (now (out .exit)) ⌝ }
 {
     let p = array::len_of(padded, axis);
+    if p == array::len_of(shape, axis) {
+        // No pads here: the axis has no rim.
+        return;
+    }
     let s = lanes::stride_of(padded, axis);
     let count = out.len() / p;
     let mut lane = 0;

@@ -1,7 +1,7 @@
 -- `pad::calls::lay` meets its contract: an accepted shape has at most three axes.
 -- Assumes nothing.
 use Prim.Native.Nat.{_≤_}
-use mathlib.Core.Path.{_≡_, sym}
+use mathlib.Core.Path.{sym}
 use lib.ListN.{length}
 use lib.Seq.{length-take-le}
 use denote.Ref.{now}
@@ -10,9 +10,6 @@ use Rattle.pad.proofs.Accepted.{passed}
 use borrow.Author.Needs.{needs}
 use Rattle.pad.proofs.calls.lay.Statement.{statement}
 use Rattle.pad.proofs.calls.lay.Tie as tie
-use Rattle.pad.proofs.calls.lay.Reads as reads
-use Rattle.pad.proofs.calls.lay.Lts as lts
-use Rattle.pad.proofs.calls.lay_in.Reads as lay-in-reads
 
 few : (s : tie.Start) → length (now (s .args .shape)) ≤ 3
 few s = shape-accepted _ (passed (s .args .mode) (now (s .args .shape)) (s .args .pads) (s .args .count) (now (s .args .«data»)) (length (now (s .args .out))) (s .pre) .shape) .few

@@ -1,19 +1,15 @@
 -- `pad::calls::lay_in` meets its contract: an accepted call has a frame, and the grid is laid over it.
 -- Assumes nothing.
-use mathlib.Core.Path.{_≡_, ap, sym, _∙_}
+use mathlib.Core.Path.{_∙_}
 use lib.ListN.{length}
 use denote.Ref.{now}
 use Rattle.pad_judge.specs.Pads.{leftsOf, rightsOf}
 use Rattle.pad.specs.Filled.{laidOver}
-use Rattle.pad.proofs.Accepted.{Passed, passed, filling-set, lent-set}
+use Rattle.pad.proofs.Accepted.{passed, filling-set, lent-set}
 use Rattle.pad.proofs.Started.{laid-padded}
 use borrow.Author.Needs.{needs}
 use Rattle.pad.proofs.calls.lay_in.Statement.{statement}
 use Rattle.pad.proofs.calls.lay_in.Tie as tie
-use Rattle.pad.proofs.calls.lay_in.Reads as reads
-use Rattle.pad.proofs.calls.lay_in.Lts as lts
-use Rattle.pad.proofs.calls.lay_over.Reads as lay-over-reads
-use Rattle.pad.proofs.frame.set_frame.Reads as set-frame-reads
 
 set-frame-requires : tie.Need-set-frame-requires
 set-frame-requires c κs =

@@ -6,11 +6,6 @@ use Rattle.pad.proofs.Fills.{filled-middle, laid-middle, laid-filled}
 use borrow.Author.Needs.{needs}
 use Rattle.pad.proofs.calls.lay_over.Statement.{statement}
 use Rattle.pad.proofs.calls.lay_over.Tie as tie
-use Rattle.pad.proofs.calls.lay_over.Reads as reads
-use Rattle.pad.proofs.calls.lay_over.Lts as lts
-use Rattle.pad.proofs.calls.keeps_rim.Reads as keeps-rim-reads
-use Rattle.pad.proofs.middle.copy_middle.Reads as copy-middle-reads
-use Rattle.pad.proofs.rims.fill_axes.Reads as fill-axes-reads
 
 copy-middle-requires : tie.Need-copy-middle-requires
 copy-middle-requires c κs = search needs

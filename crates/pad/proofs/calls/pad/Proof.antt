@@ -1,9 +1,7 @@
 -- `pad::calls::pad` meets its contract: refused by the judge's number, or the grid laid over a start that does not show.
 -- Assumes nothing.
-use mathlib.Core.Path.{_≡_, ap, sym, _∙_}
-use lib.IntN.{ℤ}
+use mathlib.Core.Path.{ap, sym, _∙_}
 use lib.ListN.{length}
-use mathlib.Core.List.{List}
 use Prim.Native.Nat.{ℕ}
 use denote.Ref.{now}
 use Rattle.numbers.specs.Refusal.{refusalOf}
@@ -16,11 +14,6 @@ use Rattle.pad.proofs.Started.{over-started}
 use borrow.Author.Needs.{needs}
 use Rattle.pad.proofs.calls.pad.Statement.{statement}
 use Rattle.pad.proofs.calls.pad.Tie as tie
-use Rattle.pad.proofs.calls.pad.Reads as reads
-use Rattle.pad.proofs.calls.pad.Lts as lts
-use Rattle.pad.proofs.calls.lay.Reads as lay-reads
-use Rattle.pad.proofs.calls.start.Reads as start-reads
-use Rattle.pad_judge.proofs.judge.Reads as judge-reads
 
 judge-requires : tie.Need-judge-requires
 judge-requires c κs = search needs

@@ -1,14 +1,9 @@
 -- `pad::calls::pad_to` meets its contract: refused by the judge's number, or the grid laid over what was lent.
 -- Assumes nothing.
-use mathlib.Core.Path.{_≡_, sym, _∙_}
 use Rattle.numbers.proofs.Refusal.{answers-refused, answers-accepted}
 use borrow.Author.Needs.{needs}
 use Rattle.pad.proofs.calls.pad_to.Statement.{statement}
 use Rattle.pad.proofs.calls.pad_to.Tie as tie
-use Rattle.pad.proofs.calls.pad_to.Reads as reads
-use Rattle.pad.proofs.calls.pad_to.Lts as lts
-use Rattle.pad.proofs.calls.lay.Reads as lay-reads
-use Rattle.pad_judge.proofs.judge.Reads as judge-reads
 
 judge-requires : tie.Need-judge-requires
 judge-requires c κs = search needs

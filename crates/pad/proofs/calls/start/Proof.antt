@@ -8,9 +8,6 @@ use denote.Ref.{now}
 use borrow.Author.Needs.{needs}
 use Rattle.pad.proofs.calls.start.Statement.{statement}
 use Rattle.pad.proofs.calls.start.Tie as tie
-use Rattle.pad.proofs.calls.start.Reads as reads
-use Rattle.pad.proofs.calls.start.Lts as lts
-use Rattle.array.proofs.fill.Reads as fill-reads
 
 enum-known-mode : tie.Need-enum-known-mode
 enum-known-mode c = search needs

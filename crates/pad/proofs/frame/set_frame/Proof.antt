@@ -1,7 +1,7 @@
 -- `pad::frame::set_frame` meets its contract: axis by axis, the pad before it and its padded length.
 -- Assumes nothing.
-use mathlib.Core.Path.{_≡_, refl, sym, ap, _∙_}
-use Prim.Native.Nat.{_+_, _-_, _≤_, _<_}
+use mathlib.Core.Path.{_≡_, ap, _∙_}
+use Prim.Native.Nat.{_+_, _-_, _≤_}
 use native.Mathlib.Omega.{arith}
 use lib.Dec.{ltb}
 use lib.ListN.{length, length-set}
@@ -16,10 +16,6 @@ use Rattle.pad.proofs.Accepted.{leftAt, paddedLengthAt, padded-table}
 use borrow.Author.Needs.{needs}
 use Rattle.pad.proofs.frame.set_frame.Statement.{statement}
 use Rattle.pad.proofs.frame.set_frame.Tie as tie
-use Rattle.pad.proofs.frame.set_frame.Reads as reads
-use Rattle.pad.proofs.frame.set_frame.Lts as lts
-use Rattle.array.proofs.len_of.Reads as len-of-reads
-use Rattle.pad_judge.proofs.pair_of.Reads as pair-of-reads
 
 abbrev Inv-loop : tie.InvT-loop
 Inv-loop shape pads count lefts₀ padded₀ a₀ lefts padded a =

@@ -1,19 +1,15 @@
 -- `pad::rims::fill_axes` meets its contract: what one axis leaves is where the next starts.
 -- Assumes nothing.
-use mathlib.Core.Path.{_≡_, subst, _∙_}
-use Prim.Native.Nat.{ℕ, suc, _+_, _-_, _≤_}
+use mathlib.Core.Path.{_≡_, _∙_}
+use Prim.Native.Nat.{_-_, _≤_}
 use native.Mathlib.Omega.{arith}
 use lib.ListN.{length}
-use denote.Ref.{now}
 use Rattle.array.specs.Grid.{cellCount}
 use Rattle.pad.specs.Filled.{Fills}
 use Rattle.pad.proofs.Fills.{fills-then, fills-last}
 use borrow.Author.Needs.{needs}
 use Rattle.pad.proofs.rims.fill_axes.Statement.{statement}
 use Rattle.pad.proofs.rims.fill_axes.Tie as tie
-use Rattle.pad.proofs.rims.fill_axes.Reads as reads
-use Rattle.pad.proofs.rims.fill_axes.Lts as lts
-use Rattle.pad.proofs.rims.fill_axis.Reads as fill-axis-reads
 
 abbrev Inv-loop : tie.InvT-loop
 Inv-loop mode shape lefts padded out₀ axis₀ out axis = (axis ≤ length shape) × (length out ≡ cellCount padded) × Fills mode shape lefts padded 0 axis out₀ out

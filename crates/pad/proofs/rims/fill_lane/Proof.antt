@@ -1,6 +1,6 @@
 -- `pad::rims::fill_lane` meets its contract: the lane is inside, and its first place tells whether it is filled.
 -- Assumes nothing.
-use mathlib.Core.Path.{_≡_, sym, ap, _∙_}
+use mathlib.Core.Path.{sym, ap, _∙_}
 use native.Mathlib.Omega.{arith}
 use lib.ListN.{getD}
 use denote.Ref.{now}
@@ -10,12 +10,6 @@ use Rattle.pad.proofs.OneLane.{first-in, lane-out, lane-in}
 use borrow.Author.Needs.{needs}
 use Rattle.pad.proofs.rims.fill_lane.Statement.{statement}
 use Rattle.pad.proofs.rims.fill_lane.Tie as tie
-use Rattle.pad.proofs.rims.fill_lane.Reads as reads
-use Rattle.pad.proofs.rims.fill_lane.Lts as lts
-use Rattle.array.proofs.len_of.Reads as len-of-reads
-use Rattle.lanes.proofs.first_place.Reads as first-place-reads
-use Rattle.pad.proofs.rims.middle_from.Reads as middle-from-reads
-use Rattle.pad_axis.proofs.fill_lane.Reads as fill-lane-reads
 
 first-place-requires : tie.Need-first-place-requires
 first-place-requires c κs = search needs

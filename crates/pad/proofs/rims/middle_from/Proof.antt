@@ -12,9 +12,6 @@ use Rattle.pad.proofs.InMiddle.{all-stops, all-goes, all-ends}
 use borrow.Author.Needs.{needs}
 use Rattle.pad.proofs.rims.middle_from.Statement.{statement}
 use Rattle.pad.proofs.rims.middle_from.Tie as tie
-use Rattle.pad.proofs.rims.middle_from.Reads as reads
-use Rattle.pad.proofs.rims.middle_from.Lts as lts
-use Rattle.pad.proofs.rims.on_middle.Reads as on-middle-reads
 
 abbrev Inv-loop : tie.InvT-loop
 Inv-loop shape lefts padded from place a₀ a = (a ≤ length shape) × (middleFrom shape lefts from (coordinate padded place) ≡ allFrom (inMiddle shape lefts (coordinate padded place)) a (length shape - a))

@@ -1,19 +1,13 @@
 -- `pad::rims::on_middle` meets its contract: the coordinate on the axis is a digit of the place.
 -- Assumes nothing.
-use mathlib.Core.Path.{_≡_, sym, subst}
-use Prim.Native.Nat.{ℕ, _+_, _≤_, _<_}
+use mathlib.Core.Path.{sym, subst}
+use Prim.Native.Nat.{ℕ, _<_}
 use native.Mathlib.Omega.{arith}
-use lib.ListN.{length, getD}
-use denote.Ref.{now}
 use Rattle.pad.proofs.Room.{padded-few, axis-stride, axis-length}
 use Rattle.pad.proofs.InMiddle.{middle-before, middle-after}
 use borrow.Author.Needs.{needs}
 use Rattle.pad.proofs.rims.on_middle.Statement.{statement}
 use Rattle.pad.proofs.rims.on_middle.Tie as tie
-use Rattle.pad.proofs.rims.on_middle.Reads as reads
-use Rattle.pad.proofs.rims.on_middle.Lts as lts
-use Rattle.array.proofs.len_of.Reads as len-of-reads
-use Rattle.lanes.proofs.stride_of.Reads as stride-of-reads
 
 stride-of-requires : tie.Need-stride-of-requires
 stride-of-requires c κs = (padded-few (c .before .before .before .pre .0), c .before .before .before .pre .0 .short)
