@@ -5,6 +5,7 @@ mod averages;
 mod borders;
 mod extremes;
 mod filters;
+mod grids;
 mod kernels;
 mod padded;
 mod print;
@@ -25,6 +26,7 @@ fn rows() {
     sweeps::rows();
     sweeps::order_of_axes();
     min_max::rows();
+    pad::rows();
 }
 
 fn main() {
@@ -52,4 +54,9 @@ fn main() {
     filters::limits();
     filters::both_orders();
     filters::every_axis();
+    grids::t1();
+    grids::t10();
+    grids::squares();
+    grids::rims();
+    grids::refusals();
 }
