@@ -24,6 +24,7 @@ fn rows() {
     pad_judge::rows();
     sweeps::rows();
     sweeps::order_of_axes();
+    filter_judge::rows();
     min_max::rows();
 }
 

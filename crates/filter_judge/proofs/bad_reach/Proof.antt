@@ -1,18 +1,18 @@
+-- `filter_judge::bad_reach` meets its contract: an accepted origin gives the pads, and the border is asked about each.
+-- Assumes nothing.
 use Prim.Native.Nat.{_-_, _/_}
 use mathlib.Core.Path.{_≡_, ap, _∙_}
 use mir.Syntax.{w64}
 use mir.Val.{toZ, ofZ}
 use Rattle.origin.specs.Origin.{originPads}
--- `min_max::judge::bad_reach` meets its contract: an accepted origin gives the pads, and the border is asked about each.
--- Assumes nothing.
 use Rattle.border.specs.Modes.{borderOf}
-use Rattle.min_max.specs.Filters.{badReach}
-use Rattle.min_max.proofs.Reach.{single-cell, origin-refused, pads-are, reach-left, reach-right}
+use Rattle.filter_judge.specs.Judge.{badReach}
+use Rattle.filter_judge.proofs.Reach.{single-cell, origin-refused, pads-are, reach-left, reach-right}
 use borrow.Author.Needs.{needs}
-use Rattle.min_max.proofs.judge.bad_reach.Statement.{statement}
-use Rattle.min_max.proofs.judge.bad_reach.Tie as tie
-use Rattle.min_max.proofs.judge.bad_reach.Reads as reads
-use Rattle.min_max.proofs.judge.bad_reach.Lts as lts
+use Rattle.filter_judge.proofs.bad_reach.Statement.{statement}
+use Rattle.filter_judge.proofs.bad_reach.Tie as tie
+use Rattle.filter_judge.proofs.bad_reach.Reads as reads
+use Rattle.filter_judge.proofs.bad_reach.Lts as lts
 use Rattle.origin.proofs.origin_check.Reads as origin-check-reads
 use Rattle.pad_line.proofs.bad_pad.Reads as bad-pad-reads
 

@@ -1,4 +1,4 @@
--- `min_max::judge::judge_filter` meets its contract: the grid's number, or the number of the window along every axis.
+-- `filter_judge::judge_filter` meets its contract: the grid's number, or the number of the window along every axis.
 -- Assumes nothing.
 use mathlib.Core.Path.{_≡_, ap, _∙_}
 use mathlib.Core.List.{[], _∷_}
@@ -11,10 +11,10 @@ use Rattle.numbers.specs.Refusal.{refusalOf}
 use Rattle.numbers.proofs.Refusal.{chain-stops, chain-goes}
 use Rattle.array.specs.Conditions.{gridJudged}
 use Rattle.border.specs.Modes.{borderOf}
-use Rattle.min_max.specs.Filters.{axesJudged}
+use Rattle.filter_judge.specs.Judge.{axesJudged}
 use borrow.Author.Needs.{needs}
-use Rattle.min_max.proofs.judge.judge_filter.Statement.{statement}
-use Rattle.min_max.proofs.judge.judge_filter.Tie as tie
+use Rattle.filter_judge.proofs.judge_filter.Statement.{statement}
+use Rattle.filter_judge.proofs.judge_filter.Tie as tie
 
 judge-grid-requires : tie.Need-judge-grid-requires
 judge-grid-requires c κs = search needs

@@ -13,7 +13,7 @@ use Rattle.origin.specs.Origin.{badOrigin, originPads, refusalOfOrigin}
 use Rattle.origin.specs.declared.Origin.{Origin}
 use Rattle.origin.specs.declared.Origin.the-variants.{Pads, Refused}
 use Rattle.pad_line.specs.Line.{badPad}
-use Rattle.min_max.specs.Filters.{windowOrigin, badReach}
+use Rattle.filter_judge.specs.Judge.{windowOrigin, badReach}
 
 abbrev pub leftOf : ℕ → ℤ → ℕ
 leftOf size o = natAbs (pos (size / 2) +ℤ o)

@@ -1,4 +1,4 @@
--- `min_max::judge::judge_window` meets its contract: each return has the answers of the conditions on its way.
+-- `filter_judge::judge_window` meets its contract: each return has the answers of the conditions on its way.
 -- Assumes nothing.
 use mathlib.Core.Path.{_≡_, refl, ap, _∙_}
 use mathlib.Core.Bool.{false, not, _&&_}
@@ -11,10 +11,10 @@ use Rattle.numbers.proofs.Tests.{told}
 use Rattle.array.specs.Conditions.{badLevel, badAxis}
 use Rattle.array.specs.Grid.{lengthOf}
 use Rattle.border.specs.Modes.{borderOf, badConstantBy}
-use Rattle.min_max.specs.Filters.{windowOrigin, badReach}
+use Rattle.filter_judge.specs.Judge.{windowOrigin, badReach}
 use borrow.Author.Needs.{needs}
-use Rattle.min_max.proofs.judge.judge_window.Statement.{statement}
-use Rattle.min_max.proofs.judge.judge_window.Tie as tie
+use Rattle.filter_judge.proofs.judge_window.Statement.{statement}
+use Rattle.filter_judge.proofs.judge_window.Tie as tie
 
 -- what has been told where a condition does not hold
 size-in : (c : tie.Else1) → outside 1 65 (c .before .before .before .args .size) ≡ false

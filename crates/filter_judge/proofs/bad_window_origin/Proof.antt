@@ -1,13 +1,13 @@
--- `min_max::judge::bad_window_origin` meets its contract: a window of one cell reads no origin.
+-- `filter_judge::bad_window_origin` meets its contract: a window of one cell reads no origin.
 -- Assumes nothing.
 use mathlib.Core.Path.{_≡_, ap, _∙_}
 use mir.Syntax.{w64}
 use mir.Val.{toZ, ofZ}
 use Rattle.origin.specs.Origin.{badOrigin}
-use Rattle.min_max.proofs.Reach.{single-cell, more-cells}
+use Rattle.filter_judge.proofs.Reach.{single-cell, more-cells}
 use borrow.Author.Needs.{needs}
-use Rattle.min_max.proofs.judge.bad_window_origin.Statement.{statement}
-use Rattle.min_max.proofs.judge.bad_window_origin.Tie as tie
+use Rattle.filter_judge.proofs.bad_window_origin.Statement.{statement}
+use Rattle.filter_judge.proofs.bad_window_origin.Tie as tie
 
 returns : tie.Need-returns
 returns c = let a = c .before .args in single-cell (a .size) (badOrigin (a .size) (a .origin)) (c .if1 .taken)

@@ -1,4 +1,4 @@
--- `min_max::judge::judge_axes` meets its contract: each return has the answers of the conditions on its way.
+-- `filter_judge::judge_axes` meets its contract: each return has the answers of the conditions on its way.
 -- Assumes nothing.
 use mathlib.Core.Path.{_≡_, refl, ap, _∙_}
 use mathlib.Core.Bool.{false, not, _&&_}
@@ -12,10 +12,10 @@ use Rattle.numbers.specs.Ranges.{outside}
 use Rattle.numbers.proofs.Tests.{told}
 use Rattle.array.specs.Conditions.{badLevel}
 use Rattle.border.specs.Modes.{borderOf, badConstantBy}
-use Rattle.min_max.specs.Filters.{windowOrigin, badReach}
+use Rattle.filter_judge.specs.Judge.{windowOrigin, badReach}
 use borrow.Author.Needs.{needs}
-use Rattle.min_max.proofs.judge.judge_axes.Statement.{statement}
-use Rattle.min_max.proofs.judge.judge_axes.Tie as tie
+use Rattle.filter_judge.proofs.judge_axes.Statement.{statement}
+use Rattle.filter_judge.proofs.judge_axes.Tie as tie
 
 -- what has been told where a condition does not hold
 size-in : (c : tie.Else1) → outside 1 65 (c .before .before .before .args .size) ≡ false

@@ -1,4 +1,4 @@
-// The conditions of the one-axis and the grid forms, in rising order.
+// The judge of the minimum and maximum filters: the conditions of the one-axis and the grid forms, in rising order.
 ghost use mathlib.Core.Path.{_≡_};
 ghost use mathlib.Core.Bool.{false, not, _&&_};
 ghost use mathlib.Core.List.{[]};
@@ -8,7 +8,8 @@ ghost use Rattle.numbers.specs.Ranges.{outside};
 ghost use Rattle.numbers.specs.Refusal.{refusalOf};
 ghost use Rattle.border.specs.Modes.{borderOf};
 ghost use Rattle.sweeps.specs.Call.{windowJudged, callJudged};
-ghost use Rattle.min_max.specs.Filters.{badReach, windowOrigin, axesJudged, filterJudged, callOf};
+ghost use Rattle.filter_judge.specs.Judge.{badReach, windowOrigin, axesJudged, filterJudged, callOf};
+ghost use Rattle.filter_judge.specs.Rows.{FilterJudgeRows};
 use border::BorderMode;
 use origin::Origin;
 
@@ -74,8 +75,20 @@ fn judge_window(shape: &[usize], size: usize, axis: usize, mode: BorderMode, ori
     numbers::ACCEPTED
 }
 
-// The conditions of a one-axis call.
-pub(crate) fn judge_call(
+// The number of a one-axis call, which fills out where that is 0.
+//
+// * `data` - the cells of the grid, in row-major order.
+// * `shape` - the length of each axis.
+// * `size` - the length of the window; with 1 no origin is read and no pad is needed.
+// * `axis` - the axis that is swept.
+// * `mode` - the border.
+// * `origin` - how far the window is moved.
+// * `out` - the lent output; only its length is judged.
+//
+// Returns 0, or the lowest number of a condition that holds: 1 (shape), 2 (a length), 3 (a level), 5 (size), 7 (origin), 8 (axis),
+// 9 (constant) or 11 (the border cannot fill a pad). Writes nothing and refuses nothing itself.
+// The rows 5 3 / 4 9 with size 2 under Nearest and origin 1 give 7, along axis 2 with origin 0 they give 8.
+pub fn judge_call(
     data: &[i64],
     shape: &[usize],
     size: usize,
@@ -128,8 +141,17 @@ fn judge_axes(shape: &[usize], size: usize, mode: BorderMode, origin: isize) -> 
     numbers::ACCEPTED
 }
 
-// The conditions of a grid call whose output and second grid have out and second cells.
-pub(crate) fn judge_filter(
+// The number of a grid call, which sweeps every axis and fills out where that is 0.
+//
+// * `data`, `shape`, `mode`, `origin` - as in `judge_call`.
+// * `size` - the length of the window on every axis.
+// * `out` - the lent output; only its length is judged.
+// * `second` - how many cells the second lent grid has.
+//
+// Returns 0, or the lowest number of a condition that holds: 1 (shape), 2 (a length), 3 (a level), 5 (size), 7 (origin),
+// 9 (constant) or 11 (the border cannot fill a pad of some axis). Writes nothing and refuses nothing itself.
+// The rows 5 3 / 4 9 with size 5 under Mirror and origin 0 give 11, with a second grid of 3 cells 2.
+pub fn judge_filter(
     data: &[i64],
     shape: &[usize],
     size: usize,
@@ -146,3 +168,8 @@ pub(crate) fn judge_filter(
     }
     judge_axes(shape, size, mode, origin)
 }
+
+// Worked rows of this crate's definitions: origins and reaches at their limits, and the refusals of both forms. Refuses nothing.
+pub fn rows()
+    ensures { λ _. ⌜ FilterJudgeRows ⌝ }
+{}

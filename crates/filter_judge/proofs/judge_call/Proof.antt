@@ -1,3 +1,5 @@
+-- `filter_judge::judge_call` meets its contract: the grid's number, or the number of the window along the axis.
+-- Assumes nothing.
 use mathlib.Core.Path.{_≡_, ap, _∙_}
 use mathlib.Core.List.{[], _∷_}
 use mir.Syntax.{w64}
@@ -10,10 +12,10 @@ use Rattle.numbers.proofs.Refusal.{chain-stops, chain-goes}
 use Rattle.array.specs.Conditions.{gridJudged}
 use Rattle.array.proofs.Judged.{judged-twice}
 use Rattle.sweeps.specs.Call.{windowJudged}
-use Rattle.min_max.specs.Filters.{callOf}
+use Rattle.filter_judge.specs.Judge.{callOf}
 use borrow.Author.Needs.{needs}
-use Rattle.min_max.proofs.judge.judge_call.Statement.{statement}
-use Rattle.min_max.proofs.judge.judge_call.Tie as tie
+use Rattle.filter_judge.proofs.judge_call.Statement.{statement}
+use Rattle.filter_judge.proofs.judge_call.Tie as tie
 
 judge-grid-requires : tie.Need-judge-grid-requires
 judge-grid-requires c κs = search needs

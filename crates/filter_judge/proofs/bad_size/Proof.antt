@@ -1,11 +1,11 @@
--- `min_max::judge::bad_size` meets its contract: one test after the other.
+-- `filter_judge::bad_size` meets its contract: one test after the other.
 -- Assumes nothing.
 use mathlib.Core.Bool.{_||_}
 use mathlib.Core.Path.{sym, ap}
 use lib.Dec.{ltb}
 use borrow.Author.Tests.{lt-ltb, le-ltb}
-use Rattle.min_max.proofs.judge.bad_size.Statement.{statement}
-use Rattle.min_max.proofs.judge.bad_size.Tie as tie
+use Rattle.filter_judge.proofs.bad_size.Statement.{statement}
+use Rattle.filter_judge.proofs.bad_size.Tie as tie
 
 returns : tie.Need-returns
 returns c = sym (ap (λ x. x || ltb 65 (c .before .args .size)) (lt-ltb (c .before .args .size) 1 (c .if1 .taken)))

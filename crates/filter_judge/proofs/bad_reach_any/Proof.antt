@@ -1,4 +1,4 @@
--- `min_max::judge::bad_reach_any` meets its contract: no axis before the one that the loop has reached refuses its pads.
+-- `filter_judge::bad_reach_any` meets its contract: no axis before the one that the loop has reached refuses its pads.
 -- Assumes nothing.
 use borrow.Author.Needs.{needs}
 use Prim.Native.Nat.{ℕ, _≤_, _-_}
@@ -14,11 +14,11 @@ use lib.ListN.{length, drop}
 use Rattle.numbers.proofs.Any.{any-hit, any-miss, any-end, any-and}
 use Rattle.border.specs.declared.BorderMode.{BorderMode}
 use Rattle.border.specs.Modes.{borderOf}
-use Rattle.min_max.specs.Filters.{windowOrigin, badReach}
+use Rattle.filter_judge.specs.Judge.{windowOrigin, badReach}
 use denote.Ref.{now}
 use Rattle.numbers.specs.Lists.{anyOf}
-use Rattle.min_max.proofs.judge.bad_reach_any.Statement.{statement}
-use Rattle.min_max.proofs.judge.bad_reach_any.Tie as tie
+use Rattle.filter_judge.proofs.bad_reach_any.Statement.{statement}
+use Rattle.filter_judge.proofs.bad_reach_any.Tie as tie
 
 -- condition 11 of a lane of n cells
 abbrev reach : BorderMode → ℕ → ℤ → ℕ → Bool
