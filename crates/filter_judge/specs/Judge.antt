@@ -3,6 +3,7 @@
 --   callOf ns size a m o held   the one-axis call of these arguments, `held` the lent output as it stands
 --   windowOrigin size o         7: a window of more than one cell refuses the origin o
 --   badReach b size o n         11: the border cannot fill the left or the right pad of a lane of n cells
+--   sizeJudged size o           conditions 5 and 7 of a window
 --   axesJudged ns size b o      conditions 5, 7, 9 and 11 (of any axis) of a window along every axis
 --   filterJudged cells c second conditions 1, 2 (input, output, second grid), 3, 5, 7, 9 and 11 of a grid call
 use Prim.Native.Nat.{ℕ, _-_, _/_}
@@ -31,9 +32,12 @@ windowOrigin size o = not (eqb size 1) && badOrigin size o
 abbrev pub badReach : Border ℤ → ℕ → ℤ → ℕ → Bool
 badReach b size o n = badPad b n (natAbs (pos (size / 2) +ℤ o)) || badPad b n (natAbs (pos (size - size / 2 - 1) -ℤ o))
 
+abbrev pub sizeJudged : ℕ → ℤ → Judged
+sizeJudged size o = (outside 1 65 size, 5) ∷ (windowOrigin size o, 7) ∷ []
+
 abbrev pub axesJudged : List ℕ → ℕ → Border ℤ → ℤ → Judged
 axesJudged ns size b o =
-    (outside 1 65 size, 5) ∷ (windowOrigin size o, 7) ∷ (badConstantBy badLevel b, 9) ∷ (not (eqb size 1) && anyOf (badReach b size o) ns, 11) ∷ []
+    sizeJudged size o ++ ((badConstantBy badLevel b, 9) ∷ (not (eqb size 1) && anyOf (badReach b size o) ns, 11) ∷ [])
 
 abbrev pub filterJudged : List ℤ → Call → ℕ → Judged
 filterJudged cells c second =

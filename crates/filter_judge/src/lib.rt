@@ -8,7 +8,7 @@ ghost use Rattle.numbers.specs.Ranges.{outside};
 ghost use Rattle.numbers.specs.Refusal.{refusalOf};
 ghost use Rattle.border.specs.Modes.{borderOf};
 ghost use Rattle.sweeps.specs.Call.{windowJudged, callJudged};
-ghost use Rattle.filter_judge.specs.Judge.{badReach, windowOrigin, axesJudged, filterJudged, callOf};
+ghost use Rattle.filter_judge.specs.Judge.{callOf, windowOrigin, badReach, sizeJudged, axesJudged, filterJudged};
 ghost use Rattle.filter_judge.specs.Rows.{FilterJudgeRows};
 use border::BorderMode;
 use origin::Origin;
@@ -31,6 +31,19 @@ fn bad_window_origin(size: usize, origin: isize) -> bool
         return false;
     }
     origin::bad_origin(size, origin)
+}
+
+// Conditions 5 and 7, which every window has.
+fn judge_size(size: usize, origin: isize) -> u8
+    ensures { λ r. ⌜ r ≡ refusalOf (sizeJudged size origin) ⌝ }
+{
+    if bad_size(size) {
+        return numbers::KERNEL;
+    }
+    if bad_window_origin(size, origin) {
+        return numbers::ORIGIN;
+    }
+    numbers::ACCEPTED
 }
 
 // Condition 11 of a lane of n cells: the border cannot fill one of the pads that an accepted window needs.
@@ -56,11 +69,9 @@ fn bad_reach(mode: BorderMode, n: usize, size: usize, origin: isize) -> bool
 fn judge_window(shape: &[usize], size: usize, axis: usize, mode: BorderMode, origin: isize) -> u8
     ensures { λ r. ⌜ r ≡ refusalOf (windowJudged (callOf (now (shape .entry)) size axis mode origin [])) ⌝ }
 {
-    if bad_size(size) {
-        return numbers::KERNEL;
-    }
-    if bad_window_origin(size, origin) {
-        return numbers::ORIGIN;
+    let refusal = judge_size(size, origin);
+    if refusal != 0 {
+        return refusal;
     }
     if array::bad_axis(shape, axis) {
         return numbers::AXIS;
@@ -126,11 +137,9 @@ fn bad_reach_any(mode: BorderMode, shape: &[usize], size: usize, origin: isize) 
 fn judge_axes(shape: &[usize], size: usize, mode: BorderMode, origin: isize) -> u8
     ensures { λ r. ⌜ r ≡ refusalOf (axesJudged (now (shape .entry)) size (borderOf mode) origin) ⌝ }
 {
-    if bad_size(size) {
-        return numbers::KERNEL;
-    }
-    if bad_window_origin(size, origin) {
-        return numbers::ORIGIN;
+    let refusal = judge_size(size, origin);
+    if refusal != 0 {
+        return refusal;
     }
     if border::bad_constant(mode) {
         return numbers::CONSTANT;
