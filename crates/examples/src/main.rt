@@ -18,6 +18,7 @@ fn rows() {
     kernel3d::rows();
     symmetry::rows();
     pad_line::rows();
+    pad_line_f64::rows();
     minlist::rows();
     statistics::rows();
     pad_axis::rows();
@@ -40,6 +41,7 @@ fn main() {
     kernels::shapes();
     kernels::symmetries();
     padded::pad_conditions();
+    padded::fits();
     padded::lines();
     padded::lines_f64();
     padded::windows();
@@ -53,4 +55,5 @@ fn main() {
     filters::limits();
     filters::both_orders();
     filters::every_axis();
+    filters::judges();
 }

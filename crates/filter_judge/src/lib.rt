@@ -159,7 +159,7 @@ fn judge_axes(shape: &[usize], size: usize, mode: BorderMode, origin: isize) -> 
 //
 // Returns 0, or the lowest number of a condition that holds: 1 (shape), 2 (a length), 3 (a level), 5 (size), 7 (origin),
 // 9 (constant) or 11 (the border cannot fill a pad of some axis). Writes nothing and refuses nothing itself.
-// The rows 5 3 / 4 9 with size 5 under Mirror and origin 0 give 11, with a second grid of 3 cells 2.
+// The rows 5 3 / 4 9 with size 5 under Mirror and origin 0 give 11; with size 2 and a second grid of 3 cells they give 2.
 pub fn judge_filter(
     data: &[i64],
     shape: &[usize],

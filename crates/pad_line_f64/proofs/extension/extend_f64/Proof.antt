@@ -1,8 +1,8 @@
--- `pad_line::extension_f64::extend_f64` meets its contract: each arm is what the constant's or the cells' extension ensures.
+-- `pad_line_f64::extension::extend_f64` meets its contract: each arm is what the constant's or the cells' extension ensures.
 -- Assumes nothing.
 use borrow.Author.Needs.{needs}
-use Rattle.pad_line.proofs.extension_f64.extend_f64.Statement.{statement}
-use Rattle.pad_line.proofs.extension_f64.extend_f64.Tie as tie
+use Rattle.pad_line_f64.proofs.extension.extend_f64.Statement.{statement}
+use Rattle.pad_line_f64.proofs.extension.extend_f64.Tie as tie
 
 enum-known-mode : tie.Need-enum-known-mode
 enum-known-mode c = search needs

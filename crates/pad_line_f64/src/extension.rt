@@ -1,4 +1,4 @@
-// As extension.rt, of float levels.
+// As extension.rt of `pad_line`, of float levels.
 ghost use mathlib.Core.Path.{_≡_};
 ghost use mathlib.Core.Bool.{false};
 ghost use Prim.Native.Nat.{_+_, _≤_, _<_};

@@ -1,12 +1,12 @@
--- `pad_line::window_f64` meets its contract: a line shorter than len, or a place past the last window, leaves the empty part; else the part is the window.
+-- `pad_line_f64::window_f64` meets its contract: a line shorter than len, or a place past the last window, leaves the empty part; else the part is the window.
 -- Assumes nothing.
 use mathlib.Core.Path.{sym}
 use native.Mathlib.Omega.{arith}
 use borrow.Author.Needs.{needs}
 use denote.Ref.{now}
 use Rattle.numbers.proofs.Window.{window-part, window-out}
-use Rattle.pad_line.proofs.window_f64.Statement.{statement}
-use Rattle.pad_line.proofs.window_f64.Tie as tie
+use Rattle.pad_line_f64.proofs.window_f64.Statement.{statement}
+use Rattle.pad_line_f64.proofs.window_f64.Tie as tie
 
 slice-aggregate-result : tie.Need-slice-aggregate-result
 slice-aggregate-result c = search needs

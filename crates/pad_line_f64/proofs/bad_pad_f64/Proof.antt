@@ -1,12 +1,12 @@
--- `pad_line::bad_pad_f64` meets its contract: each arm answers the definition's test; under Mirror a lane of no cells is told apart, since n − 1 is then 0.
+-- `pad_line_f64::bad_pad_f64` meets its contract: each arm answers the definition's test; under Mirror a lane of no cells is told apart, since n − 1 is then 0.
 -- Assumes nothing.
 use mathlib.Core.Path.{_≡_, refl, ap}
 use Prim.Native.Nat.{_-_}
 use native.Mathlib.Omega.{arith}
 use borrow.Author.Needs.{needs}
 use lib.Dec.{ltb}
-use Rattle.pad_line.proofs.bad_pad_f64.Statement.{statement}
-use Rattle.pad_line.proofs.bad_pad_f64.Tie as tie
+use Rattle.pad_line_f64.proofs.bad_pad_f64.Statement.{statement}
+use Rattle.pad_line_f64.proofs.bad_pad_f64.Tie as tie
 
 enum-told : tie.Need-enum-told
 enum-told c = search needs

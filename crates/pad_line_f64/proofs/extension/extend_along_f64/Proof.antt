@@ -1,4 +1,4 @@
--- `pad_line::extension_f64::extend_along_f64` meets its contract: each turn copies the cell of the middle that belongs at its place; the middle is never changed, and condition 11 keeps the cell in the lane.
+-- `pad_line_f64::extension::extend_along_f64` meets its contract: each turn copies the cell of the middle that belongs at its place; the middle is never changed, and condition 11 keeps the cell in the lane.
 -- Assumes nothing.
 use mathlib.Core.Path.{refl, _∙_}
 use Prim.Native.Nat.{_+_, _-_, _≤_, _<_}
@@ -6,10 +6,10 @@ use native.Mathlib.Omega.{arith}
 use borrow.Author.Needs.{needs}
 use lib.Ieee.{nan}
 use Rattle.border.specs.Border.{along}
 use Rattle.pad_line.proofs.Reach.{cell-before-in, cell-after-in}
 use Rattle.pad_line.proofs.Rims.{Filled, filled-none, before-more, after-more, filled-middle, filled-all}
-use Rattle.pad_line.proofs.extension_f64.extend_along_f64.Statement.{statement}
-use Rattle.pad_line.proofs.extension_f64.extend_along_f64.Tie as tie
+use Rattle.pad_line_f64.proofs.extension.extend_along_f64.Statement.{statement}
+use Rattle.pad_line_f64.proofs.extension.extend_along_f64.Tie as tie
 
 abbrev Inv-loop : tie.InvT-loop
 Inv-loop mode left n right line₀ k₀ line k = (k ≤ left) × Filled nan (along mode) left n line₀ line k

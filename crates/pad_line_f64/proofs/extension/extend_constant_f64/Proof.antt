@@ -1,4 +1,4 @@
--- `pad_line::extension_f64::extend_constant_f64` meets its contract: the two rims are filled with the constant, which belongs there.
+-- `pad_line_f64::extension::extend_constant_f64` meets its contract: the two rims are filled with the constant, which belongs there.
 -- Assumes nothing.
 use mathlib.Core.Path.{refl, _∙_}
 use Prim.Native.Nat.{_+_, _-_, _≤_}
@@ -6,9 +6,9 @@ use native.Mathlib.Omega.{arith}
 use borrow.Author.Needs.{needs}
 use lib.Ieee.{nan}
 use Rattle.border.specs.Border.{constant}
 use Rattle.pad_line.proofs.Rims.{Filled, filled-none, before-constant, after-constant, filled-middle, filled-all}
-use Rattle.pad_line.proofs.extension_f64.extend_constant_f64.Statement.{statement}
-use Rattle.pad_line.proofs.extension_f64.extend_constant_f64.Tie as tie
+use Rattle.pad_line_f64.proofs.extension.extend_constant_f64.Statement.{statement}
+use Rattle.pad_line_f64.proofs.extension.extend_constant_f64.Tie as tie
 
 abbrev Inv-loop : tie.InvT-loop
 Inv-loop c left n right line₀ i₀ line i = (i ≤ left) × Filled nan (constant c) left n line₀ line i

@@ -1,4 +1,4 @@
--- `pad_line::pad_lane_f64` meets its contract: every test that fails leaves the line; where all pass, the lane is read into the middle and extended.
+-- `pad_line_f64::pad_lane_f64` meets its contract: every test that fails leaves the line; where all pass, the lane is read into the middle and extended.
 -- Assumes nothing.
 use native.Mathlib.Omega.{arith}
 use borrow.Author.Needs.{needs}
@@ -7,9 +7,9 @@ use denote.Ref.{now}
 use lib.Ieee.{nan}
 use Rattle.numbers.proofs.Tests.{told}
 use Rattle.border.specs.Modes.{borderOfF64}
 use Rattle.pad_line.proofs.Serves.{bad-left-stays, bad-right-stays, lane-stays, Serves, some-cells, line-room, read-room, lane-padded}
-use Rattle.pad_line.proofs.pad_lane_f64.Statement.{statement}
-use Rattle.pad_line.proofs.pad_lane_f64.Tie as tie
+use Rattle.pad_line_f64.proofs.pad_lane_f64.Statement.{statement}
+use Rattle.pad_line_f64.proofs.pad_lane_f64.Tie as tie
 
 bad-pad-f64-requires : tie.Need-bad-pad-f64-requires
 bad-pad-f64-requires c κs = search needs
