@@ -37,7 +37,7 @@ pub fn bad_pad(mode: BorderMode, n: usize, pad: usize) -> bool
     }
 }
 
-// Whether a padded lane is served: the lane is inside the grid, and the padded line is no longer than the lent one.
+// Whether a lane is inside the grid and its padded line no longer than the lent one.
 //
 // * `count` - how many cells the grid has.
 // * `stride`, `lane`, `n` - as in `pad_lane`.
