@@ -1,4 +1,4 @@
-// The examples of `min_max`: T4, T5 in both orders, the grid forms, and refused calls, which leave the lent cells.
+// The examples of `min_max` and `filter_judge`: T4, T5 in both orders, the grid forms, and refused calls, which leave the lent cells.
 use crate::print::levels;
 use crate::print::line;
 use border::BorderMode;
@@ -145,4 +145,14 @@ pub fn every_axis() {
         ) as usize,
     );
     levels(&out);
+}
+
+// The numbers alone: origin 1 of length 2, axis 2, Mirror with length 5 on two cells, a second grid of 3 cells.
+pub fn judges() {
+    let cells = [5i64, 3, 4, 9];
+    let shape = [2usize, 2];
+    line(filter_judge::judge_call(&cells, &shape, 2, 0, BorderMode::Nearest, 1, &cells) as usize);
+    line(filter_judge::judge_call(&cells, &shape, 2, 2, BorderMode::Nearest, 0, &cells) as usize);
+    line(filter_judge::judge_filter(&cells, &shape, 5, BorderMode::Mirror, 0, &cells, 4) as usize);
+    line(filter_judge::judge_filter(&cells, &shape, 2, BorderMode::Mirror, 0, &cells, 3) as usize);
 }

@@ -19,12 +19,14 @@ fn rows() {
     kernel3d::rows();
     symmetry::rows();
     pad_line::rows();
+    pad_line_f64::rows();
     minlist::rows();
     statistics::rows();
     pad_axis::rows();
     pad_judge::rows();
     sweeps::rows();
     sweeps::order_of_axes();
+    filter_judge::rows();
     min_max::rows();
     pad::rows();
 }
@@ -41,6 +43,7 @@ fn main() {
     kernels::shapes();
     kernels::symmetries();
     padded::pad_conditions();
+    padded::fits();
     padded::lines();
     padded::lines_f64();
     padded::windows();
@@ -54,6 +57,7 @@ fn main() {
     filters::limits();
     filters::both_orders();
     filters::every_axis();
+    filters::judges();
     grids::t1();
     grids::t10();
     grids::squares();

@@ -22,7 +22,8 @@ use Rattle.lanes.specs.Axes.{overAxes}
 use Rattle.sweeps.specs.Call.{firstIn, numberOf}
 use Rattle.sweeps.specs.Run.{answerOf}
 use Rattle.sweeps.proofs.Passed.{length-answer, answer-in}
-use Rattle.min_max.specs.Filters.{callOf, windowOrigin, badReach, filterAnswer, filterJudged}
+use Rattle.filter_judge.specs.Judge.{callOf, windowOrigin, badReach, filterJudged}
+use Rattle.min_max.specs.Filters.{filterAnswer}
 
 module _ (cells : List ℤ) (ns : List ℕ) (size : ℕ) (m : BorderMode) (o : ℤ) (out : List ℤ) (second : ℕ) where
   -- what an accepted grid call has passed

@@ -1,5 +1,4 @@
 -- Laws.
-pub mod Reach
 pub mod ByLanes
 pub mod OnePass
 pub mod EveryAxis

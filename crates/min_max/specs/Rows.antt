@@ -1,4 +1,4 @@
--- Worked rows of this crate's definitions: T4, T5, pads, origins and reaches at their limits. Each holds by computing.
+-- Worked rows of this crate's definitions: T4, T5, lines and a third axis. Each holds by computing.
 --   levels        4 2 7 1
 --   square        the rows 5 3 / 4 9
 --   onSquare ..   a call on them
@@ -6,19 +6,19 @@
 use Prim.Native.Nat.{ℕ}
 use mathlib.Core.Path.{_≡_}
 use mathlib.Core.Bool.{true, false}
-use mathlib.Core.List.{List, [], _∷_, map}
+use mathlib.Core.List.{List, [], _∷_}
 use lib.IntN.{ℤ, pos, negsuc}
 use lib.Signed.{leZ}
 use Rattle.numbers.specs.Order.{atLeast}
-use Rattle.numbers.specs.Refusal.{refusalOf}
 use Rattle.border.specs.Border.{constant, along}
-use Rattle.border.specs.declared.Along.the-variants.{Mirror, Reflect}
+use Rattle.border.specs.declared.Along.the-variants.{Reflect}
 use Rattle.border.specs.declared.BorderMode.{BorderMode}
 use Rattle.border.specs.declared.BorderMode.the-variants as modes
 use Rattle.sweeps.specs.Call.{Call}
 use Rattle.sweeps.specs.Run.{answerOf}
+use Rattle.filter_judge.specs.Judge.{callOf}
 use Rattle.min_max.specs.Lane.{extremesOf}
-use Rattle.min_max.specs.Filters.{orderOf, callOf, windowOrigin, badReach, filterAnswer, axesJudged, filterJudged}
+use Rattle.min_max.specs.Filters.{orderOf, filterAnswer}
 use Rattle.min_max.specs.declared.Extreme.the-variants.{Least, Greatest}
 
 abbrev pub levels : List ℤ
@@ -41,21 +41,7 @@ pub record MinMaxRows : Type 0 where
   -- the same as lines
   pub line-both : extremesOf leZ (along Reflect) 1 1 levels ≡ pos 2 ∷ pos 2 ∷ pos 1 ∷ pos 1 ∷ []
   pub line-before : extremesOf leZ (constant (pos 5)) 1 0 levels ≡ pos 4 ∷ pos 2 ∷ pos 2 ∷ pos 1 ∷ []
-  -- length 4: origins −2 and 1 pass, −3 and 2 do not; length 1 passes with origin 99
-  pub origins : map (windowOrigin 4) (negsuc 1 ∷ pos 1 ∷ negsuc 2 ∷ pos 2 ∷ []) ≡ false ∷ false ∷ true ∷ true ∷ []
-  pub origin-alone : windowOrigin 1 (pos 99) ≡ false
-  -- three cells: Mirror takes length 5 and refuses 7, Reflect takes 7 and refuses 9; length 4 with origin −2 needs 0 and 3 places
-  pub reaches : badReach (along Mirror) 5 (pos 0) 3 ∷ badReach (along Mirror) 7 (pos 0) 3 ∷ badReach (along Reflect) 7 (pos 0) 3 ∷ badReach (along Reflect) 9 (pos 0) 3 ∷ [] ≡ false ∷ true ∷ false ∷ true ∷ []
-  pub reach-right : badReach (along Mirror) 4 (negsuc 1) 3 ∷ badReach (along Reflect) 4 (negsuc 1) 3 ∷ [] ≡ true ∷ false ∷ []
   -- T5 on every axis, and the greatest of the same boxes; 2 by 2 by 1 cells sweep a third axis
   pub t5-minimum : filterAnswer leZ (onSquare 2 (modes.Constant (pos 0)) (pos 0)) square ≡ pos 0 ∷ pos 0 ∷ pos 0 ∷ pos 3 ∷ []
   pub t5-maximum : filterAnswer atLeast (onSquare 2 (modes.Constant (pos 0)) (pos 0)) square ≡ pos 5 ∷ pos 5 ∷ pos 5 ∷ pos 9 ∷ []
   pub third-axis : filterAnswer leZ (callOf (2 ∷ 2 ∷ 1 ∷ []) 2 0 (modes.Constant (pos 2)) (pos 0) square) square ≡ pos 2 ∷ pos 2 ∷ pos 2 ∷ pos 2 ∷ []
-  -- the refusals of a grid call: a second grid of 3 cells, length 66, origin 1 of length 2, Constant 2^31, Mirror with length 5 on two cells
-  pub second-short : refusalOf (filterJudged square (onSquare 2 modes.Wrap (pos 0)) 3) ≡ 2
-  pub accepted : refusalOf (filterJudged square (onSquare 2 modes.Wrap (pos 0)) 4) ≡ 0
-  pub size-66 : refusalOf (filterJudged square (onSquare 66 modes.Nearest (pos 0)) 4) ≡ 5
-  pub origin-1 : refusalOf (filterJudged square (onSquare 2 modes.Nearest (pos 1)) 4) ≡ 7
-  pub constant-out : refusalOf (filterJudged square (onSquare 2 (modes.Constant (pos 2147483648)) (pos 0)) 4) ≡ 9
-  pub reach-out : refusalOf (filterJudged square (onSquare 5 modes.Mirror (pos 0)) 4) ≡ 11
-  pub last-axis-out : refusalOf (axesJudged (9 ∷ 2 ∷ []) 5 (along Mirror) (pos 0)) ≡ 11

@@ -4,9 +4,9 @@ ghost use lib.ListN.{length};
 ghost use lib.Signed.{leZ};
 ghost use Rattle.numbers.specs.Order.{atLeast};
 ghost use Rattle.numbers.specs.Refusal.{refusalOf};
-ghost use Rattle.min_max.specs.Filters.{orderOf, callOf, filterAnswer, filterJudged, FilterAnswers};
+ghost use Rattle.filter_judge.specs.Judge.{callOf, filterJudged};
+ghost use Rattle.min_max.specs.Filters.{orderOf, filterAnswer, FilterAnswers};
 use crate::Extreme;
-use crate::judge;
 use crate::one_axis;
 use border::BorderMode;
 
@@ -52,7 +52,7 @@ fn filter(
 ) -> u8
     ensures { λ r. ⌜ FilterAnswers (orderOf extreme) (now («data» .entry)) (callOf (now (shape .entry)) size 0 mode origin (now (out .entry))) (now (second .entry)) r (now (second .exit)) (now (out .exit)) ⌝ }
 {
-    let refusal = judge::judge_filter(data, shape, size, mode, origin, out, second.len());
+    let refusal = filter_judge::judge_filter(data, shape, size, mode, origin, out, second.len());
     if refusal != 0 {
         return refusal;
     }

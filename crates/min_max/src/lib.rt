@@ -4,7 +4,6 @@
 ghost use Rattle.min_max.specs.Rows.{MinMaxRows};
 
 mod every_axis;
-mod judge;
 mod lane;
 mod one_axis;
 
@@ -19,7 +18,7 @@ pub enum Extreme {
     Greatest,
 }
 
-// Worked rows of this crate's definitions: T4, T5, and origins and reaches at their limits. Refuses nothing.
+// Worked rows of this crate's definitions: T4, T5, and a third axis. Refuses nothing.
 pub fn rows()
     ensures { λ _. ⌜ MinMaxRows ⌝ }
 {}

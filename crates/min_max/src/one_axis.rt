@@ -5,9 +5,9 @@ ghost use Rattle.numbers.specs.Order.{atLeast};
 ghost use Rattle.numbers.specs.Refusal.{Answers};
 ghost use Rattle.sweeps.specs.Call.{callJudged, numberOf};
 ghost use Rattle.sweeps.specs.Run.{answerOf};
-ghost use Rattle.min_max.specs.Filters.{orderOf, callOf};
+ghost use Rattle.filter_judge.specs.Judge.{callOf};
+ghost use Rattle.min_max.specs.Filters.{orderOf};
 use crate::Extreme;
-use crate::judge;
 use crate::lane;
 use border::BorderMode;
 use origin::Origin;
@@ -59,7 +59,7 @@ fn filter1d(
     ensures { λ r. ⌜ Answers (callJudged (now («data» .entry)) (callOf (now (shape .entry)) size axis mode origin (now (out .entry))))
         (answerOf (orderOf extreme) (now («data» .entry)) (callOf (now (shape .entry)) size axis mode origin (now (out .entry)))) (now (out .entry)) r (now (out .exit)) ⌝ }
 {
-    let refusal = judge::judge_call(data, shape, size, axis, mode, origin, out);
+    let refusal = filter_judge::judge_call(data, shape, size, axis, mode, origin, out);
     if refusal != 0 {
         return refusal;
     }

@@ -43,13 +43,13 @@ module _ {A : Type 0} (d : A) (b : Border A) (n s l left right : ℕ) (g held : 
   stays : padServes b n s l (length g) left right (length held) ≡ false → held ≡ paddedLane d b n s l left right g held
   stays e = sym (cond-no _ (paddedLine d b left right (lane d n s l g) ++ drop (left + n + right) held) held e)
 
-  pub bad-left-stays : {r : Bool} → r ≡ badPad b n left → r ≡ true → held ≡ paddedLane d b n s l left right g held
-  unfolding padServes fit
-  bad-left-stays e t = stays (ap (λ x. fit && not x && not (badPad b n right)) (told e t) ∙ no-left fit (badPad b n right))
-
   pub bad-right-stays : {r : Bool} → r ≡ badPad b n right → r ≡ true → held ≡ paddedLane d b n s l left right g held
   unfolding padServes fit
   bad-right-stays e t = stays (ap (λ x. fit && not (badPad b n left) && not x) (told e t) ∙ and-false (fit && not (badPad b n left)))
+
+  pub bad-left-stays : {r : Bool} → r ≡ badPad b n left → r ≡ true → held ≡ paddedLane d b n s l left right g held
+  unfolding padServes fit
+  bad-left-stays e t = stays (ap (λ x. fit && not x && not (badPad b n right)) (told e t) ∙ no-left fit (badPad b n right))
 
   pub lane-stays : {r : Bool} → r ≡ laneInside n s l (length g) && leb (left + n + right) (length held) → r ≡ false → held ≡ paddedLane d b n s l left right g held
   unfolding padServes

@@ -9,14 +9,12 @@ use Prim.Native.Nat.{ℕ}
 use mathlib.Core.Path.{_≡_}
 use mathlib.Core.Bool.{Bool, true, false}
 use mathlib.Core.List.{List, [], _∷_, map}
-use lib.Ieee.{Float, nan}
 use lib.IntN.{ℤ, pos}
 use lib.ListN.{replicate}
 use Rattle.numbers.specs.Windows.{windowOf}
-use Rattle.border.specs.Modes.{borderOf, borderOfF64}
+use Rattle.border.specs.Modes.{borderOf}
 use Rattle.border.specs.declared.BorderMode.{BorderMode}
 use Rattle.border.specs.declared.BorderMode.the-variants as Whole
-use Rattle.border.specs.declared.BorderModeF64.the-variants as F64
 use Rattle.pad_line.specs.Line.{paddedLine, badPad, paddedLane}
 
 abbrev pub wholes : List ℕ → List ℤ
@@ -43,9 +41,6 @@ pub record PadLineRows : Type 0 where
   pub unequal-wrap : padded Whole.Wrap 1 3 ≡ wholes (3 ∷ 1 ∷ 2 ∷ 3 ∷ 1 ∷ 2 ∷ 3 ∷ [])
   pub unequal-constant : padded (Whole.Constant (pos 7)) 1 3 ≡ wholes (7 ∷ 1 ∷ 2 ∷ 3 ∷ 7 ∷ 7 ∷ 7 ∷ [])
   pub no-pads : padded Whole.Mirror 0 0 ≡ wholes (1 ∷ 2 ∷ 3 ∷ [])
-  -- the same of any floats
-  pub floats-mirror : (x y z : Float) → paddedLine nan (borderOfF64 F64.Mirror) 2 2 (x ∷ y ∷ z ∷ []) ≡ z ∷ y ∷ x ∷ y ∷ z ∷ y ∷ x ∷ []
-  pub floats-constant : (t x : Float) → paddedLine nan (borderOfF64 (F64.Constant t)) 1 2 (x ∷ []) ≡ t ∷ x ∷ t ∷ t ∷ []
   -- condition 11 of three cells and of one
   pub bad-mirror : bad Whole.Mirror 3 (0 ∷ 2 ∷ 3 ∷ []) ≡ false ∷ false ∷ true ∷ []
   pub bad-reflect : bad Whole.Reflect 3 (3 ∷ 4 ∷ []) ≡ false ∷ true ∷ []

@@ -3,18 +3,15 @@ ghost use mathlib.Core.Path.{_≡_};
 ghost use mathlib.Core.Bool.{_&&_};
 ghost use Prim.Native.Nat.{_+_};
 ghost use lib.Dec.{leb};
-ghost use lib.Ieee.{nan};
 ghost use lib.IntN.{pos};
 ghost use Rattle.numbers.specs.Windows.{windowOf};
 ghost use Rattle.lanes.specs.Lanes.{laneInside};
-ghost use Rattle.border.specs.Modes.{borderOf, borderOfF64};
+ghost use Rattle.border.specs.Modes.{borderOf};
 ghost use Rattle.pad_line.specs.Line.{badPad, paddedLane};
 ghost use Rattle.pad_line.specs.Rows.{PadLineRows};
 use border::BorderMode;
-use border::BorderModeF64;
 
 mod extension;
-mod extension_f64;
 
 // Condition 11 of a lane: whether the border cannot fill a pad that long.
 //
@@ -40,26 +37,16 @@ pub fn bad_pad(mode: BorderMode, n: usize, pad: usize) -> bool
     }
 }
 
-// As `bad_pad`, of a float border.
-pub fn bad_pad_f64(mode: BorderModeF64, n: usize, pad: usize) -> bool
-    ensures { λ r. ⌜ r ≡ badPad (borderOfF64 mode) n pad ⌝ }
-{
-    match mode {
-        BorderModeF64::Constant(_) => false,
-        BorderModeF64::Mirror => {
-            if n < 1 {
-                return 0 < pad;
-            }
-            n - 1 < pad
-        }
-        BorderModeF64::Nearest => false,
-        BorderModeF64::Reflect => n < pad,
-        BorderModeF64::Wrap => n < pad,
-    }
-}
-
-// Whether a lane is inside a grid of count cells, and the padded line no longer than room.
-fn lane_fits(
+// Whether a lane is inside the grid and its padded line no longer than the lent one.
+//
+// * `count` - how many cells the grid has.
+// * `stride`, `lane`, `n` - as in `pad_lane`.
+// * `left`, `right` - how many places are padded before and after the lane.
+// * `room` - how long the lent line is.
+//
+// False for a grid of over 32,768 cells. Refuses nothing.
+// Lane 1 of three cells, 1 apart, of a grid of 6 with pads 2 and 2 fits a line of 7 and not one of 6; lane 2 fits none.
+pub fn lane_fits(
     count: usize,
     stride: usize,
     lane: usize,
@@ -122,33 +109,6 @@ pub fn pad_lane(
     extension::extend(mode, left, n, right, line);
 }
 
-// As `pad_lane`, of float levels.
-pub fn pad_lane_f64(
-    grid: &[f64],
-    stride: usize,
-    lane: usize,
-    n: usize,
-    mode: BorderModeF64,
-    left: usize,
-    right: usize,
-    line: &mut [f64],
-)
-    ensures { λ _. ⌜ now (line .exit) ≡ paddedLane nan (borderOfF64 mode) n stride lane left right (now (grid .entry)) (now (line .entry)) ⌝ }
-{
-    if bad_pad_f64(mode, n, left) {
-        return;
-    }
-    if bad_pad_f64(mode, n, right) {
-        return;
-    }
-    if !lane_fits(grid.len(), stride, lane, n, left, right, line.len()) {
-        return;
-    }
-    let e = left + n;
-    lanes::read_lane_f64(grid, stride, lane, &mut line[left..e]);
-    extension_f64::extend_f64(mode, left, n, right, line);
-}
-
 // The window of a cell: the part of a padded line from place i to i + len, i + len not included.
 //
 // * `line` - the padded line.
@@ -169,21 +129,6 @@ pub fn window(line: &[i64], i: usize, len: usize) -> &[i64]
     }
     let e = i + len;
     &line[i..e]
-}
-
-// As `window`, of float levels.
-pub fn window_f64(line: &[f64], i: usize, len: usize) -> &[f64]
-    ensures { λ r. ⌜ now r ≡ windowOf (now (line .entry)) i len ⌝ }
-{
-    let count = line.len();
-    if count < len {
-        return &line[..0];
-    }
-    if count - len < i {
-        return &line[..0];
-    }
-    let end = i + len;
-    &line[i..end]
 }
 
 // Worked rows of this crate's definitions: T1, unequal pads, condition 11, windows, and lines that stay as they were. Refuses nothing.

@@ -3,10 +3,8 @@
 use mathlib.Core.Path.{refl}
 use Rattle.numbers.specs.Lists.{tabulate}
 use Rattle.numbers.specs.Windows.{windowOf}
-use Rattle.array.specs.Conditions.{badShape, gridCount, badLevel}
 use Rattle.array.specs.Grid.{placeOf, coordinate}
 use Rattle.border.specs.Border.{cellFor, extendedLane}
-use Rattle.origin.specs.Origin.{badOrigin}
 use Rattle.pad_line.specs.Line.{paddedAt, paddedLine}
 use Rattle.minlist.specs.Firsts.{firsts}
 use Rattle.sweeps.specs.Call.{firstIn}
@@ -16,7 +14,7 @@ use Rattle.min_max.proofs.rows.Statement.{statement}
 use Rattle.min_max.proofs.rows.Tie as tie
 
 returns : tie.Need-returns
-unfolding tabulate windowOf placeOf coordinate cellFor extendedLane badOrigin paddedAt paddedLine firsts firstIn answerOf filterAnswer badShape gridCount badLevel
+unfolding tabulate windowOf placeOf coordinate cellFor extendedLane paddedAt paddedLine firsts firstIn answerOf filterAnswer
 returns c = record {
   orders = refl;
   t4-minimum = refl;
@@ -25,20 +23,9 @@ returns c = record {
   after = refl;
   line-both = refl;
   line-before = refl;
-  origins = refl;
-  origin-alone = refl;
-  reaches = refl;
-  reach-right = refl;
   t5-minimum = refl;
   t5-maximum = refl;
   third-axis = refl;
-  second-short = refl;
-  accepted = refl;
-  size-66 = refl;
-  origin-1 = refl;
-  constant-out = refl;
-  reach-out = refl;
-  last-axis-out = refl;
 }
 
 pub rows-spec : {M : Type 1} → statement M

@@ -9,7 +9,8 @@ use lib.ListN.{length, replicate}
 use Prim.Native.Nat.{ℕ}
 use Rattle.numbers.specs.Refusal.{refusalOf}
 use Rattle.numbers.proofs.Refusal.{answers-refused, answers-accepted}
-use Rattle.min_max.specs.Filters.{orderOf, callOf, filterAnswer, filterJudged}
+use Rattle.filter_judge.specs.Judge.{callOf, filterJudged}
+use Rattle.min_max.specs.Filters.{orderOf, filterAnswer}
 use borrow.Author.Needs.{needs}
 use Rattle.min_max.proofs.every_axis.filter.Statement.{statement}
 use Rattle.min_max.proofs.every_axis.filter.Tie as tie

@@ -11,7 +11,8 @@ use lib.IntN.{ℤ}
 use lib.ListN.{length}
 use Rattle.numbers.specs.Refusal.{refusalOf}
 use Rattle.array.proofs.Shapes.{shape-accepted}
-use Rattle.min_max.specs.Filters.{orderOf, callOf, filterAnswer, filterJudged}
+use Rattle.filter_judge.specs.Judge.{callOf, filterJudged}
+use Rattle.min_max.specs.Filters.{orderOf, filterAnswer}
 use Rattle.min_max.proofs.EveryAxis.{Filtered, filtered, between-input, pass-accepted, between-pass, one-pass, two-passes, three-passes}
 use Rattle.min_max.proofs.every_axis.passes.Statement.{statement}
 use Rattle.min_max.proofs.every_axis.passes.Tie as tie
@@ -46,7 +47,7 @@ pass-requires : tie.Need-pass-requires
 pass-requires c κs =
     let s = c .before .before .before in
     let a = s .args in
-    pass-accepted (now (a .«data»)) (now (a .shape)) (a .size) (a .mode) (handed s) (now (a .out)) (length (now (a .second))) (accepted s) _ 0 (between-input (now (a .«data»)) (now (a .shape)) (a .size) (a .mode) (handed s) (now (a .out)) (length (now (a .second))) (accepted s)) (accepted s .output) (omega (arith, c .before .if1 .taken))
+    pass-accepted (now (a .«data»)) (now (a .shape)) (a .size) (a .mode) (handed s) (now (a .out)) (length (now (a .second))) (accepted s) _ _ (between-input (now (a .«data»)) (now (a .shape)) (a .size) (a .mode) (handed s) (now (a .out)) (length (now (a .second))) (accepted s)) (accepted s .output) (omega (arith, c .before .if1 .taken))
 
 same-length : tie.Need-same-length
 same-length c = search needs
@@ -61,13 +62,13 @@ pass-requires-2 : tie.Need-pass-requires-2
 pass-requires-2 c κs =
     let s = c .before .before .before .before in
     let a = s .args in
-    pass-accepted (now (a .«data»)) (now (a .shape)) (a .size) (a .mode) (handed s) (now (a .out)) (length (now (a .second))) (accepted s) _ 0 (between-input (now (a .«data»)) (now (a .shape)) (a .size) (a .mode) (handed s) (now (a .out)) (length (now (a .second))) (accepted s)) (accepted s .between) (omega (arith, c .before .if2 .taken))
+    pass-accepted (now (a .«data»)) (now (a .shape)) (a .size) (a .mode) (handed s) (now (a .out)) (length (now (a .second))) (accepted s) _ _ (between-input (now (a .«data»)) (now (a .shape)) (a .size) (a .mode) (handed s) (now (a .out)) (length (now (a .second))) (accepted s)) (accepted s .between) (omega (arith, c .before .if2 .taken))
 
 pass-requires-3 : tie.Need-pass-requires-3
 pass-requires-3 c κs =
     let s = c .before .before .before .before .before .before .before .before in
     let a = s .args in
-    pass-accepted (now (a .«data»)) (now (a .shape)) (a .size) (a .mode) (handed s) (now (a .out)) (length (now (a .second))) (accepted s) _ 1 (between-pass (now (a .«data»)) (now (a .shape)) (a .size) (a .mode) (handed s) (now (a .out)) (length (now (a .second))) (accepted s) (orderOf (a .extreme)) _ 0 (between-input (now (a .«data»)) (now (a .shape)) (a .size) (a .mode) (handed s) (now (a .out)) (length (now (a .second))) (accepted s)) (c .before .before .before .pass2 .ensures)) (accepted s .output) (omega (arith, c .before .before .before .before .before .if2 .taken))
+    pass-accepted (now (a .«data»)) (now (a .shape)) (a .size) (a .mode) (handed s) (now (a .out)) (length (now (a .second))) (accepted s) _ _ (between-pass (now (a .«data»)) (now (a .shape)) (a .size) (a .mode) (handed s) (now (a .out)) (length (now (a .second))) (accepted s) (orderOf (a .extreme)) _ 0 (between-input (now (a .«data»)) (now (a .shape)) (a .size) (a .mode) (handed s) (now (a .out)) (length (now (a .second))) (accepted s)) (c .before .before .before .pass2 .ensures)) (accepted s .output) (omega (arith, c .before .before .before .before .before .if2 .taken))
 
 same-length-2 : tie.Need-same-length-2
 same-length-2 c = search needs
@@ -85,19 +86,19 @@ pass-requires-4 : tie.Need-pass-requires-4
 pass-requires-4 c κs =
     let s = c .before .before .before .before in
     let a = s .args in
-    pass-accepted (now (a .«data»)) (now (a .shape)) (a .size) (a .mode) (handed s) (now (a .out)) (length (now (a .second))) (accepted s) _ 0 (between-input (now (a .«data»)) (now (a .shape)) (a .size) (a .mode) (handed s) (now (a .out)) (length (now (a .second))) (accepted s)) (accepted s .output) (omega (arith, three (c .before)))
+    pass-accepted (now (a .«data»)) (now (a .shape)) (a .size) (a .mode) (handed s) (now (a .out)) (length (now (a .second))) (accepted s) _ _ (between-input (now (a .«data»)) (now (a .shape)) (a .size) (a .mode) (handed s) (now (a .out)) (length (now (a .second))) (accepted s)) (accepted s .output) (omega (arith, three (c .before)))
 
 pass-requires-5 : tie.Need-pass-requires-5
 pass-requires-5 c κs =
     let s = c .before .before .before .before .before .before .before .before in
     let a = s .args in
-    pass-accepted (now (a .«data»)) (now (a .shape)) (a .size) (a .mode) (handed s) (now (a .out)) (length (now (a .second))) (accepted s) _ 1 (between-pass (now (a .«data»)) (now (a .shape)) (a .size) (a .mode) (handed s) (now (a .out)) (length (now (a .second))) (accepted s) (orderOf (a .extreme)) _ 0 (between-input (now (a .«data»)) (now (a .shape)) (a .size) (a .mode) (handed s) (now (a .out)) (length (now (a .second))) (accepted s)) (c .before .before .before .pass4 .ensures)) (accepted s .between) (omega (arith, three (c .before .before .before .before .before)))
+    pass-accepted (now (a .«data»)) (now (a .shape)) (a .size) (a .mode) (handed s) (now (a .out)) (length (now (a .second))) (accepted s) _ _ (between-pass (now (a .«data»)) (now (a .shape)) (a .size) (a .mode) (handed s) (now (a .out)) (length (now (a .second))) (accepted s) (orderOf (a .extreme)) _ 0 (between-input (now (a .«data»)) (now (a .shape)) (a .size) (a .mode) (handed s) (now (a .out)) (length (now (a .second))) (accepted s)) (c .before .before .before .pass4 .ensures)) (accepted s .between) (omega (arith, three (c .before .before .before .before .before)))
 
 pass-requires-6 : tie.Need-pass-requires-6
 pass-requires-6 c κs =
     let s = c .before .before .before .before .before .before .before .before .before .before .before .before in
     let a = s .args in
-    pass-accepted (now (a .«data»)) (now (a .shape)) (a .size) (a .mode) (handed s) (now (a .out)) (length (now (a .second))) (accepted s) _ 2 (between-pass (now (a .«data»)) (now (a .shape)) (a .size) (a .mode) (handed s) (now (a .out)) (length (now (a .second))) (accepted s) (orderOf (a .extreme)) _ 1 (between-pass (now (a .«data»)) (now (a .shape)) (a .size) (a .mode) (handed s) (now (a .out)) (length (now (a .second))) (accepted s) (orderOf (a .extreme)) _ 0 (between-input (now (a .«data»)) (now (a .shape)) (a .size) (a .mode) (handed s) (now (a .out)) (length (now (a .second))) (accepted s)) (c .before .before .before .before .before .before .before .pass4 .ensures)) (c .before .before .before .pass5 .ensures)) (c .before .before .before .before .before .before .before .pass4 .kept .1 .1 .1 .1 .1 .1 .1 .0 ∙ accepted s .output) (omega (arith, three (c .before .before .before .before .before .before .before .before .before)))
+    pass-accepted (now (a .«data»)) (now (a .shape)) (a .size) (a .mode) (handed s) (now (a .out)) (length (now (a .second))) (accepted s) _ _ (between-pass (now (a .«data»)) (now (a .shape)) (a .size) (a .mode) (handed s) (now (a .out)) (length (now (a .second))) (accepted s) (orderOf (a .extreme)) _ 1 (between-pass (now (a .«data»)) (now (a .shape)) (a .size) (a .mode) (handed s) (now (a .out)) (length (now (a .second))) (accepted s) (orderOf (a .extreme)) _ 0 (between-input (now (a .«data»)) (now (a .shape)) (a .size) (a .mode) (handed s) (now (a .out)) (length (now (a .second))) (accepted s)) (c .before .before .before .before .before .before .before .pass4 .ensures)) (c .before .before .before .pass5 .ensures)) (c .before .before .before .before .before .before .before .pass4 .kept .1 .1 .1 .1 .1 .1 .1 .0 ∙ accepted s .output) (omega (arith, three (c .before .before .before .before .before .before .before .before .before)))
 
 same-length-4 : tie.Need-same-length-4
 same-length-4 c = search needs

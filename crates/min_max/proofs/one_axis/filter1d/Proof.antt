@@ -9,7 +9,8 @@ use Rattle.numbers.specs.Refusal.{refusalOf}
 use Rattle.numbers.proofs.Refusal.{answers-refused, answers-accepted}
 use Rattle.sweeps.specs.Run.{answerOf}
 use Rattle.sweeps.specs.Call.{callJudged, numberOf}
-use Rattle.min_max.specs.Filters.{orderOf, callOf}
+use Rattle.filter_judge.specs.Judge.{callOf}
+use Rattle.min_max.specs.Filters.{orderOf}
 use borrow.Author.Needs.{needs}
 use Rattle.min_max.proofs.one_axis.filter1d.Statement.{statement}
 use Rattle.min_max.proofs.one_axis.filter1d.Tie as tie

@@ -8,8 +8,9 @@ use mir.Val.{toZ, ofZ}
 use Rattle.origin.specs.Origin.{originPads}
 use Rattle.sweeps.specs.Call.{Call}
 use Rattle.sweeps.proofs.Passed.{passed}
-use Rattle.min_max.specs.Filters.{orderOf, callOf}
-use Rattle.min_max.proofs.Reach.{origin-refused, PadsAre, pads-are}
+use Rattle.filter_judge.specs.Judge.{callOf}
+use Rattle.min_max.specs.Filters.{orderOf}
+use Rattle.filter_judge.proofs.Reach.{origin-refused, PadsAre, pads-are}
 use Rattle.min_max.proofs.OnePass.{copied-answer, sweep-accepted, swept-answer}
 use borrow.Author.Needs.{needs}
 use Rattle.min_max.proofs.one_axis.pass.Statement.{statement}

@@ -1,0 +1,3 @@
+-- The conditions of the minimum and maximum filters.
+pub mod Judge
+pub mod Rows

@@ -1,0 +1,87 @@
+-- `pad_line_f64::pad_lane_f64` meets its contract: every test that fails leaves the line; where all pass, the lane is read into the middle and extended.
+-- Assumes nothing.
+use native.Mathlib.Omega.{arith}
+use borrow.Author.Needs.{needs}
+use borrow.Author.Tests.{not-true, not-false}
+use denote.Ref.{now}
+use lib.Ieee.{nan}
+use Rattle.numbers.proofs.Tests.{told}
+use Rattle.border.specs.Modes.{borderOfF64}
+use Rattle.pad_line.proofs.Serves.{bad-left-stays, bad-right-stays, lane-stays, Serves, some-cells, line-room, read-room, lane-padded}
+use Rattle.pad_line_f64.proofs.pad_lane_f64.Statement.{statement}
+use Rattle.pad_line_f64.proofs.pad_lane_f64.Tie as tie
+
+bad-pad-f64-requires : tie.Need-bad-pad-f64-requires
+bad-pad-f64-requires c κs = search needs
+
+returns : tie.Need-returns
+returns c = let a = c .before .before .before .before .args in bad-left-stays nan (borderOfF64 (a .mode)) (a .n) (a .stride) (a .lane) (a .left) (a .right) (now (a .grid)) (now (a .line)) (c .before .bad-pad-f64 .ensures) (c .if1 .taken)
+
+bad-pad-f64-requires-2 : tie.Need-bad-pad-f64-requires-2
+bad-pad-f64-requires-2 c κs = search needs
+
+returns-2 : tie.Need-returns-2
+returns-2 c = let a = c .before .before .before .before .before .before .args in bad-right-stays nan (borderOfF64 (a .mode)) (a .n) (a .stride) (a .lane) (a .left) (a .right) (now (a .grid)) (now (a .line)) (c .before .bad-pad-f642 .ensures) (c .if2 .taken)
+
+lane-fits-requires : tie.Need-lane-fits-requires
+lane-fits-requires c κs = search needs
+
+returns-3 : tie.Need-returns-3
+returns-3 c = let a = c .before .before .before .before .before .before .before .before .args in lane-stays nan (borderOfF64 (a .mode)) (a .n) (a .stride) (a .lane) (a .left) (a .right) (now (a .grid)) (now (a .line)) (c .before .lane-fits .ensures) (not-true _ (c .if3 .taken))
+
+-- every test has passed
+served : (c : tie.Else3) → let a = c .before .before .before .before .before .before .before .before .args in Serves (borderOfF64 (a .mode)) (a .n) (a .stride) (a .lane) (a .left) (a .right) (now (a .grid)) (now (a .line))
+served c = record {
+  fits = told (c .before .lane-fits .ensures) (not-false _ (c .if3 .left));
+  fills-left = told (c .before .before .before .before .before .bad-pad-f64 .ensures) (c .before .before .before .before .if1 .left);
+  fills-right = told (c .before .before .before .bad-pad-f642 .ensures) (c .before .before .if2 .left);
+}
+
+add-e : tie.Need-add-e
+add-e c = omega (arith, line-room nan (served c))
+
+mul-read-lane-f64 : tie.Need-mul-read-lane-f64
+mul-read-lane-f64 c = omega (arith, line-room nan (served c))
+
+sub-read-lane-f64 : tie.Need-sub-read-lane-f64
+sub-read-lane-f64 c = search needs
+
+part-read-lane-f64-start : tie.Need-part-read-lane-f64-start
+part-read-lane-f64-start c = search needs
+
+part-read-lane-f64-end : tie.Need-part-read-lane-f64-end
+part-read-lane-f64-end c = omega (arith, line-room nan (served c))
+
+read-lane-f64-requires : tie.Need-read-lane-f64-requires
+read-lane-f64-requires c κs = search needs
+
+extend-f64-requires : tie.Need-extend-f64-requires
+extend-f64-requires c κs =
+    let S = served (c .before .before .before .before .before) in
+    (some-cells nan S, read-room nan S (c .before .before .before .read-lane-f64 .ensures), S .fills-left, S .fills-right)
+
+same-length : tie.Need-same-length
+same-length c = search needs
+
+returns-4 : tie.Need-returns-4
+returns-4 c = lane-padded nan (served (c .before .before .before .before .before .before .before .before)) (c .before .before .before .before .before .before .read-lane-f64 .ensures) (c .before .before .extend-f64 .ensures)
+
+pub pad-lane-f64-spec : {M : Type 1} → statement M
+pad-lane-f64-spec =
+    tie.close
+    (tie.spec
+    bad-pad-f64-requires
+    returns
+    bad-pad-f64-requires-2
+    returns-2
+    lane-fits-requires
+    returns-3
+    add-e
+    mul-read-lane-f64
+    sub-read-lane-f64
+    part-read-lane-f64-start
+    part-read-lane-f64-end
+    read-lane-f64-requires
+    extend-f64-requires
+    same-length
+    returns-4)

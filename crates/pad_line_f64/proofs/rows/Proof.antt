@@ -1,0 +1,31 @@
+-- `pad_line_f64::rows` meets its contract: every row holds by computing.
+-- Assumes nothing.
+use mathlib.Core.Path.{refl}
+use Rattle.numbers.specs.Lists.{tabulate}
+use Rattle.numbers.specs.Windows.{windowOf}
+use Rattle.lanes.specs.Lanes.{laneAt, laneInside}
+use Rattle.border.specs.Border.{cellFor, extendedLane}
+use Rattle.pad_line.specs.Line.{paddedAt, paddedLine, padServes}
+use Rattle.pad_line_f64.proofs.rows.Statement.{statement}
+use Rattle.pad_line_f64.proofs.rows.Tie as tie
+
+returns : tie.Need-returns
+unfolding tabulate windowOf laneAt laneInside cellFor extendedLane paddedAt paddedLine padServes
+returns c = record {
+  floats-mirror = λ x y z. refl;
+  floats-nearest = λ x y z. refl;
+  floats-reflect = λ x y z. refl;
+  floats-wrap = λ x y z. refl;
+  floats-constant = λ t x. refl;
+  bad-mirror = refl;
+  bad-reflect = refl;
+  bad-wrap = refl;
+  bad-nearest = refl;
+  down-wrap = λ x y z t. refl;
+  down-bad = λ x y z t. refl;
+  last-window = λ x y z. refl;
+  past-window = λ x y z. refl;
+}
+
+pub rows-spec : {M : Type 1} → statement M
+rows-spec = tie.close (tie.spec returns)

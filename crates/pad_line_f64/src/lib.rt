@@ -1,0 +1,75 @@
+// The float twin of `pad_line`: a lane of floats read into a lent line and extended in place, the window of a cell, and condition 11.
+ghost use mathlib.Core.Path.{_≡_};
+ghost use lib.Ieee.{nan};
+ghost use Rattle.numbers.specs.Windows.{windowOf};
+ghost use Rattle.border.specs.Modes.{borderOfF64};
+ghost use Rattle.pad_line.specs.Line.{badPad, paddedLane};
+ghost use Rattle.pad_line_f64.specs.Rows.{PadLineF64Rows};
+use border::BorderModeF64;
+
+mod extension;
+
+// As `pad_line::bad_pad`, of a float border.
+pub fn bad_pad_f64(mode: BorderModeF64, n: usize, pad: usize) -> bool
+    ensures { λ r. ⌜ r ≡ badPad (borderOfF64 mode) n pad ⌝ }
+{
+    match mode {
+        BorderModeF64::Constant(_) => false,
+        BorderModeF64::Mirror => {
+            if n < 1 {
+                return 0 < pad;
+            }
+            n - 1 < pad
+        }
+        BorderModeF64::Nearest => false,
+        BorderModeF64::Reflect => n < pad,
+        BorderModeF64::Wrap => n < pad,
+    }
+}
+
+// As `pad_line::pad_lane`, of float levels.
+pub fn pad_lane_f64(
+    grid: &[f64],
+    stride: usize,
+    lane: usize,
+    n: usize,
+    mode: BorderModeF64,
+    left: usize,
+    right: usize,
+    line: &mut [f64],
+)
+    ensures { λ _. ⌜ now (line .exit) ≡ paddedLane nan (borderOfF64 mode) n stride lane left right (now (grid .entry)) (now (line .entry)) ⌝ }
+{
+    if bad_pad_f64(mode, n, left) {
+        return;
+    }
+    if bad_pad_f64(mode, n, right) {
+        return;
+    }
+    if !pad_line::lane_fits(grid.len(), stride, lane, n, left, right, line.len()) {
+        return;
+    }
+    let e = left + n;
+    lanes::read_lane_f64(grid, stride, lane, &mut line[left..e]);
+    extension::extend_f64(mode, left, n, right, line);
+}
+
+// As `pad_line::window`, of float levels.
+pub fn window_f64(line: &[f64], i: usize, len: usize) -> &[f64]
+    ensures { λ r. ⌜ now r ≡ windowOf (now (line .entry)) i len ⌝ }
+{
+    let count = line.len();
+    if count < len {
+        return &line[..0];
+    }
+    if count - len < i {
+        return &line[..0];
+    }
+    let end = i + len;
+    &line[i..end]
+}
+
+// Worked rows on floats of `pad_line`'s definitions: T1 on any three floats, condition 11, a window, and a line that stays. Refuses nothing.
+pub fn rows()
+    ensures { λ _. ⌜ PadLineF64Rows ⌝ }
+{}
