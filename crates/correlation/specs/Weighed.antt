@@ -6,11 +6,12 @@
 --   summed add a f n    a, plus f 0, plus f 1, .., n terms, added from left to right
 --   cellTerm o w s i j  the window's cell j times weight j
 --   pairTerm o op w s i j   the pair of the window's cells j and len − 1 − j, joined by op, times weight j
---   plainAt o w s i     from zero, every cell times its weight
---   pairsAt o op w s i  from the middle cell times the middle weight, the pairs of the left half; right-half weights are not read
+--   plainTo o w s n i   from zero, the first n cells of the window, each times its weight
+--   pairsTo o op w s n i    from the middle cell times the middle weight, the first n pairs of the left half; right-half weights are not read
+--   plainAt o w s i     plainTo of every cell
+--   pairsAt o op w s i  pairsTo of every pair
 --   weighedAt o class w s i    plainAt; pairs joined by sum where the weights are Symmetric, by difference where they are AntiSymmetric
 --   weighedLine o class w s n  the weighted sums of cells 0 to n − 1
---   rowAdded add f held    a line held, with f i added to its cell i
 use Prim.Native.Nat.{ℕ, zero, suc, _+_, _-_, _/_}
 use mathlib.Core.Bool.{false}
 use mathlib.Core.List.{List}
@@ -44,11 +45,17 @@ cellTerm o w s i j = o .product (getD s (i + j) (o .past)) (getD w j (o .past))
 abbrev pub pairTerm : {A : Type 0} → Ops A → (A → A → A) → List A → List A → ℕ → ℕ → A
 pairTerm o op w s i j = o .product (op (getD s (i + j) (o .past)) (getD s (i + (length w - 1 - j)) (o .past))) (getD w j (o .past))
 
+abbrev pub plainTo : {A : Type 0} → Ops A → List A → List A → ℕ → ℕ → A
+plainTo o w s n i = summed (o .sum) (o .none) (cellTerm o w s i) n
+
+abbrev pub pairsTo : {A : Type 0} → Ops A → (A → A → A) → List A → List A → ℕ → ℕ → A
+pairsTo o op w s n i = summed (o .sum) (cellTerm o w s i (length w / 2)) (pairTerm o op w s i) n
+
 abbrev pub plainAt : {A : Type 0} → Ops A → List A → List A → ℕ → A
-plainAt o w s i = summed (o .sum) (o .none) (cellTerm o w s i) (length w)
+plainAt o w s i = plainTo o w s (length w) i
 
 abbrev pub pairsAt : {A : Type 0} → Ops A → (A → A → A) → List A → List A → ℕ → A
-pairsAt o op w s i = summed (o .sum) (cellTerm o w s i (length w / 2)) (pairTerm o op w s i) (length w / 2)
+pairsAt o op w s i = pairsTo o op w s (length w / 2) i
 
 abbrev pub weighedAt : {A : Type 0} → Ops A → SymmetryState → List A → List A → ℕ → A
 weighedAt o NonSymmetric w s i = plainAt o w s i
@@ -57,6 +64,3 @@ weighedAt o AntiSymmetric w s i = pairsAt o (o .difference) w s i
 
 abbrev pub weighedLine : {A : Type 0} → Ops A → SymmetryState → List A → List A → ℕ → List A
 weighedLine o class w s n = tabulate (weighedAt o class w s) 0 n
-
-unfoldable pub rowAdded : {A : Type 0} → A → (A → A → A) → (ℕ → A) → List A → List A
-rowAdded past add f held = tabulate (λ i. add (getD held i past) (f i)) 0 (length held)
