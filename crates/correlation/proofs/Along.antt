@@ -51,10 +51,14 @@ module _ {A : Type 0} (add : A → A → A) (a : ℕ → A) (f : ℕ → ℕ →
       front-more d (λ k. summed add (a k) (f k) (j + 1)) v b S
       (q ∙ ap (λ x. add x (f i j)) (row-held d (λ k. summed add (a k) (f k) j) (λ k. summed add (a k) (f k) (j + 1)) e b S) ∙ summed-more add (a i) (f i) j)
 
--- ---- the two loops over the weights: where they start, and where they end
+-- ---- the two loops over the weights: where they start, one cell more of a row with its next term, and where they end
 module _ {A : Type 0} (o : Ops A) (w s : List A) where
   pub plain-start : (n : ℕ) {l : List A} → l ≡ tabulate (λ i. o .none) 0 n → Row (plainTo o w s 0) (length l) l
   plain-start n e = row-start (o .sum) (λ i. o .none) (cellTerm o w s) n e
+
+  pub plain-more : (j : ℕ) {l₀ l : List A} {i : ℕ} → l₀ ≡ tabulate (plainTo o w s j) 0 (length l₀) → i < length l₀ → Stored (o .past) (λ k. ltb k i) (plainTo o w s (j + 1)) l₀ l
+      → Stored (o .past) (λ k. ltb k (i + 1)) (plainTo o w s (j + 1)) l₀ (set l i (o .sum (getD l i (o .past)) (cellTerm o w s i j)))
+  plain-more j e b S = row-more (o .sum) (λ i. o .none) (cellTerm o w s) (o .past) j _ e b S refl
 
   pub plain-end : {j n m : ℕ} {l : List A} → Row (plainTo o w s j) n l → j ≡ length w → n ≡ m → l ≡ tabulate (plainAt o w s) 0 m
   plain-end r p q = row-end (o .sum) (λ i. o .none) (cellTerm o w s) r p q
@@ -62,6 +66,10 @@ module _ {A : Type 0} (o : Ops A) (w s : List A) where
   module _ (op : A → A → A) where
     pub pairs-start : (n : ℕ) {l : List A} → l ≡ tabulate (λ i. cellTerm o w s i (length w / 2)) 0 n → Row (pairsTo o op w s 0) (length l) l
     pairs-start n e = row-start (o .sum) (λ i. cellTerm o w s i (length w / 2)) (pairTerm o op w s) n e
+
+    pub pairs-more : (j : ℕ) {l₀ l : List A} {i : ℕ} → l₀ ≡ tabulate (pairsTo o op w s j) 0 (length l₀) → i < length l₀ → Stored (o .past) (λ k. ltb k i) (pairsTo o op w s (j + 1)) l₀ l
+        → Stored (o .past) (λ k. ltb k (i + 1)) (pairsTo o op w s (j + 1)) l₀ (set l i (o .sum (getD l i (o .past)) (pairTerm o op w s i j)))
+    pairs-more j e b S = row-more (o .sum) (λ i. cellTerm o w s i (length w / 2)) (pairTerm o op w s) (o .past) j _ e b S refl
 
     pub pairs-end : {j n m : ℕ} {l : List A} → Row (pairsTo o op w s j) n l → j ≡ length w / 2 → n ≡ m → l ≡ tabulate (pairsAt o op w s) 0 m
     pairs-end r p q = row-end (o .sum) (λ i. cellTerm o w s i (length w / 2)) (pairTerm o op w s) r p q

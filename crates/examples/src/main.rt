@@ -25,6 +25,7 @@ fn rows() {
     sweeps::rows();
     sweeps::order_of_axes();
     min_max::rows();
+    correlation::rows();
 }
 
 fn main() {
