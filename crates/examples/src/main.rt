@@ -29,6 +29,7 @@ fn rows() {
     filter_judge::rows();
     min_max::rows();
     pad::rows();
+    correlation::rows();
 }
 
 fn main() {

@@ -19,7 +19,7 @@ equal-itself : (z : ℤ) → equalZ z z ≡ true
 equal-itself (pos a) = eq-eqb a a refl
 equal-itself (negsuc a) = eq-eqb a a refl
 
-equal-true : (a b : ℤ) → equalZ a b ≡ true → a ≡ b
+pub equal-true : (a b : ℤ) → equalZ a b ≡ true → a ≡ b
 equal-true (pos a) (pos b) h = ap pos (eqb-true a b h)
 equal-true (pos a) (negsuc b) h = absurd (true≢false (sym h))
 equal-true (negsuc a) (pos b) h = absurd (true≢false (sym h))

@@ -3,3 +3,4 @@ pub mod Bits
 pub mod Epsilon
 pub mod Search
 pub mod Steps
+pub mod Mirrored

@@ -1,0 +1,3 @@
+-- Laws of the sums of a line on the machine, leaves first.
+pub mod Computed
+pub mod Turns

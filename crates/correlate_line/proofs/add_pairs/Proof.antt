@@ -1,0 +1,123 @@
+-- `correlate_line::add_pairs` meets its contract: along the row, each cell gets the term of its next pair, joined by sum; pair, term and sum fit.
+-- Assumes nothing.
+use mathlib.Core.Path.{_≡_, refl}
+use Prim.Native.Nat.{_+_, _-_, _≤_}
+use native.Mathlib.Omega.{arith}
+use lib.Dec.{ltb}
+use lib.IntN.{pos, _+ℤ_}
+use lib.ListN.{length}
+use Rattle.numbers.proofs.Stored.{Stored, front-none, front-all}
+use Rattle.correlation.specs.Weighed.{wholeOps, pairsTo}
+use Rattle.correlation.proofs.Sizes.{sum-joins}
+use Rattle.correlate_line.proofs.Turns.{pair-joined, pair-computed, pairs-turn}
+use borrow.Author.Needs.{needs}
+use Rattle.correlate_line.proofs.add_pairs.Statement.{statement}
+use Rattle.correlate_line.proofs.add_pairs.Tie as tie
+
+abbrev Inv-loop : tie.InvT-loop
+Inv-loop weights line j out₀ weight far n i₀ out i = (i ≤ n) × (n ≡ length out₀) × Stored (pos 0) (λ k. ltb k i) (pairsTo wholeOps _+ℤ_ weights line (j + 1)) out₀ out
+
+abbrev μ-loop : tie.MeasureT-loop
+μ-loop weights line j out₀ weight far n i₀ out i = n - i
+
+mul-weight : tie.Need-mul-weight Inv-loop μ-loop
+mul-weight c = search needs
+
+shared-slice-copy-out-weight : tie.Need-shared-slice-copy-out-weight Inv-loop μ-loop
+shared-slice-copy-out-weight c = search needs
+
+sub-far : tie.Need-sub-far Inv-loop μ-loop
+sub-far c = search needs
+
+sub-far-2 : tie.Need-sub-far-2 Inv-loop μ-loop
+sub-far-2 c = search needs
+
+loop-holds : tie.Need-loop-holds Inv-loop μ-loop
+loop-holds c = (search needs, refl, front-none (pos 0) _ _)
+
+mul-out : tie.Need-mul-out Inv-loop μ-loop
+mul-out c = search needs
+
+slice-copy-out-out : tie.Need-slice-copy-out-out Inv-loop μ-loop
+slice-copy-out-out c = search needs
+
+add-out : tie.Need-add-out Inv-loop μ-loop
+add-out c = search needs
+
+mul-out-2 : tie.Need-mul-out-2 Inv-loop μ-loop
+mul-out-2 c = search needs
+
+shared-slice-copy-out-out : tie.Need-shared-slice-copy-out-out Inv-loop μ-loop
+shared-slice-copy-out-out c = search needs
+
+add-out-2 : tie.Need-add-out-2 Inv-loop μ-loop
+add-out-2 c = search needs
+
+mul-out-3 : tie.Need-mul-out-3 Inv-loop μ-loop
+mul-out-3 c = search needs
+
+shared-slice-copy-out-out-2 : tie.Need-shared-slice-copy-out-out-2 Inv-loop μ-loop
+shared-slice-copy-out-out-2 c = search needs
+
+add-out-3 : tie.Need-add-out-3 Inv-loop μ-loop
+add-out-3 c = let s = c .before .before .before .before .before .before in pair-joined (s .pre .0) _+ℤ_ sum-joins _ _ .fits
+
+mul-out-4 : tie.Need-mul-out-4 Inv-loop μ-loop
+mul-out-4 c = let s = c .before .before .before .before .before .before in pair-computed (s .pre .0) _+ℤ_ sum-joins (c .before .before .before .before .loop .i) (s .args .j) .fits
+
+add-out-4 : tie.Need-add-out-4 Inv-loop μ-loop
+add-out-4 c = let s = c .before .before .before .before .before .before in pairs-turn (s .pre .0) _+ℤ_ sum-joins (s .args .j) (s .pre .1) (s .pre .2) (omega arith) (c .before .before .before .before .loop .inv .2) .fits
+
+mul-t28 : tie.Need-mul-t28 Inv-loop μ-loop
+mul-t28 c = search needs
+
+slice-set-from-out : tie.Need-slice-set-from-out Inv-loop μ-loop
+slice-set-from-out c = search needs
+
+add-i : tie.Need-add-i Inv-loop μ-loop
+add-i c = search needs
+
+loop-less : tie.Need-loop-less Inv-loop μ-loop
+loop-less c = search needs
+
+loop-again : tie.Need-loop-again Inv-loop μ-loop
+loop-again c =
+    let s = c .before .before .before .before .before .before in
+    let l = c .before .before .before .before .loop in
+    (search needs, l .inv .1, pairs-turn (s .pre .0) _+ℤ_ sum-joins (s .args .j) (s .pre .1) (s .pre .2) (omega arith) (l .inv .2) .stored)
+
+same-length : tie.Need-same-length Inv-loop μ-loop
+same-length c = c .before .loop .inv .2 .kept
+
+returns : tie.Need-returns Inv-loop μ-loop
+returns c = front-all (pos 0) _ (omega arith) (c .before .loop .inv .2)
+
+pub add-pairs-spec : {M : Type 1} → statement M
+add-pairs-spec =
+    tie.close
+    (tie.spec
+    Inv-loop
+    μ-loop
+    mul-weight
+    shared-slice-copy-out-weight
+    sub-far
+    sub-far-2
+    loop-holds
+    mul-out
+    slice-copy-out-out
+    add-out
+    mul-out-2
+    shared-slice-copy-out-out
+    add-out-2
+    mul-out-3
+    shared-slice-copy-out-out-2
+    add-out-3
+    mul-out-4
+    add-out-4
+    mul-t28
+    slice-set-from-out
+    add-i
+    loop-less
+    loop-again
+    same-length
+    returns)

@@ -1,0 +1,1 @@
+-- No law of its own: the laws of the loops are those of `correlation`.

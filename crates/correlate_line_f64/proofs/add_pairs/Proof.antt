@@ -1,0 +1,111 @@
+-- `correlate_line_f64::add_pairs` meets its contract: along the row, each cell gets the term of its next pair, joined by sum.
+-- Assumes nothing.
+use mathlib.Core.Path.{_≡_, refl}
+use Prim.Native.Nat.{_+_, _-_, _≤_}
+use native.Mathlib.Omega.{arith}
+use lib.Dec.{ltb}
+use lib.Ieee.{nan}
+use lib.ListN.{length}
+use Rattle.numbers.proofs.Stored.{Stored, front-none, front-all}
+use denote.Ref.{now}
+use Rattle.correlation.specs.Weighed.{floatOps, pairsTo}
+use Rattle.correlation.proofs.Along.{pairs-more}
+use borrow.Author.Needs.{needs}
+use Rattle.correlate_line_f64.proofs.add_pairs.Statement.{statement}
+use Rattle.correlate_line_f64.proofs.add_pairs.Tie as tie
+
+abbrev Inv-loop : tie.InvT-loop
+Inv-loop weights line j out₀ weight far n i₀ out i = (i ≤ n) × (n ≡ length out₀) × Stored nan (λ k. ltb k i) (pairsTo floatOps (floatOps .sum) weights line (j + 1)) out₀ out
+
+abbrev μ-loop : tie.MeasureT-loop
+μ-loop weights line j out₀ weight far n i₀ out i = n - i
+
+mul-weight : tie.Need-mul-weight Inv-loop μ-loop
+mul-weight c = search needs
+
+shared-slice-read-weight : tie.Need-shared-slice-read-weight Inv-loop μ-loop
+shared-slice-read-weight c = search needs
+
+sub-far : tie.Need-sub-far Inv-loop μ-loop
+sub-far c = search needs
+
+sub-far-2 : tie.Need-sub-far-2 Inv-loop μ-loop
+sub-far-2 c = search needs
+
+loop-holds : tie.Need-loop-holds Inv-loop μ-loop
+loop-holds c = (search needs, refl, front-none nan _ _)
+
+mul-out : tie.Need-mul-out Inv-loop μ-loop
+mul-out c = search needs
+
+slice-read-out : tie.Need-slice-read-out Inv-loop μ-loop
+slice-read-out c = search needs
+
+add-out : tie.Need-add-out Inv-loop μ-loop
+add-out c = search needs
+
+mul-out-2 : tie.Need-mul-out-2 Inv-loop μ-loop
+mul-out-2 c = search needs
+
+shared-slice-read-out : tie.Need-shared-slice-read-out Inv-loop μ-loop
+shared-slice-read-out c = search needs
+
+add-out-2 : tie.Need-add-out-2 Inv-loop μ-loop
+add-out-2 c = search needs
+
+mul-out-3 : tie.Need-mul-out-3 Inv-loop μ-loop
+mul-out-3 c = search needs
+
+shared-slice-read-out-2 : tie.Need-shared-slice-read-out-2 Inv-loop μ-loop
+shared-slice-read-out-2 c = search needs
+
+mul-out-4 : tie.Need-mul-out-4 Inv-loop μ-loop
+mul-out-4 c = search needs
+
+slice-write-out : tie.Need-slice-write-out Inv-loop μ-loop
+slice-write-out c = search needs
+
+add-i : tie.Need-add-i Inv-loop μ-loop
+add-i c = search needs
+
+loop-less : tie.Need-loop-less Inv-loop μ-loop
+loop-less c = search needs
+
+loop-again : tie.Need-loop-again Inv-loop μ-loop
+loop-again c =
+    let s = c .before .before .before .before .before .before in
+    let l = c .before .before .before .before .loop in
+    (search needs, l .inv .1, pairs-more floatOps (now (s .args .weights)) (now (s .args .line)) (floatOps .sum) (s .args .j) (s .pre .2) (omega arith) (l .inv .2))
+
+same-length : tie.Need-same-length Inv-loop μ-loop
+same-length c = c .before .loop .inv .2 .kept
+
+returns : tie.Need-returns Inv-loop μ-loop
+returns c = front-all nan _ (omega arith) (c .before .loop .inv .2)
+
+pub add-pairs-spec : {M : Type 1} → statement M
+add-pairs-spec =
+    tie.close
+    (tie.spec
+    Inv-loop
+    μ-loop
+    mul-weight
+    shared-slice-read-weight
+    sub-far
+    sub-far-2
+    loop-holds
+    mul-out
+    slice-read-out
+    add-out
+    mul-out-2
+    shared-slice-read-out
+    add-out-2
+    mul-out-3
+    shared-slice-read-out-2
+    mul-out-4
+    slice-write-out
+    add-i
+    loop-less
+    loop-again
+    same-length
+    returns)

@@ -1,0 +1,2 @@
+-- What the line workers suppose.
+pub mod Lengths

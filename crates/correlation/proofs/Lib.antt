@@ -1,0 +1,6 @@
+-- Laws of weighted sums.
+pub mod Summed
+pub mod Along
+pub mod Folded
+pub mod Classes
+pub mod Sizes

@@ -1,0 +1,3 @@
+-- The weighted sum of a window, over any element.
+pub mod Weighed
+pub mod Rows
