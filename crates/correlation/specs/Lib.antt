@@ -1,3 +1,4 @@
 -- The weighted sum of a window, over any element.
 pub mod Weighed
+pub mod Correlated
 pub mod Rows

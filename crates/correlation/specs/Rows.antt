@@ -1,5 +1,7 @@
 -- Worked rows of this crate's definitions. Each holds by computing.
 --   line w s n       the plain weighted sums of whole cells
+--   three f w        f of the cells 1 2 3 with the weights w under Nearest, origin 0
+--   nearly           the float weights 1, 2, 1 + 2^−52
 --   CorrelationRows  the rows
 use Prim.Native.Nat.{ℕ}
 use mathlib.Core.Path.{_≡_}
@@ -7,9 +9,13 @@ use mathlib.Core.Bool.{false}
 use mathlib.Core.List.{List, [], _∷_}
 use lib.Ieee.{Float, fin}
 use lib.IntN.{ℤ, pos, negsuc}
+use lib.ListN.{getD}
+use Rattle.border.specs.Border.{Border, constant, along}
+use Rattle.border.specs.declared.Along.the-variants.{Nearest}
 use Rattle.numbers.specs.Rows.{wholes, minus}
 use Rattle.symmetry.specs.declared.SymmetryState.the-variants.{NonSymmetric, Symmetric, AntiSymmetric}
 use Rattle.correlation.specs.Weighed.{wholeOps, floatOps, weighedAt, weighedLine}
+use Rattle.correlation.specs.Correlated.{correlate1dZ, convolve1dZ, correlate1dF, convolve1dF}
 
 abbrev pub line : List ℕ → List ℕ → ℕ → List ℤ
 line w s n = weighedLine wholeOps NonSymmetric (wholes w) (wholes s) n
@@ -20,11 +26,24 @@ one = fin false 1 (pos 0)
 abbrev pub none : Float
 none = fin false 0 (pos 0)
 
+abbrev pub three : (Border ℤ → ℤ → List ℤ → List ℕ → ℕ → List ℤ → List ℤ) → List ℕ → List ℤ
+three f w = f (along Nearest) (pos 0) (wholes w) (3 ∷ []) 0 (wholes (1 ∷ 2 ∷ 3 ∷ []))
+
+abbrev pub nearly : List Float
+nearly = one ∷ fin false 1 (pos 1) ∷ fin false 4503599627370497 (negsuc 51) ∷ []
+
 pub record CorrelationRows : Type 0 where
-  -- T2, the line padded with the nearest cell
-  pub three : line (1 ∷ 2 ∷ 3 ∷ []) (1 ∷ 1 ∷ 2 ∷ 3 ∷ 3 ∷ []) 3 ≡ wholes (9 ∷ 14 ∷ 17 ∷ [])
+  -- the line of T2, padded with the nearest cell
+  pub padded : line (1 ∷ 2 ∷ 3 ∷ []) (1 ∷ 1 ∷ 2 ∷ 3 ∷ 3 ∷ []) 3 ≡ wholes (9 ∷ 14 ∷ 17 ∷ [])
   -- the three ways of summing: 1 2 1 and −1 5 1 on 3 7 4
   pub symmetric : weighedAt wholeOps Symmetric (wholes (1 ∷ 2 ∷ 1 ∷ [])) (wholes (3 ∷ 7 ∷ 4 ∷ [])) 0 ≡ pos 21
   pub anti : weighedAt wholeOps AntiSymmetric (minus 1 ∷ pos 5 ∷ pos 1 ∷ []) (wholes (3 ∷ 7 ∷ 4 ∷ [])) 0 ≡ pos 36
+  -- T2 and T3: 1 2 3 with weights 1 2 3 and 1 10 under Nearest; one weight with an origin that is not read
+  pub t2 : three correlate1dZ (1 ∷ 2 ∷ 3 ∷ []) ∷ three convolve1dZ (1 ∷ 2 ∷ 3 ∷ []) ∷ [] ≡ wholes (9 ∷ 14 ∷ 17 ∷ []) ∷ wholes (7 ∷ 10 ∷ 15 ∷ []) ∷ []
+  pub t3 : three correlate1dZ (1 ∷ 10 ∷ []) ∷ three convolve1dZ (1 ∷ 10 ∷ []) ∷ [] ≡ wholes (11 ∷ 21 ∷ 32 ∷ []) ∷ wholes (12 ∷ 23 ∷ 33 ∷ []) ∷ []
+  pub one-weight : correlate1dZ (along Nearest) (pos 99) (wholes (4 ∷ [])) (3 ∷ []) 0 (wholes (1 ∷ 2 ∷ 3 ∷ [])) ≡ wholes (4 ∷ 8 ∷ 12 ∷ [])
+  -- floats 0, 0, 1 under weights 1, 2, 1 + 2^−52 and Constant 0: cell 1 of the correlation is exactly 1, of the convolution 1 + 2^−52
+  pub float : getD (correlate1dF (constant none) (pos 0) nearly (3 ∷ []) 0 (none ∷ none ∷ one ∷ [])) 1 none ∷ getD (convolve1dF (constant none) (pos 0) nearly (3 ∷ []) 0 (none ∷ none ∷ one ∷ [])) 1 none ∷ []
+      ≡ one ∷ fin false 4503599627370497 (negsuc 51) ∷ []
   -- floats 0, 0, 1 under weights 1, 2, 1 + 2^−52, taken as Symmetric: exactly 1; the right weight is not read
   pub near : weighedAt floatOps Symmetric (one ∷ fin false 1 (pos 1) ∷ fin false 4503599627370497 (negsuc 51) ∷ []) (none ∷ none ∷ one ∷ []) 0 ≡ one

@@ -1,15 +1,20 @@
 -- `correlation::rows` meets its contract: every row holds by computing.
 -- Assumes nothing.
 use mathlib.Core.Path.{refl}
-use lib.Ieee.{add, mul}
+use lib.Ieee.{add, sub, mul, lt}
 use Rattle.numbers.specs.Lists.{tabulate}
+use Rattle.lanes.specs.Lanes.{laneAt, alongAxis}
+use Rattle.border.specs.Border.{cellFor, extendedLane}
+use Rattle.pad_line.specs.Line.{paddedAt, paddedLine}
+use Rattle.symmetry.specs.Class.{someDiffers, exceeds}
 use Rattle.correlation.specs.Weighed.{summed}
+use Rattle.correlation.specs.Correlated.{correlatedBy}
 use Rattle.correlation.proofs.rows.Statement.{statement}
 use Rattle.correlation.proofs.rows.Tie as tie
 
 returns : tie.Need-returns
-unfolding tabulate summed add mul
-returns c = record { three = refl; symmetric = refl; anti = refl; near = refl }
+unfolding tabulate summed add mul alongAxis laneAt paddedAt paddedLine extendedLane cellFor correlatedBy someDiffers exceeds sub lt
+returns c = record { padded = refl; symmetric = refl; anti = refl; t2 = refl; t3 = refl; one-weight = refl; float = refl; near = refl }
 
 pub rows-spec : {M : Type 1} → statement M
 rows-spec = tie.close (tie.spec returns)
