@@ -1,0 +1,83 @@
+-- `axis_filter::filter_lane` meets its contract: the padded lane, filtered, and the lane that it is written to.
+-- Assumes nothing.
+use mathlib.Core.Path.{_≡_, sym, ap, subst}
+use mathlib.Core.List.{List}
+use Prim.Native.Nat.{_+_}
+use native.Mathlib.Omega.{arith}
+use lib.IntN.{ℤ, pos}
+use lib.ListN.{length}
+use lib.Seq.{length-take-le}
+use denote.Ref.{now}
+use Rattle.axis_filter.specs.Filter.{filtered, ServedLine}
+use Rattle.axis_filter.proofs.OneLane.{line-room, front-is, lane-filtered}
+use Rattle.axis_filter.proofs.Supposed.{length-filtered, line-served}
+use borrow.Author.Needs.{needs}
+use Rattle.axis_filter.proofs.filter_lane.Statement.{statement}
+use Rattle.axis_filter.proofs.filter_lane.Tie as tie
+use Rattle.axis_filter.proofs.filter_lane.Reads as reads
+use Rattle.axis_filter.proofs.filter_lane.Lts as lts
+use Rattle.axis_filter.proofs.filter_line.Reads as filter-line-reads
+use Rattle.lanes.proofs.write_lane.Reads as write-lane-reads
+use Rattle.pad_line.proofs.pad_lane.Reads as pad-lane-reads
+
+pad-lane-requires : tie.Need-pad-lane-requires
+pad-lane-requires c κs = search needs
+
+add-total : tie.Need-add-total
+add-total c = search needs
+
+add-total-2 : tie.Need-add-total-2
+add-total-2 c = search needs
+
+add-filter-line : tie.Need-add-filter-line
+add-filter-line c = search needs
+
+add-filter-line-2 : tie.Need-add-filter-line-2
+add-filter-line-2 c = search needs
+
+slice-reshare-prefix-filter-line : tie.Need-slice-reshare-prefix-filter-line
+slice-reshare-prefix-filter-line c = omega (arith, line-room (pos 0) (c .before .before .before .pre .0), c .before .pad-lane .kept .1 .1 .1 .1 .1 .1 .1 .0)
+
+slice-aggregate-filter-line : tie.Need-slice-aggregate-filter-line
+slice-aggregate-filter-line c = sym (length-take-le _ _ (slice-reshare-prefix-filter-line (c .before)))
+
+filter-line-requires : tie.Need-filter-line-requires
+filter-line-requires c κs =
+    let s = c .before .before .before .before .before in
+    subst (λ (p : List ℤ). ServedLine (s .args .filter) (now (s .args .weights)) (s .args .left + s .args .right + 1) p (length (now (s .args .swept))))
+    (sym (front-is (pos 0) (s .pre .0) (c .before .before .before .pad-lane .ensures))) (line-served (s .pre .0) (s .args .filter) (now (s .args .weights)) (s .pre .1))
+
+write-lane-requires : tie.Need-write-lane-requires
+write-lane-requires c κs = search needs
+
+same-length : tie.Need-same-length
+same-length c = search needs
+
+same-length-2 : tie.Need-same-length-2
+same-length-2 c = search needs
+
+same-length-3 : tie.Need-same-length-3
+same-length-3 c = search needs
+
+returns : tie.Need-returns
+returns c = let s = c .before .before .before .before .before .before .before .before .before .before .before in
+    lane-filtered (pos 0) (s .pre .0) (c .before .before .before .before .before .before .before .before .before .pad-lane .ensures) (filtered (s .args .filter) (now (s .args .weights)) (s .args .left + s .args .right + 1))
+    (length-filtered (s .args .filter) (now (s .args .weights)) (s .args .left + s .args .right + 1)) (c .before .before .before .before .before .filter-line .ensures) (c .before .write-lane .ensures)
+
+pub filter-lane-spec : {M : Type 1} → statement M
+filter-lane-spec =
+    tie.close
+    (tie.spec
+    pad-lane-requires
+    add-total
+    add-total-2
+    add-filter-line
+    add-filter-line-2
+    slice-reshare-prefix-filter-line
+    slice-aggregate-filter-line
+    filter-line-requires
+    write-lane-requires
+    same-length
+    same-length-2
+    same-length-3
+    returns)

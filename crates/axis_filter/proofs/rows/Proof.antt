@@ -1,0 +1,21 @@
+-- `axis_filter::rows` meets its contract: every row holds by computing.
+-- Assumes nothing.
+use mathlib.Core.Path.{refl}
+use Rattle.numbers.specs.Lists.{tabulate}
+use Rattle.numbers.specs.Windows.{windowOf}
+use Rattle.border.specs.Border.{cellFor, extendedLane}
+use Rattle.pad_line.specs.Line.{paddedAt, paddedLine}
+use Rattle.minlist.specs.Firsts.{firsts}
+use Rattle.correlation.specs.Weighed.{summed}
+use borrow.Author.Needs.{needs}
+use Rattle.axis_filter.proofs.rows.Statement.{statement}
+use Rattle.axis_filter.proofs.rows.Tie as tie
+use Rattle.axis_filter.proofs.rows.Reads as reads
+use Rattle.axis_filter.proofs.rows.Lts as lts
+
+returns : tie.Need-returns
+unfolding tabulate cellFor extendedLane paddedAt paddedLine firsts summed windowOf
+returns c = record { least = refl; greatest = refl; weighed = refl }
+
+pub rows-spec : {M : Type 1} → statement M
+rows-spec = tie.close (tie.spec returns)

@@ -1,0 +1,139 @@
+// A line filter on every lane of an axis: each lane is padded into a line, filtered, and written back.
+ghost use mathlib.Core.Path.{_≡_};
+ghost use Prim.Native.Nat.{_+_};
+ghost use lib.IntN.{pos};
+ghost use lib.ListN.{length};
+ghost use Rattle.array.specs.Grid.{lengthOf};
+ghost use Rattle.lanes.specs.Lanes.{lane as laneOf, withLane, alongAxis};
+ghost use Rattle.border.specs.Modes.{borderOf};
+ghost use Rattle.axis_filter.specs.Lane.{filteredLane, Room, Sweep};
+ghost use Rattle.axis_filter.specs.Filter.{filtered, ServedLine, Supposed};
+ghost use Rattle.axis_filter.specs.Rows.{AxisFilterRows};
+use border::BorderMode;
+use symmetry::SymmetryState;
+
+// What is taken of each window: its least or its greatest level, or its weighted sum with the class of the weights.
+pub enum LineFilter {
+    Least,
+    Greatest,
+    Weighed(SymmetryState),
+}
+
+// The filter on a padded line. Least and Greatest read no weights.
+fn filter_line(
+    filter: LineFilter,
+    weights: &[i64],
+    size: usize,
+    line: &[i64],
+    out: &mut [i64],
+)
+    requires { ⌜ ServedLine filter (now weights) size (now line) (length (now out)) ⌝ }
+    ensures { λ _. ⌜ now (out .exit) ≡ filtered filter (now (weights .entry)) size (now (line .entry)) (length (now (out .entry))) ⌝ }
+{
+    match filter {
+        LineFilter::Least => minimum_line::minimum_line(line, size, out),
+        LineFilter::Greatest => maximum_line::maximum_line(line, size, out),
+        LineFilter::Weighed(class) => correlate_line::correlate_line(weights, class, line, out),
+    }
+}
+
+// Writes to a lane of out the filtered lane of data. The line has room for the padded lane, and swept is as long as the lane.
+fn filter_lane(
+    filter: LineFilter,
+    weights: &[i64],
+    mode: BorderMode,
+    data: &[i64],
+    stride: usize,
+    lane: usize,
+    left: usize,
+    right: usize,
+    line: &mut [i64],
+    swept: &mut [i64],
+    out: &mut [i64],
+)
+    requires { ⌜ Room (borderOf mode) stride lane left right (now «data») (now line) (now swept) (now out) × Supposed filter (now weights) (left + right + 1) (borderOf mode) (now «data») ⌝ }
+    ensures { λ _. ⌜ now (out .exit) ≡ withLane (pos 0) (length (now (swept .entry))) stride lane (filteredLane (pos 0) (filtered filter (now (weights .entry)) (left + right + 1)) (borderOf mode) left right (laneOf (pos 0) (length (now (swept .entry))) stride lane (now («data» .entry)))) (now (out .entry)) ⌝ }
+{
+    let n = swept.len();
+    pad_line::pad_lane(data, stride, lane, n, mode, left, right, line);
+    let total = left + n + right;
+    filter_line(filter, weights, left + right + 1, &line[..total], swept);
+    lanes::write_lane(swept, stride, lane, out);
+}
+
+// As filter_lane, on every lane of the axis. The line and swept are buffers, of 1,088 cells and as long as the axis.
+fn filter_lanes(
+    filter: LineFilter,
+    weights: &[i64],
+    mode: BorderMode,
+    data: &[i64],
+    shape: &[usize],
+    axis: usize,
+    left: usize,
+    right: usize,
+    line: &mut [i64],
+    swept: &mut [i64],
+    out: &mut [i64],
+)
+    requires { ⌜ Sweep (borderOf mode) (now shape) axis left right (now «data») (now out) × Supposed filter (now weights) (left + right + 1) (borderOf mode) (now «data») × (length (now line) ≡ 1088) × (length (now swept) ≡ lengthOf (now shape) axis) ⌝ }
+    ensures { λ _. ⌜ now (out .exit) ≡ alongAxis (pos 0) (filteredLane (pos 0) (filtered filter (now (weights .entry)) (left + right + 1)) (borderOf mode) left right) (now (shape .entry)) axis (now («data» .entry)) ⌝ }
+{
+    let along = lanes::lanes_of(shape, axis);
+    let stride = along.stride;
+    let count = along.count;
+    let mut lane = 0;
+    while lane < count {
+        filter_lane(
+            filter,
+            weights,
+            mode,
+            data,
+            stride,
+            lane,
+            left,
+            right,
+            line,
+            swept,
+            out,
+        );
+        lane += 1;
+    }
+}
+
+// Fills out with the filtered lanes of the axis of data: left and right are the pads of a window of left + right + 1 cells.
+pub fn filter_axis(
+    filter: LineFilter,
+    weights: &[i64],
+    mode: BorderMode,
+    data: &[i64],
+    shape: &[usize],
+    axis: usize,
+    left: usize,
+    right: usize,
+    out: &mut [i64],
+)
+    requires { ⌜ Sweep (borderOf mode) (now shape) axis left right (now «data») (now out) × Supposed filter (now weights) (left + right + 1) (borderOf mode) (now «data») ⌝ }
+    ensures { λ _. ⌜ now (out .exit) ≡ alongAxis (pos 0) (filteredLane (pos 0) (filtered filter (now (weights .entry)) (left + right + 1)) (borderOf mode) left right) (now (shape .entry)) axis (now («data» .entry)) ⌝ }
+{
+    let n = array::len_of(shape, axis);
+    let mut line = [0; 1088];
+    let mut swept = [0; 1024];
+    filter_lanes(
+        filter,
+        weights,
+        mode,
+        data,
+        shape,
+        axis,
+        left,
+        right,
+        &mut line,
+        &mut swept[..n],
+        out,
+    );
+}
+
+// Worked rows of this crate's definitions. Refuses nothing.
+pub fn rows()
+    ensures { λ _. ⌜ AxisFilterRows ⌝ }
+{}
