@@ -1,9 +1,9 @@
 -- What a filter supposes of a call gives what it supposes of each padded lane, and its line has as many cells as were asked for.
 -- Assumes nothing.
-use mathlib.Core.Path.{_≡_, refl, sym, ap, subst, _∙_}
-use mathlib.Core.Bool.{Bool, true, false, _||_, cond}
+use mathlib.Core.Path.{_≡_, refl}
+use mathlib.Core.Bool.{Bool, true, false, cond}
 use mathlib.Core.List.{List, [], _∷_}
-use Prim.Native.Nat.{ℕ, zero, suc, _+_, _-_, _*_, _^_, _≤_, _<_}
+use Prim.Native.Nat.{ℕ, zero, suc, _+_, _^_, _<_}
 use native.Mathlib.Omega.{arith}
 use lib.IntN.{ℤ, pos, negℤ, natAbs, _-ℤ_}
 use lib.ListN.{length, getD}
@@ -18,7 +18,7 @@ use Rattle.pad_line.specs.Line.{paddedAt, paddedLine}
 use Rattle.minlist.specs.Firsts.{firsts, Served}
 use Rattle.correlate_line.specs.Sizes.{Weighable}
 use Rattle.axis_filter.specs.Lane.{Room}
-use Rattle.axis_filter.specs.Filter.{filtered, ServedLine, Weighing, Supposed}
+use Rattle.axis_filter.specs.Filter.{filtered, ServedLine, Supposed}
 use Rattle.axis_filter.specs.declared.LineFilter.{LineFilter}
 use Rattle.axis_filter.specs.declared.LineFilter.the-variants.{Least, Greatest, Weighed}
 use Rattle.axis_filter.proofs.OneLane.{line-room, length-line}

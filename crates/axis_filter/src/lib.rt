@@ -20,13 +20,7 @@ pub enum LineFilter {
 }
 
 // The filter on a padded line. Least and Greatest read no weights.
-fn filter_line(
-    filter: LineFilter,
-    weights: &[i64],
-    size: usize,
-    line: &[i64],
-    out: &mut [i64],
-)
+fn filter_line(filter: LineFilter, weights: &[i64], size: usize, line: &[i64], out: &mut [i64])
     requires { ⌜ ServedLine filter (now weights) size (now line) (length (now out)) ⌝ }
     ensures { λ _. ⌜ now (out .exit) ≡ filtered filter (now (weights .entry)) size (now (line .entry)) (length (now (out .entry))) ⌝ }
 {

@@ -27,6 +27,7 @@ fn rows() {
     sweeps::rows();
     sweeps::order_of_axes();
     filter_judge::rows();
+    axis_filter::rows();
     min_max::rows();
     pad::rows();
     correlation::rows();

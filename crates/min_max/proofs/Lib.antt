@@ -2,5 +2,3 @@
 pub mod ByLanes
 pub mod OnePass
 pub mod EveryAxis
-pub mod OneLane
-pub mod EveryLane

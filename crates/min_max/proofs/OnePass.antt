@@ -1,6 +1,6 @@
 -- An accepted one-axis call as the workers do it: a copy where the window is one cell, else every lane of the axis with the call's pads.
 -- Assumes nothing.
-use mathlib.Core.Path.{_≡_, sym, ap, _∙_}
+use mathlib.Core.Path.{_≡_, refl, sym, ap, subst, _∙_}
 use mathlib.Core.Bool.{Bool, false, not, _&&_, _||_}
 use mathlib.Core.List.{List}
 use Prim.Native.Nat.{ℕ, _+_, _≤_, _<_}
@@ -12,13 +12,36 @@ use lib.ListN.{length}
 use Rattle.numbers.proofs.Tests.{or-false, cond-yes}
 use Rattle.array.specs.Assign.{copied}
 use Rattle.lanes.specs.Lanes.{alongAxis}
+use Rattle.border.specs.Border.{Border}
 use Rattle.pad_line.specs.Line.{badPad, paddedLine}
 use Rattle.minlist.specs.Firsts.{firsts}
 use Rattle.sweeps.specs.Call.{Call, alone, leftPad, rightPad, axisLength, numberOf}
 use Rattle.sweeps.specs.Run.{answerOf}
 use Rattle.sweeps.proofs.Passed.{Passed, passed, passed-lengths}
-use Rattle.min_max.specs.Lane.{extremesOf, Sweep}
+use Rattle.axis_filter.specs.Lane.{filteredLane, Sweep}
+use Rattle.axis_filter.specs.Filter.{filtered, Supposed}
+use Rattle.axis_filter.specs.declared.LineFilter.{LineFilter}
+use Rattle.min_max.specs.Filters.{orderOf}
+use Rattle.min_max.specs.Lane.{extremesOf, lineFilterOf}
+use Rattle.min_max.specs.declared.Extreme.{Extreme}
+use Rattle.min_max.specs.declared.Extreme.the-variants.{Least, Greatest}
 use Rattle.min_max.proofs.ByLanes.{lineOf, answer-lanes, answer-copied, pads-size}
+
+-- ---- the extremes, as a line filter
+pub extremes-supposed : (e : Extreme) {f : LineFilter} (w : List ℤ) (size : ℕ) (b : Border ℤ) (cells : List ℤ) → f ≡ lineFilterOf e → 1 < size → Supposed f w size b cells
+extremes-supposed e {f} w size b cells q h = subst (λ (x : LineFilter). Supposed x w size b cells) (sym q) (go e)
+  where
+    go : (e : Extreme) → Supposed (lineFilterOf e) w size b cells
+    go Least = h
+    go Greatest = h
+
+pub extremes-filtered : (e : Extreme) {f : LineFilter} (w : List ℤ) (b : Border ℤ) (l g : ℕ) (ns : List ℕ) (a : ℕ) (cells : List ℤ) → f ≡ lineFilterOf e
+    → alongAxis (pos 0) (filteredLane (pos 0) (filtered f w (l + g + 1)) b l g) ns a cells ≡ alongAxis (pos 0) (extremesOf (orderOf e) b l g) ns a cells
+extremes-filtered e {f} w b l g ns a cells q = ap (λ (x : LineFilter). alongAxis (pos 0) (filteredLane (pos 0) (filtered x w (l + g + 1)) b l g) ns a cells) q ∙ go e
+  where
+    go : (e : Extreme) → alongAxis (pos 0) (filteredLane (pos 0) (filtered (lineFilterOf e) w (l + g + 1)) b l g) ns a cells ≡ alongAxis (pos 0) (extremesOf (orderOf e) b l g) ns a cells
+    go Least = refl
+    go Greatest = refl
 
 module _ (le : ℤ → ℤ → Bool) (cells : List ℤ) (c : Call) (accept : numberOf cells c ≡ 0) where
   P : Passed cells c
@@ -62,9 +85,11 @@ module _ (le : ℤ → ℤ → Bool) (cells : List ℤ) (c : Call) (accept : num
         same = same;
         fills-left = ap (badPad (c .border) (axisLength c)) L ∙ fills .0;
         fills-right = ap (badPad (c .border) (axisLength c)) G ∙ fills .1;
-        wide = wide;
         narrow = omega (arith, total, sizes .1);
       }
+
+      pub window-wide : 1 < l + g + 1
+      window-wide = omega (arith, wide)
 
       lines : (s : List ℤ) → extremesOf le (c .border) l g s ≡ lineOf le c s
       unfolding firsts

@@ -14,10 +14,11 @@ use Rattle.border.specs.Border.{constant, along}
 use Rattle.border.specs.declared.Along.the-variants.{Reflect}
 use Rattle.border.specs.declared.BorderMode.{BorderMode}
 use Rattle.border.specs.declared.BorderMode.the-variants as modes
+use Rattle.axis_filter.specs.declared.LineFilter.the-variants as Filters
 use Rattle.sweeps.specs.Call.{Call}
 use Rattle.sweeps.specs.Run.{answerOf}
 use Rattle.filter_judge.specs.Judge.{callOf}
-use Rattle.min_max.specs.Lane.{extremesOf}
+use Rattle.min_max.specs.Lane.{extremesOf, lineFilterOf}
 use Rattle.min_max.specs.Filters.{orderOf, filterAnswer}
 use Rattle.min_max.specs.declared.Extreme.the-variants.{Least, Greatest}
 
@@ -31,6 +32,7 @@ abbrev pub onSquare : ℕ → BorderMode → ℤ → Call
 onSquare size m o = callOf (2 ∷ 2 ∷ []) size 0 m o square
 
 pub record MinMaxRows : Type 0 where
+  pub filters : lineFilterOf Least ∷ lineFilterOf Greatest ∷ [] ≡ Filters.Least ∷ Filters.Greatest ∷ []
   pub orders : orderOf Least (pos 1) (pos 2) ∷ orderOf Greatest (pos 1) (pos 2) ∷ [] ≡ true ∷ false ∷ []
   -- T4, length 3 under Reflect
   pub t4-minimum : answerOf (orderOf Least) levels (callOf (4 ∷ []) 3 0 modes.Reflect (pos 0) levels) ≡ pos 2 ∷ pos 2 ∷ pos 1 ∷ pos 1 ∷ []

@@ -4,7 +4,6 @@
 ghost use Rattle.min_max.specs.Rows.{MinMaxRows};
 
 mod every_axis;
-mod lane;
 mod one_axis;
 
 pub use every_axis::maximum_filter;

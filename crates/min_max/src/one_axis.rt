@@ -7,10 +7,21 @@ ghost use Rattle.sweeps.specs.Call.{callJudged, numberOf};
 ghost use Rattle.sweeps.specs.Run.{answerOf};
 ghost use Rattle.filter_judge.specs.Judge.{callOf};
 ghost use Rattle.min_max.specs.Filters.{orderOf};
+ghost use Rattle.min_max.specs.Lane.{lineFilterOf};
 use crate::Extreme;
-use crate::lane;
+use axis_filter::LineFilter;
 use border::BorderMode;
 use origin::Origin;
+
+// The line filter that finds the extremes; it reads no weights.
+fn line_filter(extreme: Extreme) -> LineFilter
+    ensures { λ r. ⌜ r ≡ lineFilterOf extreme ⌝ }
+{
+    match extreme {
+        Extreme::Least => LineFilter::Least,
+        Extreme::Greatest => LineFilter::Greatest,
+    }
+}
 
 // Fills out with the answer of an accepted one-axis call.
 pub(crate) fn pass(
@@ -32,8 +43,9 @@ pub(crate) fn pass(
     }
     match origin::origin_check(size, origin) {
         Origin::Refused => {}
-        Origin::Pads(left, right) => lane::sweep_axis(
-            extreme,
+        Origin::Pads(left, right) => axis_filter::filter_axis(
+            line_filter(extreme),
+            &data[..0],
             mode,
             data,
             shape,

@@ -8,10 +8,6 @@ use Rattle.array.proofs.Shapes.{shape-accepted}
 use borrow.Author.Needs.{needs}
 use Rattle.axis_filter.proofs.filter_axis.Statement.{statement}
 use Rattle.axis_filter.proofs.filter_axis.Tie as tie
-use Rattle.axis_filter.proofs.filter_axis.Reads as reads
-use Rattle.axis_filter.proofs.filter_axis.Lts as lts
-use Rattle.array.proofs.len_of.Reads as len-of-reads
-use Rattle.axis_filter.proofs.filter_lanes.Reads as filter-lanes-reads
 
 len-of-requires : tie.Need-len-of-requires
 len-of-requires c κs = search needs

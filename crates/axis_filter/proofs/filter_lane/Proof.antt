@@ -1,6 +1,6 @@
 -- `axis_filter::filter_lane` meets its contract: the padded lane, filtered, and the lane that it is written to.
 -- Assumes nothing.
-use mathlib.Core.Path.{_≡_, sym, ap, subst}
+use mathlib.Core.Path.{sym, subst}
 use mathlib.Core.List.{List}
 use Prim.Native.Nat.{_+_}
 use native.Mathlib.Omega.{arith}
@@ -14,11 +14,6 @@ use Rattle.axis_filter.proofs.Supposed.{length-filtered, line-served}
 use borrow.Author.Needs.{needs}
 use Rattle.axis_filter.proofs.filter_lane.Statement.{statement}
 use Rattle.axis_filter.proofs.filter_lane.Tie as tie
-use Rattle.axis_filter.proofs.filter_lane.Reads as reads
-use Rattle.axis_filter.proofs.filter_lane.Lts as lts
-use Rattle.axis_filter.proofs.filter_line.Reads as filter-line-reads
-use Rattle.lanes.proofs.write_lane.Reads as write-lane-reads
-use Rattle.pad_line.proofs.pad_lane.Reads as pad-lane-reads
 
 pad-lane-requires : tie.Need-pad-lane-requires
 pad-lane-requires c κs = search needs

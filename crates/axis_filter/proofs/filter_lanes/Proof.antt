@@ -10,13 +10,9 @@ use Rattle.axis_filter.proofs.EveryLane.{Sweeping, lanes-accepted, swee
 use borrow.Author.Needs.{needs}
 use Rattle.axis_filter.proofs.filter_lanes.Statement.{statement}
 use Rattle.axis_filter.proofs.filter_lanes.Tie as tie
-use Rattle.axis_filter.proofs.filter_lanes.Reads as reads
-use Rattle.axis_filter.proofs.filter_lanes.Lts as lts
-use Rattle.axis_filter.proofs.filter_lane.Reads as filter-lane-reads
-use Rattle.lanes.proofs.lanes_of.Reads as lanes-of-reads
 
 abbrev Inv-loop : tie.InvT-loop
-Inv-loop filter weights mode «data» shape axis left right line₀ swept₀ out₀ stride count lane₀ line swept out lane = 
+Inv-loop filter weights mode «data» shape axis left right line₀ swept₀ out₀ stride count lane₀ line swept out lane =
     Sweeping (pos 0) (filtered filter weights (left + right + 1)) (borderOf mode) shape axis left right «data» out₀ stride count lane line swept out
 
 abbrev μ-loop : tie.MeasureT-loop
@@ -26,13 +22,13 @@ lanes-of-requires : tie.Need-lanes-of-requires Inv-loop μ-loop
 lanes-of-requires c κs = search needs
 
 loop-holds : tie.Need-loop-holds Inv-loop μ-loop
-loop-holds c = 
+loop-holds c =
     let s = c .before .before in
     let a = s .args in
     sweeping-none (pos 0) (filtered (a .filter) (now (a .weights)) (a .left + a .right + 1)) (s .pre .0) (lanes-accepted (now (a .shape)) (a .axis) (s .pre .0 .shape) (c .lanes-of .ensures)) (s .pre .2) (s .pre .3)
 
 filter-lane-requires : tie.Need-filter-lane-requires Inv-loop μ-loop
-filter-lane-requires c κs = 
+filter-lane-requires c κs =
     let s = c .before .before .before .before .before .before .before in
     let a = s .args in
     (lane-room (pos 0) (filtered (a .filter) (now (a .weights)) (a .left + a .right + 1)) (s .pre .0) (c .before .before .before .before .loop .inv) (search needs), s .pre .1)
@@ -44,7 +40,7 @@ loop-less : tie.Need-loop-less Inv-loop μ-loop
 loop-less c = search needs
 
 loop-again : tie.Need-loop-again Inv-loop μ-loop
-loop-again c = 
+loop-again c =
     let s = c .before .before .before .before .before .before .before .before .before .before .before in
     let a = s .args in
     let k = c .before .before .before .filter-lane in
@@ -61,7 +57,7 @@ same-length-3 : tie.Need-same-length-3 Inv-loop μ-loop
 same-length-3 c = c .before .loop .inv .stored .kept
 
 returns : tie.Need-returns Inv-loop μ-loop
-returns c = 
+returns c =
     let s = c .before .before .before .before in
     let a = s .args in
     sweeping-all (pos 0) (filtered (a .filter) (now (a .weights)) (a .left + a .right + 1)) (s .pre .0) (c .before .loop .inv) (search needs)

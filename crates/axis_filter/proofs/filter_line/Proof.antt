@@ -8,11 +8,6 @@ use Rattle.minlist.proofs.Served.{swept-filled}
 use borrow.Author.Needs.{needs}
 use Rattle.axis_filter.proofs.filter_line.Statement.{statement}
 use Rattle.axis_filter.proofs.filter_line.Tie as tie
-use Rattle.axis_filter.proofs.filter_line.Reads as reads
-use Rattle.axis_filter.proofs.filter_line.Lts as lts
-use Rattle.correlate_line.proofs.correlate_line.Reads as correlate-line-reads
-use Rattle.maximum_line.proofs.maximum_line.Reads as maximum-line-reads
-use Rattle.minimum_line.proofs.minimum_line.Reads as minimum-line-reads
 
 enum-told : tie.Need-enum-told
 enum-told c = search needs
@@ -36,7 +31,7 @@ same-length : tie.Need-same-length
 same-length c = search needs
 
 returns : tie.Need-returns
-returns c = 
+returns c =
     let s = c .before .before .before .before .before in
     let e = c .before .before .before .enum-told .given .1 in
     rw e (c .before .minimum-line .ensures ∙ swept-filled leZ (now (s .args .line)) (s .args .size) (now (s .args .out)) (rw e at (s .pre)))
@@ -45,7 +40,7 @@ same-length-2 : tie.Need-same-length-2
 same-length-2 c = search needs
 
 returns-2 : tie.Need-returns-2
-returns-2 c = 
+returns-2 c =
     let s = c .before .before .before .before .before in
     let e = c .before .before .before .enum-told2 .given .1 in
     rw e (c .before .maximum-line .ensures ∙ swept-filled atLeast (now (s .args .line)) (s .args .size) (now (s .args .out)) (rw e at (s .pre)))

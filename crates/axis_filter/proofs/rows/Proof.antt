@@ -7,11 +7,8 @@ use Rattle.border.specs.Border.{cellFor, extendedLane}
 use Rattle.pad_line.specs.Line.{paddedAt, paddedLine}
 use Rattle.minlist.specs.Firsts.{firsts}
 use Rattle.correlation.specs.Weighed.{summed}
-use borrow.Author.Needs.{needs}
 use Rattle.axis_filter.proofs.rows.Statement.{statement}
 use Rattle.axis_filter.proofs.rows.Tie as tie
-use Rattle.axis_filter.proofs.rows.Reads as reads
-use Rattle.axis_filter.proofs.rows.Lts as lts
 
 returns : tie.Need-returns
 unfolding tabulate cellFor extendedLane paddedAt paddedLine firsts summed windowOf

@@ -16,6 +16,7 @@ use Rattle.min_max.proofs.rows.Tie as tie
 returns : tie.Need-returns
 unfolding tabulate windowOf placeOf coordinate cellFor extendedLane paddedAt paddedLine firsts firstIn answerOf filterAnswer
 returns c = record {
+  filters = refl;
   orders = refl;
   t4-minimum = refl;
   t4-maximum = refl;

@@ -2,6 +2,7 @@
 -- Assumes nothing.
 use Prim.Native.Nat.{_-_, _/_}
 use mathlib.Core.Path.{_≡_, ap, _∙_}
+use mathlib.Core.List.{[]}
 use denote.Ref.{now}
 use mir.Syntax.{w64}
 use mir.Val.{toZ, ofZ}
@@ -11,7 +12,7 @@ use Rattle.sweeps.proofs.Passed.{passed}
 use Rattle.filter_judge.specs.Judge.{callOf}
 use Rattle.min_max.specs.Filters.{orderOf}
 use Rattle.filter_judge.proofs.Reach.{origin-refused, PadsAre, pads-are}
-use Rattle.min_max.proofs.OnePass.{copied-answer, sweep-accepted, swept-answer}
+use Rattle.min_max.proofs.OnePass.{copied-answer, extremes-supposed, extremes-filtered, sweep-accepted, window-wide, swept-answer}
 use borrow.Author.Needs.{needs}
 use Rattle.min_max.proofs.one_axis.pass.Statement.{statement}
 use Rattle.min_max.proofs.one_axis.pass.Tie as tie
@@ -49,12 +50,22 @@ enum-told c = search needs
 enum-known-left : tie.Need-enum-known-left
 enum-known-left c = search needs
 
-sweep-axis-requires : tie.Need-sweep-axis-requires
-sweep-axis-requires c κs =
-    let s = c .before .before .before .before .before .before .before in
+line-filter-requires : tie.Need-line-filter-requires
+line-filter-requires c κs = search needs
+
+slice-aggregate-filter-axis : tie.Need-slice-aggregate-filter-axis
+slice-aggregate-filter-axis c = search needs
+
+filter-axis-requires : tie.Need-filter-axis-requires
+filter-axis-requires c κs =
+    let s = c .before .before .before .before .before .before .before .before .before in
     let D = now (s .args .«data») in
-    let G = given (c .before .before) in
-    sweep-accepted (orderOf (s .args .extreme)) D (call s) (s .pre) (c .before .before .before .before .before .if1 .left) (G .left) (G .right)
+    let G = given (c .before .before .before .before) in
+    let le = orderOf (s .args .extreme) in
+    let more = c .before .before .before .before .before .before .before .if1 .left in (
+      sweep-accepted le D (call s) (s .pre) more (G .left) (G .right),
+      extremes-supposed (s .args .extreme) [] _ _ D (c .before .before .line-filter .ensures) (window-wide le D (call s) (s .pre) more (G .left) (G .right)),
+    )
 
 returns-2 : tie.Need-returns-2
 returns-2 c =
@@ -66,10 +77,11 @@ same-length-2 c = search needs
 
 returns-3 : tie.Need-returns-3
 returns-3 c =
-    let s = c .before .before .before .before .before .before .before .before .before in
+    let s = c .before .before .before .before .before .before .before .before .before .before .before in
     let D = now (s .args .«data») in
-    let G = given (c .before .before .before .before) in
-    swept-answer (orderOf (s .args .extreme)) D (call s) (s .pre) (c .before .before .before .before .before .before .before .if1 .left) (G .left) (G .right) (c .before .sweep-axis .ensures)
+    let G = given (c .before .before .before .before .before .before) in
+    swept-answer (orderOf (s .args .extreme)) D (call s) (s .pre) (c .before .before .before .before .before .before .before .before .before .if1 .left) (G .left) (G .right)
+    (c .before .filter-axis .ensures ∙ extremes-filtered (s .args .extreme) [] _ _ _ (now (s .args .shape)) (s .args .axis) D (c .before .before .before .before .line-filter .ensures))
 
 pub pass-spec : {M : Type 1} → statement M
 pass-spec =
@@ -81,7 +93,9 @@ pass-spec =
     origin-check-requires
     enum-told
     enum-known-left
-    sweep-axis-requires
+    line-filter-requires
+    slice-aggregate-filter-axis
+    filter-axis-requires
     returns-2
     same-length-2
     returns-3)
