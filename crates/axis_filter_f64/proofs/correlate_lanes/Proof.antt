@@ -1,0 +1,80 @@
+-- `axis_filter_f64::correlate_lanes` meets its contract: the lanes below the one that the loop has reached are written.
+-- Assumes nothing.
+use denote.Ref.{now}
+use Prim.Native.Nat.{_-_}
+use mathlib.Core.Path.{sym, _∙_}
+use lib.Ieee.{nan}
+use Rattle.border.specs.Modes.{borderOfF64}
+use Rattle.correlation.specs.Weighed.{floatOps, weighedLine}
+use Rattle.axis_filter.proofs.EveryLane.{Sweeping, lanes-accepted, sweeping-none, lane-room, sweeping-more, sweeping-all}
+use borrow.Author.Needs.{needs}
+use Rattle.axis_filter_f64.proofs.correlate_lanes.Statement.{statement}
+use Rattle.axis_filter_f64.proofs.correlate_lanes.Tie as tie
+
+abbrev Inv-loop : tie.InvT-loop
+Inv-loop weights class mode «data» shape axis left right line₀ swept₀ out₀ stride count lane₀ line swept out lane =
+    Sweeping nan (weighedLine floatOps class weights) (borderOfF64 mode) shape axis left right «data» out₀ stride count lane line swept out
+
+abbrev μ-loop : tie.MeasureT-loop
+μ-loop weights class mode «data» shape axis left right line₀ swept₀ out₀ stride count lane₀ line swept out lane = count - lane
+
+lanes-of-requires : tie.Need-lanes-of-requires Inv-loop μ-loop
+lanes-of-requires c κs = search needs
+
+loop-holds : tie.Need-loop-holds Inv-loop μ-loop
+loop-holds c =
+    let s = c .before .before .before .before .before .before .before in
+    let a = s .args in
+    sweeping-none nan (weighedLine floatOps (a .class) (now (a .weights))) (s .pre .0) (lanes-accepted (now (a .shape)) (a .axis) (s .pre .0 .shape) (c .lanes-of .ensures)) (s .pre .2) (s .pre .3)
+
+correlate-lane-requires : tie.Need-correlate-lane-requires Inv-loop μ-loop
+correlate-lane-requires c κs =
+    let s = c .before .before .before .before .before .before .before .before .before .before .before .before in
+    let a = s .args in
+    (lane-room nan (weighedLine floatOps (a .class) (now (a .weights))) (s .pre .0) (c .before .before .before .before .loop .inv) (search needs), s .pre .1)
+
+add-lane : tie.Need-add-lane Inv-loop μ-loop
+add-lane c = search needs
+
+loop-less : tie.Need-loop-less Inv-loop μ-loop
+loop-less c = search needs
+
+loop-again : tie.Need-loop-again Inv-loop μ-loop
+loop-again c =
+    let s = c .before .before .before .before .before .before .before .before .before .before .before .before .before .before .before .before .before .before .before in
+    let a = s .args in
+    let k = c .before .before .before .before .before .before .correlate-lane in
+    sweeping-more nan (weighedLine floatOps (a .class) (now (a .weights))) (s .pre .0) (c .before .before .before .before .before .before .before .before .before .before .before .loop .inv) (search needs)
+    (k .kept .1 .1 .1 .1 .1 .1 .1 .1 .0) (k .kept .1 .1 .1 .1 .1 .1 .1 .1 .1 .0) (k .ensures)
+
+same-length : tie.Need-same-length Inv-loop μ-loop
+same-length c = c .before .loop .inv .buffer ∙ sym (c .before .before .before .before .before .before .before .before .before .pre .2)
+
+same-length-2 : tie.Need-same-length-2 Inv-loop μ-loop
+same-length-2 c = c .before .loop .inv .long ∙ sym (c .before .before .before .before .before .before .before .before .before .pre .3)
+
+same-length-3 : tie.Need-same-length-3 Inv-loop μ-loop
+same-length-3 c = c .before .loop .inv .stored .kept
+
+returns : tie.Need-returns Inv-loop μ-loop
+returns c =
+    let s = c .before .before .before .before .before .before .before .before .before in
+    let a = s .args in
+    sweeping-all nan (weighedLine floatOps (a .class) (now (a .weights))) (s .pre .0) (c .before .loop .inv) (search needs)
+
+pub correlate-lanes-spec : {M : Type 1} → statement M
+correlate-lanes-spec =
+    tie.close
+    (tie.spec
+    Inv-loop
+    μ-loop
+    lanes-of-requires
+    loop-holds
+    correlate-lane-requires
+    add-lane
+    loop-less
+    loop-again
+    same-length
+    same-length-2
+    same-length-3
+    returns)
