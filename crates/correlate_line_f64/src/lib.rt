@@ -53,12 +53,12 @@ fn add_pairs(weights: &[f64], line: &[f64], j: usize, out: &mut [f64])
     requires { ⌜ Windows (now weights) (now line) (length (now out)) × (j < length (now weights) / 2) × (now out ≡ tabulate (pairsTo floatOps (floatOps .sum) (now weights) (now line) j) 0 (length (now out))) ⌝ }
     ensures { λ _. ⌜ now (out .exit) ≡ tabulate (pairsTo floatOps (floatOps .sum) (now (weights .entry)) (now (line .entry)) (j + 1)) 0 (length (now (out .entry))) ⌝ }
 {
-    let weight = weights[j];
-    let far = weights.len() - 1 - j;
+    let mirror = weights.len() - 1 - j;
+    let shared = weights[j];
     let n = out.len();
     let mut i = 0;
     while i < n {
-        out[i] = out[i] + (line[i + j] + line[i + far]) * weight;
+        out[i] = out[i] + (line[i + j] + line[i + mirror]) * shared;
         i += 1;
     }
 }
@@ -68,12 +68,12 @@ fn add_differences(weights: &[f64], line: &[f64], j: usize, out: &mut [f64])
     requires { ⌜ Windows (now weights) (now line) (length (now out)) × (j < length (now weights) / 2) × (now out ≡ tabulate (pairsTo floatOps (floatOps .difference) (now weights) (now line) j) 0 (length (now out))) ⌝ }
     ensures { λ _. ⌜ now (out .exit) ≡ tabulate (pairsTo floatOps (floatOps .difference) (now (weights .entry)) (now (line .entry)) (j + 1)) 0 (length (now (out .entry))) ⌝ }
 {
-    let weight = weights[j];
-    let far = weights.len() - 1 - j;
+    let opposite = weights.len() - 1 - j;
+    let signed = weights[j];
     let n = out.len();
     let mut i = 0;
     while i < n {
-        out[i] = out[i] + (line[i + j] - line[i + far]) * weight;
+        out[i] = out[i] + (line[i + j] - line[i + opposite]) * signed;
         i += 1;
     }
 }
@@ -85,10 +85,10 @@ fn plain_line(weights: &[f64], line: &[f64], out: &mut [f64])
 {
     clear_row(out);
     let count = weights.len();
-    let mut j = 0;
-    while j < count {
-        add_row(weights, line, j, out);
-        j += 1;
+    let mut k = 0;
+    while k < count {
+        add_row(weights, line, k, out);
+        k += 1;
     }
 }
 

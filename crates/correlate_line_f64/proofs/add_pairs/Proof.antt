@@ -15,22 +15,22 @@ use Rattle.correlate_line_f64.proofs.add_pairs.Statement.{statement}
 use Rattle.correlate_line_f64.proofs.add_pairs.Tie as tie
 
 abbrev Inv-loop : tie.InvT-loop
-Inv-loop weights line j out₀ weight far n i₀ out i = (i ≤ n) × (n ≡ length out₀) × Stored nan (λ k. ltb k i) (pairsTo floatOps (floatOps .sum) weights line (j + 1)) out₀ out
+Inv-loop weights line j out₀ mirror shared n i₀ out i = (i ≤ n) × (n ≡ length out₀) × Stored nan (λ k. ltb k i) (pairsTo floatOps (floatOps .sum) weights line (j + 1)) out₀ out
 
 abbrev μ-loop : tie.MeasureT-loop
-μ-loop weights line j out₀ weight far n i₀ out i = n - i
+μ-loop weights line j out₀ mirror shared n i₀ out i = n - i
 
-mul-weight : tie.Need-mul-weight Inv-loop μ-loop
-mul-weight c = search needs
+sub-mirror : tie.Need-sub-mirror Inv-loop μ-loop
+sub-mirror c = search needs
 
-shared-slice-read-weight : tie.Need-shared-slice-read-weight Inv-loop μ-loop
-shared-slice-read-weight c = search needs
+sub-mirror-2 : tie.Need-sub-mirror-2 Inv-loop μ-loop
+sub-mirror-2 c = search needs
 
-sub-far : tie.Need-sub-far Inv-loop μ-loop
-sub-far c = search needs
+mul-shared : tie.Need-mul-shared Inv-loop μ-loop
+mul-shared c = search needs
 
-sub-far-2 : tie.Need-sub-far-2 Inv-loop μ-loop
-sub-far-2 c = search needs
+shared-slice-read-shared : tie.Need-shared-slice-read-shared Inv-loop μ-loop
+shared-slice-read-shared c = search needs
 
 loop-holds : tie.Need-loop-holds Inv-loop μ-loop
 loop-holds c = (search needs, refl, front-none nan _ _)
@@ -89,10 +89,10 @@ add-pairs-spec =
     (tie.spec
     Inv-loop
     μ-loop
-    mul-weight
-    shared-slice-read-weight
-    sub-far
-    sub-far-2
+    sub-mirror
+    sub-mirror-2
+    mul-shared
+    shared-slice-read-shared
     loop-holds
     mul-out
     slice-read-out
