@@ -1,7 +1,7 @@
 -- One turn of a loop along a row, on the machine: whichever cells and weight it reads, pair, term and sum fit 64 bits, since a partial sum reads at most 65 cells;
 -- and where they are those that are next, the row has one cell more. Assumes nothing.
 use Prim.Native.Nat.{ℕ, _+_, _-_, _*_, _^_, _/_, _<_}
-use mathlib.Core.Path.{_≡_, sym, subst}
+use mathlib.Core.Path.{_≡_, sym, ap, subst, _∙_}
 use mathlib.Core.List.{List}
 use native.Mathlib.Omega.{arith}
 use lib.Dec.{ltb}
@@ -75,8 +75,8 @@ module _ {w s : List ℤ} {n : ℕ} (W : Weighable w s n) where
           sum-computed (pairsTo wholeOps op w s j) (pairsTo wholeOps op w s (j + 1)) e p S (size-pairs (2 ^ 38) 65535 w s cell-size weight-size op joins j i) (pair-term a b k)
           (size-pair (2 ^ 38) 65535 w s cell-size weight-size op joins a b k) (omega (arith, W .few))
 
-      pub pairs-stored : Stored (pos 0) (λ m. ltb m (i + 1)) (pairsTo wholeOps op w s (j + 1)) l₀
-          (set l i (read (read (getD l i (pos 0)) +ℤ read (read (op (read (getD s (i + j) (pos 0))) (read (getD s (i + (length w - 1 - j)) (pos 0)))) *ℤ read (getD w j (pos 0))))))
-      pairs-stored =
+      pub pairs-stored : (r : ℕ) → r ≡ length w - 1 - j → Stored (pos 0) (λ m. ltb m (i + 1)) (pairsTo wholeOps op w s (j + 1)) l₀
+          (set l i (read (read (getD l i (pos 0)) +ℤ read (read (op (read (getD s (i + j) (pos 0))) (read (getD s (i + r) (pos 0)))) *ℤ read (getD w j (pos 0))))))
+      pairs-stored r q =
           row-more _+ℤ_ (λ i. cellTerm wholeOps w s i (length w / 2)) (pairTerm wholeOps op w s) (pos 0) j _ e p S
-          (computed-read (pairs-sum (i + j) (i + (length w - 1 - j)) j))
+          (computed-read (pairs-sum (i + j) (i + r) j) ∙ ap (λ (m : ℕ). getD l i (pos 0) +ℤ op (getD s (i + j) (pos 0)) (getD s (i + m) (pos 0)) *ℤ getD w j (pos 0)) q)

@@ -15,16 +15,10 @@ use Rattle.correlate_line.proofs.add_differences.Statement.{statement}
 use Rattle.correlate_line.proofs.add_differences.Tie as tie
 
 abbrev Inv-loop : tie.InvT-loop
-Inv-loop weights line j out₀ opposite signed n i₀ out i = (i ≤ n) × (n ≡ length out₀) × Stored (pos 0) (λ k. ltb k i) (pairsTo wholeOps _-ℤ_ weights line (j + 1)) out₀ out
+Inv-loop weights line left right out₀ signed n i₀ out i = (i ≤ n) × (n ≡ length out₀) × Stored (pos 0) (λ k. ltb k i) (pairsTo wholeOps _-ℤ_ weights line (left + 1)) out₀ out
 
 abbrev μ-loop : tie.MeasureT-loop
-μ-loop weights line j out₀ opposite signed n i₀ out i = n - i
-
-sub-opposite : tie.Need-sub-opposite Inv-loop μ-loop
-sub-opposite c = search needs
-
-sub-opposite-2 : tie.Need-sub-opposite-2 Inv-loop μ-loop
-sub-opposite-2 c = search needs
+μ-loop weights line left right out₀ signed n i₀ out i = n - i
 
 mul-signed : tie.Need-mul-signed Inv-loop μ-loop
 mul-signed c = search needs
@@ -66,10 +60,10 @@ mul-out-4 : tie.Need-mul-out-4 Inv-loop μ-loop
 mul-out-4 c = pair-term (c .before .before .before .before .before .before .pre .0) _-ℤ_ difference-joins _ _ _ .fits
 
 add-out-3 : tie.Need-add-out-3 Inv-loop μ-loop
-add-out-3 c = let s = c .before .before .before .before .before .before in pairs-sum (s .pre .0) _-ℤ_ difference-joins (s .args .j) (s .pre .1) (s .pre .2) (omega arith) (c .before .before .before .before .loop .inv .2) _ _ _ .fits
+add-out-3 c = let s = c .before .before .before .before .before .before in pairs-sum (s .pre .0) _-ℤ_ difference-joins (s .args .left) (s .pre .1) (s .pre .3) (omega arith) (c .before .before .before .before .loop .inv .2) _ _ _ .fits
 
-mul-t28 : tie.Need-mul-t28 Inv-loop μ-loop
-mul-t28 c = search needs
+mul-t27 : tie.Need-mul-t27 Inv-loop μ-loop
+mul-t27 c = search needs
 
 slice-set-from-out : tie.Need-slice-set-from-out Inv-loop μ-loop
 slice-set-from-out c = search needs
@@ -84,7 +78,7 @@ loop-again : tie.Need-loop-again Inv-loop μ-loop
 loop-again c =
     let s = c .before .before .before .before .before .before in
     let l = c .before .before .before .before .loop in
-    (search needs, l .inv .1, pairs-stored (s .pre .0) _-ℤ_ difference-joins (s .args .j) (s .pre .1) (s .pre .2) (omega arith) (l .inv .2))
+    (search needs, l .inv .1, pairs-stored (s .pre .0) _-ℤ_ difference-joins (s .args .left) (s .pre .1) (s .pre .3) (omega arith) (l .inv .2) (s .args .right) (s .pre .2))
 
 same-length : tie.Need-same-length Inv-loop μ-loop
 same-length c = c .before .loop .inv .2 .kept
@@ -98,8 +92,6 @@ add-differences-spec =
     (tie.spec
     Inv-loop
     μ-loop
-    sub-opposite
-    sub-opposite-2
     mul-signed
     shared-slice-copy-out-signed
     loop-holds
@@ -114,7 +106,7 @@ add-differences-spec =
     sub-out
     mul-out-4
     add-out-3
-    mul-t28
+    mul-t27
     slice-set-from-out
     add-i
     loop-less

@@ -15,16 +15,10 @@ use Rattle.correlate_line.proofs.add_pairs.Statement.{statement}
 use Rattle.correlate_line.proofs.add_pairs.Tie as tie
 
 abbrev Inv-loop : tie.InvT-loop
-Inv-loop weights line j out₀ mirror shared n i₀ out i = (i ≤ n) × (n ≡ length out₀) × Stored (pos 0) (λ k. ltb k i) (pairsTo wholeOps _+ℤ_ weights line (j + 1)) out₀ out
+Inv-loop weights line left right out₀ shared n i₀ out i = (i ≤ n) × (n ≡ length out₀) × Stored (pos 0) (λ k. ltb k i) (pairsTo wholeOps _+ℤ_ weights line (left + 1)) out₀ out
 
 abbrev μ-loop : tie.MeasureT-loop
-μ-loop weights line j out₀ mirror shared n i₀ out i = n - i
-
-sub-mirror : tie.Need-sub-mirror Inv-loop μ-loop
-sub-mirror c = search needs
-
-sub-mirror-2 : tie.Need-sub-mirror-2 Inv-loop μ-loop
-sub-mirror-2 c = search needs
+μ-loop weights line left right out₀ shared n i₀ out i = n - i
 
 mul-shared : tie.Need-mul-shared Inv-loop μ-loop
 mul-shared c = search needs
@@ -66,10 +60,10 @@ mul-out-4 : tie.Need-mul-out-4 Inv-loop μ-loop
 mul-out-4 c = pair-term (c .before .before .before .before .before .before .pre .0) _+ℤ_ sum-joins _ _ _ .fits
 
 add-out-4 : tie.Need-add-out-4 Inv-loop μ-loop
-add-out-4 c = let s = c .before .before .before .before .before .before in pairs-sum (s .pre .0) _+ℤ_ sum-joins (s .args .j) (s .pre .1) (s .pre .2) (omega arith) (c .before .before .before .before .loop .inv .2) _ _ _ .fits
+add-out-4 c = let s = c .before .before .before .before .before .before in pairs-sum (s .pre .0) _+ℤ_ sum-joins (s .args .left) (s .pre .1) (s .pre .3) (omega arith) (c .before .before .before .before .loop .inv .2) _ _ _ .fits
 
-mul-t28 : tie.Need-mul-t28 Inv-loop μ-loop
-mul-t28 c = search needs
+mul-t27 : tie.Need-mul-t27 Inv-loop μ-loop
+mul-t27 c = search needs
 
 slice-set-from-out : tie.Need-slice-set-from-out Inv-loop μ-loop
 slice-set-from-out c = search needs
@@ -84,7 +78,7 @@ loop-again : tie.Need-loop-again Inv-loop μ-loop
 loop-again c =
     let s = c .before .before .before .before .before .before in
     let l = c .before .before .before .before .loop in
-    (search needs, l .inv .1, pairs-stored (s .pre .0) _+ℤ_ sum-joins (s .args .j) (s .pre .1) (s .pre .2) (omega arith) (l .inv .2))
+    (search needs, l .inv .1, pairs-stored (s .pre .0) _+ℤ_ sum-joins (s .args .left) (s .pre .1) (s .pre .3) (omega arith) (l .inv .2) (s .args .right) (s .pre .2))
 
 same-length : tie.Need-same-length Inv-loop μ-loop
 same-length c = c .before .loop .inv .2 .kept
@@ -98,8 +92,6 @@ add-pairs-spec =
     (tie.spec
     Inv-loop
     μ-loop
-    sub-mirror
-    sub-mirror-2
     mul-shared
     shared-slice-copy-out-shared
     loop-holds
@@ -114,7 +106,7 @@ add-pairs-spec =
     add-out-3
     mul-out-4
     add-out-4
-    mul-t28
+    mul-t27
     slice-set-from-out
     add-i
     loop-less

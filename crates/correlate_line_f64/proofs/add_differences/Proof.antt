@@ -15,16 +15,10 @@ use Rattle.correlate_line_f64.proofs.add_differences.Statement.{stateme
 use Rattle.correlate_line_f64.proofs.add_differences.Tie as tie
 
 abbrev Inv-loop : tie.InvT-loop
-Inv-loop weights line j out₀ opposite signed n i₀ out i = (i ≤ n) × (n ≡ length out₀) × Stored nan (λ k. ltb k i) (pairsTo floatOps (floatOps .difference) weights line (j + 1)) out₀ out
+Inv-loop weights line left right out₀ signed n i₀ out i = (i ≤ n) × (n ≡ length out₀) × Stored nan (λ k. ltb k i) (pairsTo floatOps (floatOps .difference) weights line (left + 1)) out₀ out
 
 abbrev μ-loop : tie.MeasureT-loop
-μ-loop weights line j out₀ opposite signed n i₀ out i = n - i
-
-sub-opposite : tie.Need-sub-opposite Inv-loop μ-loop
-sub-opposite c = search needs
-
-sub-opposite-2 : tie.Need-sub-opposite-2 Inv-loop μ-loop
-sub-opposite-2 c = search needs
+μ-loop weights line left right out₀ signed n i₀ out i = n - i
 
 mul-signed : tie.Need-mul-signed Inv-loop μ-loop
 mul-signed c = search needs
@@ -75,7 +69,7 @@ loop-again : tie.Need-loop-again Inv-loop μ-loop
 loop-again c =
     let s = c .before .before .before .before .before .before in
     let l = c .before .before .before .before .loop in
-    (search needs, l .inv .1, pairs-more floatOps (now (s .args .weights)) (now (s .args .line)) (floatOps .difference) (s .args .j) (s .pre .2) (omega arith) (l .inv .2))
+    (search needs, l .inv .1, pairs-more floatOps (now (s .args .weights)) (now (s .args .line)) (floatOps .difference) (s .args .left) (s .args .right) (s .pre .2) (s .pre .3) (omega arith) (l .inv .2))
 
 same-length : tie.Need-same-length Inv-loop μ-loop
 same-length c = c .before .loop .inv .2 .kept
@@ -89,8 +83,6 @@ add-differences-spec =
     (tie.spec
     Inv-loop
     μ-loop
-    sub-opposite
-    sub-opposite-2
     mul-signed
     shared-slice-read-signed
     loop-holds

@@ -15,16 +15,10 @@ use Rattle.correlate_line_f64.proofs.add_pairs.Statement.{statement}
 use Rattle.correlate_line_f64.proofs.add_pairs.Tie as tie
 
 abbrev Inv-loop : tie.InvT-loop
-Inv-loop weights line j out₀ mirror shared n i₀ out i = (i ≤ n) × (n ≡ length out₀) × Stored nan (λ k. ltb k i) (pairsTo floatOps (floatOps .sum) weights line (j + 1)) out₀ out
+Inv-loop weights line left right out₀ shared n i₀ out i = (i ≤ n) × (n ≡ length out₀) × Stored nan (λ k. ltb k i) (pairsTo floatOps (floatOps .sum) weights line (left + 1)) out₀ out
 
 abbrev μ-loop : tie.MeasureT-loop
-μ-loop weights line j out₀ mirror shared n i₀ out i = n - i
-
-sub-mirror : tie.Need-sub-mirror Inv-loop μ-loop
-sub-mirror c = search needs
-
-sub-mirror-2 : tie.Need-sub-mirror-2 Inv-loop μ-loop
-sub-mirror-2 c = search needs
+μ-loop weights line left right out₀ shared n i₀ out i = n - i
 
 mul-shared : tie.Need-mul-shared Inv-loop μ-loop
 mul-shared c = search needs
@@ -75,7 +69,7 @@ loop-again : tie.Need-loop-again Inv-loop μ-loop
 loop-again c =
     let s = c .before .before .before .before .before .before in
     let l = c .before .before .before .before .loop in
-    (search needs, l .inv .1, pairs-more floatOps (now (s .args .weights)) (now (s .args .line)) (floatOps .sum) (s .args .j) (s .pre .2) (omega arith) (l .inv .2))
+    (search needs, l .inv .1, pairs-more floatOps (now (s .args .weights)) (now (s .args .line)) (floatOps .sum) (s .args .left) (s .args .right) (s .pre .2) (s .pre .3) (omega arith) (l .inv .2))
 
 same-length : tie.Need-same-length Inv-loop μ-loop
 same-length c = c .before .loop .inv .2 .kept
@@ -89,8 +83,6 @@ add-pairs-spec =
     (tie.spec
     Inv-loop
     μ-loop
-    sub-mirror
-    sub-mirror-2
     mul-shared
     shared-slice-read-shared
     loop-holds
