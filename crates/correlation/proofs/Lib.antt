@@ -4,3 +4,4 @@ pub mod Along
 pub mod Folded
 pub mod Classes
 pub mod Sizes
+pub mod Reversed
