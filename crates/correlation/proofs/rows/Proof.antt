@@ -9,7 +9,7 @@ use Rattle.correlation.proofs.rows.Tie as tie
 
 returns : tie.Need-returns
 unfolding tabulate summed add mul
-returns c = record { three = refl; symmetric = refl; anti = refl; near = refl }
+returns c = record { three = refl; symmetric = refl; anti = refl; near = refl; from-zero = refl; from-middle = refl }
 
 pub rows-spec : {M : Type 1} → statement M
 rows-spec = tie.close (tie.spec returns)
