@@ -5,7 +5,7 @@
 --   CorrelationRows  the rows
 use Prim.Native.Nat.{ℕ}
 use mathlib.Core.Path.{_≡_}
-use mathlib.Core.Bool.{false}
+use mathlib.Core.Bool.{true, false}
 use mathlib.Core.List.{List, [], _∷_}
 use lib.Ieee.{Float, fin}
 use lib.IntN.{ℤ, pos, negsuc}
@@ -47,3 +47,6 @@ pub record CorrelationRows : Type 0 where
       ≡ one ∷ fin false 4503599627370497 (negsuc 51) ∷ []
   -- floats 0, 0, 1 under weights 1, 2, 1 + 2^−52, taken as Symmetric: exactly 1; the right weight is not read
   pub near : weighedAt floatOps Symmetric (one ∷ fin false 1 (pos 1) ∷ fin false 4503599627370497 (negsuc 51) ∷ []) (none ∷ none ∷ one ∷ []) 0 ≡ one
+  -- a plain sum starts from 0.0, one by pairs from its middle term: of the cell −0.0 under the weight 1, 0.0 and −0.0
+  pub from-zero : weighedAt floatOps NonSymmetric (one ∷ []) (fin true 0 (pos 0) ∷ []) 0 ≡ none
+  pub from-middle : weighedAt floatOps Symmetric (one ∷ []) (fin true 0 (pos 0) ∷ []) 0 ≡ fin true 0 (pos 0)

@@ -14,7 +14,18 @@ use Rattle.correlation.proofs.rows.Tie as tie
 
 returns : tie.Need-returns
 unfolding tabulate summed add mul alongAxis laneAt paddedAt paddedLine extendedLane cellFor correlatedBy someDiffers exceeds sub lt
-returns c = record { padded = refl; symmetric = refl; anti = refl; t2 = refl; t3 = refl; one-weight = refl; float = refl; near = refl }
+returns c = record {
+  padded = refl;
+  symmetric = refl;
+  anti = refl;
+  t2 = refl;
+  t3 = refl;
+  one-weight = refl;
+  float = refl;
+  near = refl;
+  from-zero = refl;
+  from-middle = refl;
+}
 
 pub rows-spec : {M : Type 1} → statement M
 rows-spec = tie.close (tie.spec returns)
