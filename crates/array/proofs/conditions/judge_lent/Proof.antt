@@ -1,9 +1,9 @@
--- `array::conditions::judge_grid` meets its contract: each return has the answers of the conditions on its way.
+-- `array::conditions::judge_lent` meets its contract: each return has the answers of the conditions on its way.
 -- Assumes nothing.
 use Rattle.numbers.proofs.Tests.{told}
 use borrow.Author.Needs.{needs}
-use Rattle.array.proofs.conditions.judge_grid.Statement.{statement}
-use Rattle.array.proofs.conditions.judge_grid.Tie as tie
+use Rattle.array.proofs.conditions.judge_lent.Statement.{statement}
+use Rattle.array.proofs.conditions.judge_lent.Tie as tie
 
 bad-shape-requires : tie.Need-bad-shape-requires
 bad-shape-requires c κs = search needs
@@ -29,17 +29,14 @@ bad-length-requires-3 c κs = search needs
 returns-4 : tie.Need-returns-4
 returns-4 c = simp (told (c .before .before .before .before .before .before .before .bad-shape .ensures) (c .before .before .before .before .before .before .if1 .left), told (c .before .before .before .before .before .bad-length .ensures) (c .before .before .before .before .if2 .left), told (c .before .before .before .bad-length2 .ensures) (c .before .before .if3 .left), told (c .before .bad-length3 .ensures) (c .if4 .taken))
 
-bad-levels-requires : tie.Need-bad-levels-requires
-bad-levels-requires c κs = search needs
-
 returns-5 : tie.Need-returns-5
-returns-5 c = simp (told (c .before .before .before .before .before .before .before .before .before .bad-shape .ensures) (c .before .before .before .before .before .before .before .before .if1 .left), told (c .before .before .before .before .before .before .before .bad-length .ensures) (c .before .before .before .before .before .before .if2 .left), told (c .before .before .before .before .before .bad-length2 .ensures) (c .before .before .before .before .if3 .left), told (c .before .before .before .bad-length3 .ensures) (c .before .before .if4 .left), told (c .before .bad-levels .ensures) (c .if5 .taken))
+returns-5 c = simp (told (c .before .before .before .before .before .before .before .before .bad-shape .ensures) (c .before .before .before .before .before .before .before .if1 .left), told (c .before .before .before .before .before .before .bad-length .ensures) (c .before .before .before .before .before .if2 .left), told (c .before .before .before .before .bad-length2 .ensures) (c .before .before .before .if3 .left), told (c .before .before .bad-length3 .ensures) (c .before .if4 .left), c .if5 .taken)
 
 returns-6 : tie.Need-returns-6
-returns-6 c = simp (told (c .before .before .before .before .before .before .before .before .before .bad-shape .ensures) (c .before .before .before .before .before .before .before .before .if1 .left), told (c .before .before .before .before .before .before .before .bad-length .ensures) (c .before .before .before .before .before .before .if2 .left), told (c .before .before .before .before .before .bad-length2 .ensures) (c .before .before .before .before .if3 .left), told (c .before .before .before .bad-length3 .ensures) (c .before .before .if4 .left), told (c .before .bad-levels .ensures) (c .if5 .left))
+returns-6 c = simp (told (c .before .before .before .before .before .before .before .before .bad-shape .ensures) (c .before .before .before .before .before .before .before .if1 .left), told (c .before .before .before .before .before .before .bad-length .ensures) (c .before .before .before .before .before .if2 .left), told (c .before .before .before .before .bad-length2 .ensures) (c .before .before .before .if3 .left), told (c .before .before .bad-length3 .ensures) (c .before .if4 .left), c .if5 .left)
 
-pub judge-grid-spec : {M : Type 1} → statement M
-judge-grid-spec =
+pub judge-lent-spec : {M : Type 1} → statement M
+judge-lent-spec =
     tie.close
     (tie.spec
     bad-shape-requires
@@ -50,6 +47,5 @@ judge-grid-spec =
     returns-3
     bad-length-requires-3
     returns-4
-    bad-levels-requires
     returns-5
     returns-6)
