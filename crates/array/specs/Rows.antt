@@ -14,7 +14,7 @@ use lib.ListN.{length, getD, replicate}
 use Rattle.numbers.specs.Lists.{tabulate}
 use Rattle.numbers.specs.Refusal.{refusalOf}
 use Rattle.array.specs.Assign.{copied}
-use Rattle.array.specs.Conditions.{badShape, gridCount, badLength, badLevel, badFloat, badAxis, gridJudged}
+use Rattle.array.specs.Conditions.{badShape, gridCount, badLength, badLevel, badFloat, badAxis, gridJudgedBy, gridJudged}
 use Rattle.array.specs.Grid.{cellCount, lengthOf, strideOf, placeOf, coordinate, moved, levelAt}
 
 abbrev pub minus : ℕ → ℤ
@@ -57,3 +57,5 @@ pub record ArrayRows : Type 0 where
   -- the shape is judged before the lengths, the lengths before the levels
   pub numbers : refusalOf (gridJudged [] [] (0 ∷ 1 ∷ [])) ∷ refusalOf (gridJudged (2 ∷ []) (wholes (1 ∷ [])) (1 ∷ 2 ∷ [])) ∷ refusalOf (gridJudged (1 ∷ []) (pos (2 ^ 31) ∷ []) (1 ∷ 2 ∷ [])) ∷ refusalOf (gridJudged (1 ∷ []) (pos (2 ^ 31) ∷ []) (1 ∷ 1 ∷ [])) ∷ refusalOf (gridJudged (1 ∷ []) (pos 1 ∷ []) (1 ∷ 1 ∷ [])) ∷ []
       ≡ 1 ∷ 2 ∷ 2 ∷ 3 ∷ 0 ∷ []
+  -- the same of floats: a NaN, −0.0
+  pub float-numbers : map (λ x. refusalOf (gridJudgedBy badFloat (1 ∷ []) (x ∷ []) (1 ∷ 1 ∷ []))) (nan ∷ fin true 0 (pos 0) ∷ []) ≡ 3 ∷ 0 ∷ []

@@ -4,7 +4,7 @@ ghost use mathlib.Core.List.{[], _∷_};
 ghost use lib.ListN.{length};
 ghost use Rattle.numbers.specs.Lists.{anyOf};
 ghost use Rattle.numbers.specs.Refusal.{refusalOf};
-ghost use Rattle.array.specs.Conditions.{badShape, badLength, badLevel, badFloat, badAxis, gridJudged};
+ghost use Rattle.array.specs.Conditions.{badShape, badLength, badLevel, badFloat, badAxis, gridJudgedBy, gridJudged};
 use crate::shape::cell_count;
 
 // Condition 1: not 1 to 3 axes, a length outside 1..1,024, or over 8,192 cells.
@@ -81,6 +81,28 @@ pub fn bad_axis(shape: &[usize], axis: usize) -> bool
     shape.len() <= axis
 }
 
+// Conditions 1, 2 and 3 in rising order, of a grid of `len` cells, two lent grids, and the answer to condition 3.
+fn judge_lent(shape: &[usize], len: usize, out: usize, second: usize, bad: bool) -> u8
+    ensures { λ r. ⌜ r ≡ refusalOf ((badShape (now (shape .entry)), 1) ∷ (anyOf (badLength (now (shape .entry))) (len ∷ out ∷ second ∷ []), 2) ∷ (bad, 3) ∷ []) ⌝ }
+{
+    if bad_shape(shape) {
+        return numbers::SHAPE;
+    }
+    if bad_length(shape, len) {
+        return numbers::LENGTH;
+    }
+    if bad_length(shape, out) {
+        return numbers::LENGTH;
+    }
+    if bad_length(shape, second) {
+        return numbers::LENGTH;
+    }
+    if bad {
+        return numbers::LEVEL;
+    }
+    numbers::ACCEPTED
+}
+
 // Conditions 1, 2 and 3 of a grid of whole levels, in rising order: the number of the first that holds, or 0.
 //
 // * `data` - the cells of the grid.
@@ -91,20 +113,12 @@ pub fn bad_axis(shape: &[usize], axis: usize) -> bool
 pub fn judge_grid(data: &[i64], shape: &[usize], out: usize, second: usize) -> u8
     ensures { λ r. ⌜ r ≡ refusalOf (gridJudged (now (shape .entry)) (now («data» .entry)) (length (now («data» .entry)) ∷ out ∷ second ∷ [])) ⌝ }
 {
-    if bad_shape(shape) {
-        return numbers::SHAPE;
-    }
-    if bad_length(shape, data.len()) {
-        return numbers::LENGTH;
-    }
-    if bad_length(shape, out) {
-        return numbers::LENGTH;
-    }
-    if bad_length(shape, second) {
-        return numbers::LENGTH;
-    }
-    if bad_levels(data) {
-        return numbers::LEVEL;
-    }
-    numbers::ACCEPTED
+    judge_lent(shape, data.len(), out, second, bad_levels(data))
+}
+
+// The same of a grid of float levels. A NaN as the only cell of the shape 1 gives 3, -0.0 gives 0.
+pub fn judge_grid_f64(data: &[f64], shape: &[usize], out: usize, second: usize) -> u8
+    ensures { λ r. ⌜ r ≡ refusalOf (gridJudgedBy badFloat (now (shape .entry)) (now («data» .entry)) (length (now («data» .entry)) ∷ out ∷ second ∷ [])) ⌝ }
+{
+    judge_lent(shape, data.len(), out, second, bad_levels_f64(data))
 }

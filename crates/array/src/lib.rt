@@ -17,6 +17,7 @@ pub use conditions::bad_levels;
 pub use conditions::bad_levels_f64;
 pub use conditions::bad_shape;
 pub use conditions::judge_grid;
+pub use conditions::judge_grid_f64;
 pub use shape::cell_count;
 pub use shape::len_of;
 

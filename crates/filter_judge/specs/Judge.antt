@@ -29,7 +29,7 @@ callOf ns size a m o held = record { shape = ns; size = size; axis = a; border =
 abbrev pub windowOrigin : ℕ → ℤ → Bool
 windowOrigin size o = not (eqb size 1) && badOrigin size o
 
-abbrev pub badReach : Border ℤ → ℕ → ℤ → ℕ → Bool
+abbrev pub badReach : {A : Type 0} → Border A → ℕ → ℤ → ℕ → Bool
 badReach b size o n = badPad b n (natAbs (pos (size / 2) +ℤ o)) || badPad b n (natAbs (pos (size - size / 2 - 1) -ℤ o))
 
 abbrev pub sizeJudged : ℕ → ℤ → Judged

@@ -10,7 +10,8 @@ use mathlib.Core.List.{List, [], _∷_, map}
 use lib.IntN.{ℤ, pos, negsuc}
 use Rattle.numbers.specs.Refusal.{refusalOf}
 use Rattle.border.specs.Border.{along}
-use Rattle.border.specs.declared.Along.the-variants.{Mirror, Reflect}
+use Rattle.border.specs.Modes.{borderOf}
+use Rattle.border.specs.declared.Along.the-variants.{Mirror}
 use Rattle.border.specs.declared.BorderMode.{BorderMode}
 use Rattle.border.specs.declared.BorderMode.the-variants as modes
 use Rattle.sweeps.specs.Call.{Call, callJudged}
@@ -30,8 +31,8 @@ pub record FilterJudgeRows : Type 0 where
   pub origins : map (windowOrigin 4) (negsuc 1 ∷ pos 1 ∷ negsuc 2 ∷ pos 2 ∷ []) ≡ false ∷ false ∷ true ∷ true ∷ []
   pub origin-alone : windowOrigin 1 (pos 99) ≡ false
   -- three cells: Mirror takes length 5 and refuses 7, Reflect takes 7 and refuses 9; length 4 with origin −2 needs 0 and 3 places
-  pub reaches : badReach (along Mirror) 5 (pos 0) 3 ∷ badReach (along Mirror) 7 (pos 0) 3 ∷ badReach (along Reflect) 7 (pos 0) 3 ∷ badReach (along Reflect) 9 (pos 0) 3 ∷ [] ≡ false ∷ true ∷ false ∷ true ∷ []
-  pub reach-right : badReach (along Mirror) 4 (negsuc 1) 3 ∷ badReach (along Reflect) 4 (negsuc 1) 3 ∷ [] ≡ true ∷ false ∷ []
+  pub reaches : badReach (borderOf modes.Mirror) 5 (pos 0) 3 ∷ badReach (borderOf modes.Mirror) 7 (pos 0) 3 ∷ badReach (borderOf modes.Reflect) 7 (pos 0) 3 ∷ badReach (borderOf modes.Reflect) 9 (pos 0) 3 ∷ [] ≡ false ∷ true ∷ false ∷ true ∷ []
+  pub reach-right : badReach (borderOf modes.Mirror) 4 (negsuc 1) 3 ∷ badReach (borderOf modes.Reflect) 4 (negsuc 1) 3 ∷ [] ≡ true ∷ false ∷ []
   -- the refusals of a one-axis call: accepted on the last axis, length 66, origin 1 of length 2, axis 2, Constant 2^31, Mirror with length 5 on two cells
   pub last-axis : alongSquare 2 1 modes.Wrap (pos 0) ≡ 0
   pub along-size-66 : alongSquare 66 0 modes.Nearest (pos 0) ≡ 5

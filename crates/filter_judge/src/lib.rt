@@ -13,8 +13,8 @@ ghost use Rattle.filter_judge.specs.Rows.{FilterJudgeRows};
 use border::BorderMode;
 use origin::Origin;
 
-// Condition 5: the length of the window is outside 1..65.
-fn bad_size(size: usize) -> bool
+// Condition 5: the length of the window, or the count of weights, is outside 1..65. Refuses nothing.
+pub fn bad_size(size: usize) -> bool
     ensures { λ r. ⌜ r ≡ outside 1 65 size ⌝ }
 {
     if size < 1 {
@@ -23,8 +23,9 @@ fn bad_size(size: usize) -> bool
     65 < size
 }
 
-// Condition 7: a window of more than one cell refuses the origin.
-fn bad_window_origin(size: usize, origin: isize) -> bool
+// Condition 7: a window of more than one cell refuses the origin. Refuses nothing.
+// bad_window_origin(4, 2) is true, bad_window_origin(1, 99) is false.
+pub fn bad_window_origin(size: usize, origin: isize) -> bool
     ensures { λ r. ⌜ r ≡ windowOrigin size origin ⌝ }
 {
     if size == 1 {
@@ -46,8 +47,9 @@ fn judge_size(size: usize, origin: isize) -> u8
     numbers::ACCEPTED
 }
 
-// Condition 11 of a lane of n cells: the border cannot fill one of the pads that an accepted window needs.
-fn bad_reach(mode: BorderMode, n: usize, size: usize, origin: isize) -> bool
+// Condition 11 of a lane of n cells: the border cannot fill one of the pads that an accepted window needs. Refuses nothing.
+// Of three cells Mirror fills the pads of a window of 5 with origin 0, and not of 7.
+pub fn bad_reach(mode: BorderMode, n: usize, size: usize, origin: isize) -> bool
     requires { ⌜ windowOrigin size origin ≡ false ⌝ }
     ensures { λ r. ⌜ r ≡ (not (eqb size 1) && badReach (borderOf mode) size origin n) ⌝ }
 {

@@ -3,13 +3,13 @@
 use Prim.Native.Nat.{ℕ, zero, suc, _+_, _<_, _≤_}
 use mathlib.Core.Path.{_≡_, refl, sym, ap, _∙_}
 use mathlib.Core.Bool.{Bool, true, false, _&&_, _||_}
-use mathlib.Core.List.{List, [], _∷_, List·Memᴰ, List·Memᴰ·head, List·Memᴰ·tail}
+use mathlib.Core.List.{List, [], _∷_, map, reverseAux, reverse, List·Memᴰ, List·Memᴰ·head, List·Memᴰ·tail}
 use native.Mathlib.Nat.{not-suc-le-zero, le-of-suc-le-suc}
 use native.Mathlib.Numerals.{add-one}
 use lib.ListN.{length, getD, drop, drop-of-length-le}
 use lib.Seq.{drop-cons}
-use Rattle.numbers.proofs.Tests.{or-false}
-use Rattle.numbers.specs.Lists.{anyOf, Every}
+use Rattle.numbers.proofs.Tests.{or-false, or-no}
+use Rattle.numbers.specs.Lists.{tabulate, anyOf, Every}
 
 module _ {A : Type 0} (t : A → Bool) (d : A) (i : ℕ) (s : List A) (b : i < length s) (e : anyOf t s ≡ anyOf t (drop i s)) where
   pub any-hit : t (getD s i d) ≡ true → anyOf t s ≡ true
@@ -26,6 +26,15 @@ pub any-and : {A : Type 0} (t : Bool) (p : A → Bool) (s : List A) → anyOf (�
 any-and true p s = refl
 any-and false p [] = refl
 any-and false p (x ∷ xs) = any-and false p xs
+
+-- every member fails: none passes
+pub none-any : {A : Type 0} (t : A → Bool) (s : List A) → Every (λ x. t x ≡ false) s → anyOf t s ≡ false
+none-any t [] h = refl
+none-any t (x ∷ xs) h = or-no (t x) (anyOf t xs) (h .0) (none-any t xs (h .1))
+
+pub any-never : {A : Type 0} (t : A → Bool) (s : List A) → ((x : A) → t x ≡ false) → anyOf t s ≡ false
+any-never t [] h = refl
+any-never t (x ∷ xs) h = or-no (t x) (anyOf t xs) (h x) (any-never t xs h)
 
 -- no member passes: every one fails
 pub any-none : {A : Type 0} (t : A → Bool) (s : List A) → anyOf t s ≡ false → Every (λ x. t x ≡ false) s
@@ -46,6 +55,23 @@ every-getD P (x ∷ xs) d p h (suc k) = every-getD P xs d p (h .1) k
 pub every-imp : {A : Type 0} (P Q : A → Type 0) (s : List A) → ((x : A) → P x → Q x) → Every P s → Every Q s
 every-imp P Q [] f h = tt
 every-imp P Q (x ∷ xs) f h = (f x (h .0), every-imp P Q xs f (h .1))
+
+-- what holds of every value of a table, of every member of the list turned round
+pub every-table : {A : Type 0} (P : A → Type 0) (f : ℕ → A) (m n : ℕ) → ((k : ℕ) → P (f k)) → Every P (tabulate f m n)
+unfolding tabulate
+every-table P f m zero h = tt
+every-table P f m (suc n) h = (h m, every-table P f (suc m) n h)
+
+every-onto : {A : Type 0} (P : A → Type 0) (s r : List A) → Every P s → Every P r → Every P (reverseAux s r)
+every-onto P [] r h k = k
+every-onto P (x ∷ xs) r h k = every-onto P xs (x ∷ r) (h .1) (h .0, k)
+
+pub every-reverse : {A : Type 0} (P : A → Type 0) (s : List A) → Every P s → Every P (reverse s)
+every-reverse P s h = every-onto P s [] h tt
+
+pub every-map : {A B : Type 0} (P : B → Type 0) (f : A → B) (s : List A) → Every (λ x. P (f x)) s → Every P (map f s)
+every-map P f [] h = tt
+every-map P f (x ∷ xs) h = (h .0, every-map P f xs (h .1))
 
 -- what is known of each member as a member
 pub every-mem : {A : Type 0} (P : A → Type 0) (s : List A) → ((x : A) → List·Memᴰ x s → P x) → Every P s

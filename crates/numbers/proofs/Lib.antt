@@ -1,6 +1,7 @@
 -- Laws that belong to no one function, leaves first.
 pub mod Tests
 pub mod Refusal
+pub mod Any
 pub mod IntOrder
 pub mod IntSum
 pub mod IntProduct
@@ -10,7 +11,6 @@ pub mod Index
 pub mod Least
 pub mod Tabulate
 pub mod Range
-pub mod Any
 pub mod Stored
 pub mod Window
 pub mod Read

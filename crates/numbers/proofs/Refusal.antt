@@ -5,7 +5,7 @@ use mathlib.Core.Bool.{Bool, true, false, cond}
 use mathlib.Core.List.{List, [], _∷_, _++_}
 use Prim.Native.Nat.{ℕ, _<_}
 use native.Mathlib.Omega.{arith}
-use borrow.Author.Tests.{eq-eqb, ne-eqb}
+use borrow.Author.Tests.{eq-eqb, ne-eqb, eqb-true, eqb-false}
 use lib.Dec.{T, eqb, ltb, ltb→lt}
 use Rattle.numbers.specs.Lists.{Every}
 use Rattle.numbers.specs.Refusal.{Judged, refusalOf, Answers}
@@ -51,6 +51,14 @@ module _ (js ks : Judged) (p : Every (λ j. T (ltb 0 (j .1))) js) {r : ℕ} (e :
 
   pub chain-goes : {q : ℕ} → r ≡ 0 → q ≡ refusalOf ks → q ≡ refusalOf (js ++ ks)
   chain-goes z h = h ∙ sym (judged-append js ks p ∙ cond-yes (eqb (refusalOf js) 0) (refusalOf ks) (refusalOf js) (eq-eqb (refusalOf js) 0 (sym e ∙ z)))
+
+-- a last condition that never holds where the others do not is not asked about
+pub chain-ends : (js : Judged) (t : Bool) (n : ℕ) → Every (λ j. T (ltb 0 (j .1))) js → {r : ℕ} → r ≡ refusalOf js → (r ≡ 0 → t ≡ false) → r ≡ refusalOf (js ++ ((t, n) ∷ []))
+chain-ends js t n p {r} e h = go (eqb r 0) refl
+  where
+    go : (u : Bool) → eqb r 0 ≡ u → r ≡ refusalOf (js ++ ((t, n) ∷ []))
+    go true q = let z = eqb-true r 0 q in chain-goes js ((t, n) ∷ []) p e z (z ∙ sym (cond-no t n 0 (h z)))
+    go false q = chain-stops js ((t, n) ∷ []) p e (eqb-false r 0 q)
 
 module _ {A : Type 0} (js : Judged) (levels held : List A) (r : ℕ) (e : r ≡ refusalOf js) where
   pub answers-refused : (r ≡ 0 → ⊥) → Answers js levels held r held

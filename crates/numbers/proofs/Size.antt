@@ -10,14 +10,15 @@ use native.Mathlib.Omega.{arith}
 use borrow.Author.Tests.{ltb-false, le-ltb}
 use lib.Dec.{ltb, ltb→lt}
 use lib.IntN.{ℤ, pos, negsuc, negℤ, natAbs, subℕ, _+ℤ_, _*ℤ_}
-use lib.ListN.{length}
+use lib.ListN.{length, getD}
 use lib.Signed.{ltZ, mag}
 use mir.Facts.{toZ-ofZ}
 use mir.Syntax.{w64}
 use mir.Val.{SFits, toZ, ofZ}
+use Rattle.numbers.proofs.Any.{any-none, every-imp, every-getD}
 use Rattle.numbers.proofs.Tests.{cond-ind, or-false, or-no}
-use Rattle.numbers.specs.Lists.{Every}
-use Rattle.numbers.specs.Ranges.{outsideZ}
+use Rattle.numbers.specs.Lists.{anyOf, Every}
+use Rattle.numbers.specs.Ranges.{outsideZ, beyond}
 use Rattle.numbers.specs.Sums.{sumOf}
 
 -- a is at most p in size. A record, so that a and p are inferred: ℤ's operations go by cases, under which nothing is.
@@ -67,7 +68,7 @@ pub size-sum : (p : ℕ) (xs : List ℤ) → Every (λ x. Size x p) xs → Size 
 size-sum p [] h = record { size = omega arith }
 size-sum p (x ∷ xs) h = record { size = omega (arith, natAbs-add x (sumOf xs), h .0 .size, size-sum p xs (h .1) .size, suc-mul (length xs) p) }
 
--- ---- from tests and to 64 bits
+-- ---- from tests
 -- what two tests against literals leave: −(k + 1) ≤ a ≤ n
 pub size-tested : (k n m : ℕ) (a : ℤ) → ltZ a (negsuc k) ≡ false → ltZ (pos n) a ≡ false → k < m → n ≤ m → Size a m
 size-tested k n m (pos x) h l p q = record { size = omega (arith, ltb-false n x l) }
@@ -86,12 +87,28 @@ inside-sized zero (negsuc x) h = absurd (not-suc-le-zero (h .size))
 inside-sized (suc p) (pos x) h = le-ltb (suc p) x (h .size)
 inside-sized (suc p) (negsuc x) h = or-no (ltb p x) false (le-ltb p x (omega (arith, h .size))) refl
 
+-- ---- the members of a list
+abbrev pub Sized : ℕ → List ℤ → Type 0
+Sized p l = Every (λ x. Size x p) l
+
+pub member-sized : (p : ℕ) (l : List ℤ) → Sized p l → (k : ℕ) → Size (getD l k (pos 0)) p
+member-sized p l h k = every-getD (λ x. Size x p) l (pos 0) (size-zero p) h k
+
+-- no member is outside −p..p
+pub tested-sized : (p : ℕ) (l : List ℤ) → anyOf (outsideZ (negℤ (pos p)) (pos p)) l ≡ false → Sized p l
+tested-sized p l e = every-imp _ _ l (λ x h. size-inside p x h) (any-none (outsideZ (negℤ (pos p)) (pos p)) l e)
+
+-- ---- to 64 bits
 mag-le : (z : ℤ) → mag z ≤ natAbs z
 mag-le (pos n) = omega arith
 mag-le (negsuc n) = omega arith
 
 pub fits-size : {a : ℤ} {p : ℕ} → Size a p → p < 2 ^ 63 → SFits w64 a
 fits-size {a} {p} h l = record { sfits = omega (arith, mag-le a, h .size) }
+
+pub beyond-sized : (z : ℤ) {p : ℕ} → Size z p → p < 2 ^ 63 → beyond z ≡ false
+beyond-sized (pos x) h l = le-ltb (2 ^ 63 - 1) x (omega (arith, h .size))
+beyond-sized (negsuc x) h l = or-no (ltb (2 ^ 63 - 1) x) false (le-ltb (2 ^ 63 - 1) x (omega (arith, h .size))) refl
 
 -- a number that fits, stored and read again, keeps its size
 pub size-read : {z : ℤ} {p : ℕ} → Size z p → p < 2 ^ 63 → Size (toZ w64 (ofZ w64 z)) p

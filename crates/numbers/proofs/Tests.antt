@@ -2,7 +2,7 @@
 -- Assumes nothing.
 use mathlib.Core.Path.{_≡_, refl, sym, ap, subst, _∙_}
 use mathlib.Core.Bool.{Bool, true, false, _||_, _&&_, not, cond, true≢false}
-use Prim.Native.Nat.{ℕ, _+_, _≤_}
+use Prim.Native.Nat.{ℕ, _+_, _≤_, _<_}
 use native.Mathlib.Omega.{arith}
 use borrow.Author.Tests.{eqb-true, eqb-false, ltb-true, ltb-false, lt-ltb, le-ltb, le-leb, lt-leb}
 use lib.Dec.{T, eqb, leb, ltb}
@@ -55,6 +55,23 @@ leb-not-ltb n k = go (ltb k n) refl
     go : (t : Bool) → ltb k n ≡ t → leb n k ≡ not t
     go true e = lt-leb n k (ltb-true k n e)
     go false e = le-leb n k (ltb-false k n e)
+
+-- a ≤ b and c < d say the same
+pub leb-ltb : (a b c d : ℕ) → (a ≤ b → c < d) → (c < d → a ≤ b) → leb a b ≡ ltb c d
+leb-ltb a b c d f g = go (ltb c d) refl
+  where
+    go : (t : Bool) → ltb c d ≡ t → leb a b ≡ t
+    go true e = le-leb a b (g (ltb-true c d e))
+    go false e = lt-leb a b (over (ltb-false c d e))
+      where
+        over : d ≤ c → b < a
+        over h = past (λ l. clash (f l) h)
+          where
+            clash : c < d → d ≤ c → ⊥
+            clash p q = omega arith
+
+            past : (a ≤ b → ⊥) → b < a
+            past n = omega arith
 
 -- what a call answered and what was then tested, together: the condition's own value
 pub told : {r b t : Bool} → r ≡ b → r ≡ t → b ≡ t

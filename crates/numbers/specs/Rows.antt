@@ -2,16 +2,16 @@
 --   minus n       −n
 --   wholes ns     the natural numbers ns as whole numbers
 --   NumbersRows   the rows
-use Prim.Native.Nat.{ℕ, _*_}
+use Prim.Native.Nat.{ℕ, _-_, _*_, _^_}
 use mathlib.Core.Path.{_≡_}
 use mathlib.Core.Bool.{true, false}
 use mathlib.Core.List.{List, [], _∷_, map}
 use lib.Dec.{eqb}
-use lib.IntN.{ℤ, pos, negℤ}
+use lib.IntN.{ℤ, pos, negsuc, negℤ}
 use lib.Signed.{leZ, quotZ}
 use Rattle.numbers.specs.Lists.{tabulate, upFrom, anyOf}
 use Rattle.numbers.specs.Order.{atLeast, least}
-use Rattle.numbers.specs.Ranges.{outside, outsideZ}
+use Rattle.numbers.specs.Ranges.{outside, outsideZ, beyond}
 use Rattle.numbers.specs.Refusal.{refusalOf, leftIn}
 use Rattle.numbers.specs.Sums.{sumOf}
 use Rattle.numbers.specs.Windows.{windowOf}
@@ -44,6 +44,8 @@ pub record NumbersRows : Type 0 where
   -- both ends of a range are inside
   pub ends : map (outside 1 3) (0 ∷ 1 ∷ 3 ∷ 4 ∷ []) ≡ true ∷ false ∷ false ∷ true ∷ []
   pub signed-ends : map (outsideZ (minus 2) (pos 1)) (minus 3 ∷ minus 2 ∷ pos 1 ∷ pos 2 ∷ []) ≡ true ∷ false ∷ false ∷ true ∷ []
+  -- −2^63 − 1, −2^63, 2^63 − 1, 2^63
+  pub bits : map beyond (negsuc (2 ^ 63) ∷ minus (2 ^ 63) ∷ pos (2 ^ 63 - 1) ∷ pos (2 ^ 63) ∷ []) ≡ true ∷ false ∷ false ∷ true ∷ []
   pub sum : sumOf (pos 5 ∷ minus 7 ∷ pos 1 ∷ []) ≡ minus 1
   -- the kit's quotient is cut toward zero
   pub cut : map (λ z. quotZ z (pos 2)) (pos 3 ∷ minus 3 ∷ minus 1 ∷ []) ≡ pos 1 ∷ minus 1 ∷ pos 0 ∷ []

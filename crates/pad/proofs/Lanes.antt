@@ -11,10 +11,13 @@ use lib.Dec.{ltb, eqb}
 use lib.IntN.{ℤ, pos}
 use lib.ListN.{length, getD}
 use Rattle.numbers.specs.Lists.{anyOf}
+use Rattle.numbers.proofs.Any.{every-table}
+use Rattle.numbers.proofs.Size.{Sized}
 use Rattle.numbers.proofs.Tabulate.{length-tabulate, getD-tabulate}
 use Rattle.numbers.proofs.Tests.{and-true, cond-yes, cond-no, ltb-more}
 use Rattle.array.specs.Conditions.{badLevel}
 use Rattle.array.specs.Grid.{cellCount, lengthOf, strideOf, coordinate, moved}
+use Rattle.array.proofs.Judged.{levels-sized}
 use Rattle.array.proofs.Places.{length-pos, coordinate-within}
 use Rattle.array.proofs.Strides.{outerOf, count-split}
 use Rattle.lanes.specs.Lanes.{laneOf, laneBase, withLane}
@@ -26,14 +29,14 @@ use Rattle.border.specs.declared.PadMode.the-variants.{Constant, Edge, Maximum,
 use Rattle.pad_line.specs.Line.{paddedAt, paddedLine}
 use Rattle.pad_line.proofs.Padded.{getD-padded}
 use Rattle.statistics.specs.Statistics.{meanOf, medianOf, unserved}
-use Rattle.statistics.proofs.Served.{Sized, sized-served, answered-served}
+use Rattle.statistics.proofs.Served.{sized-served, answered-served}
 use Rattle.pad_axis.specs.Fill.{rimOf, answeredRim, laneServes, filledLane}
 use Rattle.pad_axis.proofs.Rims.{ownOf, length-own}
 use Rattle.pad_judge.specs.Levels.{levelTo}
 use Rattle.pad_judge.specs.Pads.{inMiddle, allFrom, middleFrom}
 use Rattle.pad_judge.proofs.Axis.{middle-ext, final, lane-place, same-coordinates, own-lane, final-lane}
 use Rattle.pad_judge.proofs.Levels.{middle-in, moved-off, all-agree}
-use Rattle.pad_judge.proofs.Sizes.{limit, every-table, levels-sized, size-level}
+use Rattle.pad_judge.proofs.Sizes.{limit, size-level}
 use Rattle.pad.specs.Frame.{Framed, Filling}
 use Rattle.pad.specs.Filled.{Filled}
 use Rattle.pad.proofs.Room.{grid-accepted, padded-full, frame, axis-length, axis-stride}

@@ -6,19 +6,18 @@
 --   badPads ns pads count out     10: a bad count, a pad over 64 among the pairs that count, over 32,768 padded cells, or an output of another length
 --   badReachOn mode ns pads count a   11 of axis a
 --   badReach mode ns pads count   11: on some axis a pad over n − 1 under Reflect, over n under Symmetric and Wrap
---   beyond z                      a whole number outside signed 64 bits
 --   badSum mode s                 a sum outside signed 64 bits: under Mean of the cells of s, under Median of an even number the two middle levels'
 --   badSums mode ns pads count cells    12: such a sum of a lane that is summed, one whose coordinates on all later axes are in the middle
 --   padsJudged mode ns pads count cells out   conditions 9 to 12, in rising order; out is the output's length
 --   padJudged mode ns pads count cells out    what both calls refuse, in rising order
-use Prim.Native.Nat.{ℕ, suc, _-_, _/_, _%_, _^_}
+use Prim.Native.Nat.{ℕ, suc, _-_, _/_, _%_}
 use mathlib.Core.Bool.{Bool, false, not, _||_, _&&_}
 use mathlib.Core.List.{List, [], _∷_, _++_}
 use lib.Dec.{ltb, eqb}
-use lib.IntN.{ℤ, pos, negℤ, _+ℤ_}
+use lib.IntN.{ℤ, _+ℤ_}
 use lib.ListN.{length, take}
 use Rattle.numbers.specs.Lists.{tabulate, anyOf}
-use Rattle.numbers.specs.Ranges.{outsideZ}
+use Rattle.numbers.specs.Ranges.{beyond}
 use Rattle.numbers.specs.Refusal.{Judged}
 use Rattle.numbers.specs.Sums.{sumOf}
 use Rattle.array.specs.Conditions.{badLevel, gridJudged}
@@ -62,9 +61,6 @@ badReachOn mode ns pads count a = badPad (rimOf mode []) (lengthOf ns a) (pairOf
 
 unfoldable pub badReach : PadMode → List ℕ → List Pair → ℕ → Bool
 badReach mode ns pads count = anyOf (badReachOn mode ns pads count) (tabulate (λ a. a) 0 (length ns))
-
-abbrev pub beyond : ℤ → Bool
-beyond z = outsideZ (negℤ (pos (2 ^ 63))) (pos (2 ^ 63 - 1)) z
 
 abbrev pub badSum : PadMode → List ℤ → Bool
 badSum (Constant c) s = false

@@ -3,3 +3,4 @@ pub mod Padded
 pub mod Reach
 pub mod Rims
 pub mod Serves
+pub mod Sizes

@@ -1,23 +1,19 @@
 -- A line that mean and median serve, by the size of its levels, and what they then answer.
 -- Assumes nothing.
-use mathlib.Core.Path.{_≡_, refl, sym, ap, _∙_}
+use mathlib.Core.Path.{_≡_, sym, ap, _∙_}
 use mathlib.Core.Bool.{Bool, true, false, _||_}
-use mathlib.Core.List.{List, [], _∷_}
+use mathlib.Core.List.{List}
 use Prim.Native.Nat.{ℕ, _≤_, _<_}
 use borrow.Author.Tests.{ltb-false, lt-ltb, le-ltb}
 use lib.Dec.{ltb}
 use lib.IntN.{ℤ, pos, negℤ}
 use lib.ListN.{length}
-use Rattle.numbers.specs.Lists.{Every, anyOf}
+use Rattle.numbers.specs.Lists.{anyOf}
 use Rattle.numbers.specs.Ranges.{outsideZ}
-use Rattle.numbers.proofs.Any.{any-none, every-imp}
-use Rattle.numbers.proofs.Size.{Size, size-inside, inside-sized}
+use Rattle.numbers.proofs.Any.{every-imp, none-any}
+use Rattle.numbers.proofs.Size.{Sized, tested-sized, inside-sized}
 use Rattle.numbers.proofs.Tests.{or-false, or-no, cond-yes, cond-no}
 use Rattle.statistics.specs.Statistics.{outsideLevels, unserved, answered}
-
--- every level is at most p in size
-abbrev pub Sized : ℕ → List ℤ → Type 0
-Sized p l = Every (λ x. Size x p) l
 
 -- ---- the line
 pub served-length : (l : List ℤ) → unserved l ≡ false → length l ≤ 1024
@@ -26,12 +22,10 @@ served-length l e = ltb-false 1024 (length l) (or-false (ltb 1024 (length l)) _ 
 
 pub served-sized : (l : List ℤ) → unserved l ≡ false → Sized 2147483647 l
 unfolding unserved
-served-sized l e =
-    every-imp _ _ l (λ x h. size-inside 2147483647 x h) (any-none _ l (or-false (ltb 1024 (length l)) _ e .1))
+served-sized l e = tested-sized 2147483647 l (or-false (ltb 1024 (length l)) _ e .1)
 
 any-sized : (p : ℕ) (l : List ℤ) → Sized p l → anyOf (outsideZ (negℤ (pos p)) (pos p)) l ≡ false
-any-sized p [] h = refl
-any-sized p (x ∷ xs) h = or-no _ _ (inside-sized p x (h .0)) (any-sized p xs (h .1))
+any-sized p l h = none-any _ l (every-imp _ _ l (λ x. inside-sized p x) h)
 
 -- what the two tests of a level say of the line, and the test of its length
 pub unserved-long : (l : List ℤ) → 1024 < length l → true ≡ unserved l

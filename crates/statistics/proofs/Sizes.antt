@@ -14,12 +14,11 @@ use Rattle.numbers.specs.Order.{atLeast}
 use Rattle.numbers.proofs.Any.{every-getD}
 use Rattle.numbers.proofs.Least.{least-every}
 use Rattle.numbers.proofs.Quotient.{size-quot}
-use Rattle.numbers.proofs.Size.{Size, size-zero, size-add, size-sum}
+use Rattle.numbers.proofs.Size.{Size, Sized, size-zero, size-add, size-sum}
 use Rattle.statistics.specs.Sorting.{sorted}
 use Rattle.statistics.specs.Statistics.{minimumOf, maximumOf, meanOf, ranked, medianOf}
 use Rattle.statistics.proofs.Computed.{mean-quotient, median-odd, median-even}
 use Rattle.statistics.proofs.Sorting.{every-sorted}
-use Rattle.statistics.proofs.Served.{Sized}
 
 module _ (p : ℕ) (l : List ℤ) (h : Sized p l) where
   pub size-minimum : Size (minimumOf l) p

@@ -209,7 +209,7 @@ module _ (le : ℤ → ℤ → Bool) (O : Total le) (ns : List ℕ) (border : Bo
       → Least le (extendedGrid (pos 0) border ns cells) (InBox (accepted le cells calls) (cellAt ns k)) (getD (run le cells calls) k (pos 0))
   unfolding gridNumber
   box cells calls S k l =
-      let g = grid-judged ns cells (length cells ∷ []) (S .grid) in
+      let g = grid-judged badLevel ns cells (length cells ∷ []) (S .grid) in
       let e : length cells ≡ cellCount ns = g .lent .0 in
       let pn = g .shape .full in
       let b : k < cellCount ns = omega arith in

@@ -26,6 +26,7 @@ returns c = record {
   copy = refl;
   copy-other = refl;
   numbers = refl;
+  float-numbers = refl;
 }
 
 pub rows-spec : {M : Type 1} → statement M

@@ -9,7 +9,7 @@ use lib.ListN.{length}
 use denote.Ref.{now}
 use Rattle.numbers.specs.Refusal.{refusalOf}
 use Rattle.numbers.proofs.Refusal.{chain-stops, chain-goes}
-use Rattle.array.specs.Conditions.{gridJudged}
+use Rattle.array.specs.Conditions.{badLevel, gridJudged}
 use Rattle.array.proofs.Judged.{judged-twice}
 use Rattle.sweeps.specs.Call.{windowJudged}
 use Rattle.filter_judge.specs.Judge.{callOf}
@@ -24,7 +24,7 @@ returns : tie.Need-returns
 returns c =
     let a = c .before .before .before .args in
     chain-stops (gridJudged (now (a .shape)) (now (a .«data»)) (length (now (a .«data»)) ∷ length (now (a .out)) ∷ [])) (windowJudged (callOf (now (a .shape)) (a .size) (a .axis) (a .mode) (a .origin) (now (a .out)))) (tt, (tt, (tt, tt)))
-    (c .before .judge-grid .ensures ∙ judged-twice (now (a .shape)) (now (a .«data»)) (length (now (a .«data»))) (length (now (a .out)))) (c .if1 .taken)
+    (c .before .judge-grid .ensures ∙ judged-twice badLevel (now (a .shape)) (now (a .«data»)) (length (now (a .«data»))) (length (now (a .out)))) (c .if1 .taken)
 
 judge-window-requires : tie.Need-judge-window-requires
 judge-window-requires c κs = search needs
@@ -34,7 +34,7 @@ returns-2 c =
     let a = c .before .before .before .before .args in
     let e : toZ w64 (ofZ w64 (a .origin)) ≡ a .origin = search needs in
     chain-goes (gridJudged (now (a .shape)) (now (a .«data»)) (length (now (a .«data»)) ∷ length (now (a .out)) ∷ [])) (windowJudged (callOf (now (a .shape)) (a .size) (a .axis) (a .mode) (a .origin) (now (a .out)))) (tt, (tt, (tt, tt)))
-    (c .before .before .judge-grid .ensures ∙ judged-twice (now (a .shape)) (now (a .«data»)) (length (now (a .«data»))) (length (now (a .out)))) (c .before .if1 .left)
+    (c .before .before .judge-grid .ensures ∙ judged-twice badLevel (now (a .shape)) (now (a .«data»)) (length (now (a .«data»))) (length (now (a .out)))) (c .before .if1 .left)
     (c .judge-window .ensures ∙ ap (λ (o : ℤ). refusalOf (windowJudged (callOf (now (a .shape)) (a .size) (a .axis) (a .mode) o []))) e)
 
 pub judge-call-spec : {M : Type 1} → statement M

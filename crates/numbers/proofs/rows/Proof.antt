@@ -24,6 +24,7 @@ returns c = record {
   windows = refl;
   ends = refl;
   signed-ends = refl;
+  bits = refl;
   sum = refl;
   cut = refl;
 }

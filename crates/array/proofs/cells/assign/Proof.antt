@@ -6,7 +6,7 @@ use Prim.Native.Nat.{ℕ}
 use lib.IntN.{ℤ}
 use Rattle.numbers.specs.Refusal.{refusalOf}
 use Rattle.array.specs.Assign.{copied}
-use Rattle.array.specs.Conditions.{gridJudged}
+use Rattle.array.specs.Conditions.{badLevel, gridJudged}
 use borrow.Author.Tests.{eq-eqb}
 use denote.Ref.{now}
 use lib.ListN.{length}
@@ -22,7 +22,7 @@ judge-grid-requires c κs = search needs
 
 -- the judge was handed the output's length twice
 once : (ns : List ℕ) (cells : List ℤ) (out r : ℕ) → r ≡ refusalOf (gridJudged ns cells (length cells ∷ out ∷ out ∷ [])) → r ≡ refusalOf (gridJudged ns cells (length cells ∷ out ∷ []))
-once ns cells out r e = e ∙ judged-twice ns cells (length cells) out
+once ns cells out r e = e ∙ judged-twice badLevel ns cells (length cells) out
 
 returns : tie.Need-returns
 returns c =
@@ -38,7 +38,7 @@ same-length c = search needs
 -- an accepted grid has as many cells as its output
 copied-whole : (ns : List ℕ) (cells held left : List ℤ) (r : ℕ) → r ≡ refusalOf (gridJudged ns cells (length cells ∷ length held ∷ [])) → r ≡ 0 → left ≡ copied cells held → left ≡ cells
 copied-whole ns cells held left r e z q =
-    let L = grid-judged ns cells (length cells ∷ length held ∷ []) (sym e ∙ z) .lent in
+    let L = grid-judged badLevel ns cells (length cells ∷ length held ∷ []) (sym e ∙ z) .lent in
     q ∙ cond-yes _ cells held (eq-eqb (length cells) (length held) (L .0 ∙ sym (L .1 .0)))
 
 returns-2 : tie.Need-returns-2

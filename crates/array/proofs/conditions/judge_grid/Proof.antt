@@ -1,55 +1,18 @@
--- `array::conditions::judge_grid` meets its contract: each return has the answers of the conditions on its way.
+-- `array::conditions::judge_grid` meets its contract: `judge_lent` has the answer to condition 3 of a grid of whole levels.
 -- Assumes nothing.
-use Rattle.numbers.proofs.Tests.{told}
+use mathlib.Core.Path.{sym}
 use borrow.Author.Needs.{needs}
 use Rattle.array.proofs.conditions.judge_grid.Statement.{statement}
 use Rattle.array.proofs.conditions.judge_grid.Tie as tie
 
-bad-shape-requires : tie.Need-bad-shape-requires
-bad-shape-requires c κs = search needs
-
-returns : tie.Need-returns
-returns c = simp (told (c .before .bad-shape .ensures) (c .if1 .taken))
-
-bad-length-requires : tie.Need-bad-length-requires
-bad-length-requires c κs = search needs
-
-returns-2 : tie.Need-returns-2
-returns-2 c = simp (told (c .before .before .before .bad-shape .ensures) (c .before .before .if1 .left), told (c .before .bad-length .ensures) (c .if2 .taken))
-
-bad-length-requires-2 : tie.Need-bad-length-requires-2
-bad-length-requires-2 c κs = search needs
-
-returns-3 : tie.Need-returns-3
-returns-3 c = simp (told (c .before .before .before .before .before .bad-shape .ensures) (c .before .before .before .before .if1 .left), told (c .before .before .before .bad-length .ensures) (c .before .before .if2 .left), told (c .before .bad-length2 .ensures) (c .if3 .taken))
-
-bad-length-requires-3 : tie.Need-bad-length-requires-3
-bad-length-requires-3 c κs = search needs
-
-returns-4 : tie.Need-returns-4
-returns-4 c = simp (told (c .before .before .before .before .before .before .before .bad-shape .ensures) (c .before .before .before .before .before .before .if1 .left), told (c .before .before .before .before .before .bad-length .ensures) (c .before .before .before .before .if2 .left), told (c .before .before .before .bad-length2 .ensures) (c .before .before .if3 .left), told (c .before .bad-length3 .ensures) (c .if4 .taken))
-
 bad-levels-requires : tie.Need-bad-levels-requires
 bad-levels-requires c κs = search needs
 
-returns-5 : tie.Need-returns-5
-returns-5 c = simp (told (c .before .before .before .before .before .before .before .before .before .bad-shape .ensures) (c .before .before .before .before .before .before .before .before .if1 .left), told (c .before .before .before .before .before .before .before .bad-length .ensures) (c .before .before .before .before .before .before .if2 .left), told (c .before .before .before .before .before .bad-length2 .ensures) (c .before .before .before .before .if3 .left), told (c .before .before .before .bad-length3 .ensures) (c .before .before .if4 .left), told (c .before .bad-levels .ensures) (c .if5 .taken))
+judge-lent-requires : tie.Need-judge-lent-requires
+judge-lent-requires c κs = search needs
 
-returns-6 : tie.Need-returns-6
-returns-6 c = simp (told (c .before .before .before .before .before .before .before .before .before .bad-shape .ensures) (c .before .before .before .before .before .before .before .before .if1 .left), told (c .before .before .before .before .before .before .before .bad-length .ensures) (c .before .before .before .before .before .before .if2 .left), told (c .before .before .before .before .before .bad-length2 .ensures) (c .before .before .before .before .if3 .left), told (c .before .before .before .bad-length3 .ensures) (c .before .before .if4 .left), told (c .before .bad-levels .ensures) (c .if5 .left))
+returns : tie.Need-returns
+returns c = rw (sym (c .before .bad-levels .ensures)) (c .judge-lent .ensures)
 
 pub judge-grid-spec : {M : Type 1} → statement M
-judge-grid-spec =
-    tie.close
-    (tie.spec
-    bad-shape-requires
-    returns
-    bad-length-requires
-    returns-2
-    bad-length-requires-2
-    returns-3
-    bad-length-requires-3
-    returns-4
-    bad-levels-requires
-    returns-5
-    returns-6)
+judge-grid-spec = tie.close (tie.spec bad-levels-requires judge-lent-requires returns)

@@ -1,0 +1,4 @@
+-- Laws, leaves first.
+pub mod Changed
+pub mod Sums
+pub mod Chain

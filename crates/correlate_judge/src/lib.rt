@@ -1,0 +1,138 @@
+// The judge of `correlate1d` and `convolve1d`, whole and float: the conditions in rising order, before anything is stored.
+ghost use mathlib.Core.Path.{_≡_};
+ghost use mathlib.Core.Bool.{not, _&&_};
+ghost use mathlib.Core.List.{[], _∷_};
+ghost use lib.Dec.{eqb};
+ghost use Rattle.numbers.specs.Ranges.{outside};
+ghost use Rattle.numbers.specs.Refusal.{refusalOf};
+ghost use Rattle.array.specs.Conditions.{badAxis};
+ghost use Rattle.array.specs.Grid.{lengthOf};
+ghost use Rattle.border.specs.Modes.{borderOf, borderOfF64};
+ghost use Rattle.filter_judge.specs.Judge.{windowOrigin, badReach};
+ghost use Rattle.correlate_judge.specs.Judge.{appliedOrigin, correlateJudged, correlateJudgedF};
+ghost use Rattle.correlate_judge.specs.Rows.{CorrelateJudgeRows};
+use border::BorderMode;
+use border::BorderModeF64;
+
+mod origins;
+mod weights;
+
+pub use origins::applied_origin;
+pub use weights::bad_weight;
+pub use weights::bad_weights;
+
+// Conditions 5, 6, 7, 8, 9 and 11 in rising order, of len weights along an axis, with the answers to 6 and 9.
+fn judge_weighing(
+    shape: &[usize],
+    len: usize,
+    heavy: bool,
+    axis: usize,
+    mode: BorderMode,
+    beyond: bool,
+    origin: isize,
+    turned: bool,
+) -> u8
+    ensures { λ r. ⌜ r ≡ refusalOf ((outside 1 65 len, 5) ∷ (heavy, 6) ∷ (windowOrigin len origin, 7) ∷ (badAxis (now (shape .entry)) axis, 8) ∷ (beyond, 9) ∷ (not (eqb len 1) && badReach (borderOf mode) len (appliedOrigin turned len origin) (lengthOf (now (shape .entry)) axis), 11) ∷ []) ⌝ }
+{
+    if filter_judge::bad_size(len) {
+        return numbers::KERNEL;
+    }
+    if heavy {
+        return numbers::WEIGHT;
+    }
+    if filter_judge::bad_window_origin(len, origin) {
+        return numbers::ORIGIN;
+    }
+    if array::bad_axis(shape, axis) {
+        return numbers::AXIS;
+    }
+    if beyond {
+        return numbers::CONSTANT;
+    }
+    let n = array::len_of(shape, axis);
+    if origins::bad_reach(mode, n, len, origin, turned) {
+        return numbers::REACH;
+    }
+    numbers::ACCEPTED
+}
+
+// The number of a call on whole levels, which fills its output where that is 0.
+//
+// * `data` - the cells of the grid, in row-major order.
+// * `shape` - the length of each axis.
+// * `weights` - the weights; with one weight no origin is read and no pad is needed.
+// * `axis` - the axis that is weighed along.
+// * `mode` - the border.
+// * `origin` - how far the window is moved, as the caller says it.
+// * `turned` - true for a convolution, which reverses the weights and changes the origin.
+// * `out` - how many cells the lent output has.
+//
+// Returns 0, or the lowest number of a condition that holds: 1 (shape), 2 (a length), 3 (a level), 5 (count of weights), 6 (a weight),
+// 7 (origin), 8 (axis), 9 (constant) or 11 (the border cannot fill a pad). 12 never occurs: no sum of accepted levels leaves 64 bits.
+// Writes nothing and refuses nothing itself. Three cells under Mirror with 5 weights give 0, with 7 weights 11.
+pub fn judge_correlate(
+    data: &[i64],
+    shape: &[usize],
+    weights: &[i64],
+    axis: usize,
+    mode: BorderMode,
+    origin: isize,
+    turned: bool,
+    out: usize,
+) -> u8
+    ensures { λ r. ⌜ r ≡ refusalOf (correlateJudged turned (borderOf mode) origin (now (weights .entry)) (now (shape .entry)) axis (now («data» .entry)) out) ⌝ }
+{
+    let refusal = array::judge_grid(data, shape, out, out);
+    if refusal != 0 {
+        return refusal;
+    }
+    let heavy = bad_weights(weights);
+    let beyond = border::bad_constant(mode);
+    judge_weighing(
+        shape,
+        weights.len(),
+        heavy,
+        axis,
+        mode,
+        beyond,
+        origin,
+        turned,
+    )
+}
+
+// The same of a call on floats: 3, 6 and 9 refuse what is not finite, and no sum is refused.
+// An infinite weight gives 6, a level -0.0 gives 0.
+pub fn judge_correlate_f64(
+    data: &[f64],
+    shape: &[usize],
+    weights: &[f64],
+    axis: usize,
+    mode: BorderModeF64,
+    origin: isize,
+    turned: bool,
+    out: usize,
+) -> u8
+    ensures { λ r. ⌜ r ≡ refusalOf (correlateJudgedF turned (borderOfF64 mode) origin (now (weights .entry)) (now (shape .entry)) axis (now («data» .entry)) out) ⌝ }
+{
+    let refusal = array::judge_grid_f64(data, shape, out, out);
+    if refusal != 0 {
+        return refusal;
+    }
+    let heavy = array::bad_levels_f64(weights);
+    let beyond = border::bad_constant_f64(mode);
+    judge_weighing(
+        shape,
+        weights.len(),
+        heavy,
+        axis,
+        origins::kind_of(mode),
+        beyond,
+        origin,
+        turned,
+    )
+}
+
+// Worked rows of this crate's definitions: each number at its limits. Refuses nothing.
+pub fn rows()
+    ensures { λ _. ⌜ CorrelateJudgeRows ⌝ }
+{}
