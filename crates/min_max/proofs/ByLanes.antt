@@ -27,6 +27,7 @@ use Rattle.border.specs.Border.{Border, constant, along, cellFor, inside, exten
 use Rattle.origin.specs.Origin.{badOrigin}
 use Rattle.origin.proofs.Origins.{SignedPads, axis-accepted, accepted-some}
 use Rattle.pad_line.specs.Line.{paddedAt, paddedLine}
+use Rattle.filter_judge.proofs.Reach.{pads-size as window-pads}
 use Rattle.sweeps.specs.Call.{Call, left, right, leftPad, rightPad, alone, firstIn, window, axisLength, numberOf}
 use Rattle.sweeps.specs.Run.{laneLevel, answerOf}
 use Rattle.sweeps.proofs.Passed.{Passed, passed, passed-lengths, length-answer}
@@ -75,15 +76,7 @@ module _ (cells : List ℤ) (c : Call) (P : Passed cells c) (padded : alone c �
   signed = axis-accepted (c .size) (c .origin) origin-in
 
   pub pads-size : natAbs (leftPad c) + natAbs (rightPad c) + 1 ≡ c .size
-  pads-size = omega (arith, both, accepted-some (c .size) (c .origin) origin-in)
-    where
-      regroup : (l o r : ℤ) → (l +ℤ o) +ℤ (r -ℤ o) ≡ l +ℤ r
-      regroup l o r =
-          +ℤ-assoc l o (r -ℤ o)
-          ∙ ap (λ (x : ℤ). l +ℤ x) (ap (λ (x : ℤ). o +ℤ x) (+ℤ-comm r (negℤ o)) ∙ sym (+ℤ-assoc o (negℤ o) r) ∙ ap (λ (x : ℤ). x +ℤ r) (+ℤ-invr o) ∙ +ℤ-idl r)
-
-      both : natAbs (leftPad c) + natAbs (rightPad c) ≡ left c + right c
-      both = ap natAbs ((λ j. signed .left-pad j +ℤ signed .right-pad j) ∙ regroup (pos (left c)) (c .origin) (pos (right c)))
+  pads-size = window-pads (c .size) (c .origin) origin-in
 
   -- the window of cell i of a lane s, as coordinates and as a part of the padded line
   module _ (h : ℕ → ℤ) (s : List ℤ) (i : ℕ) (len : length s ≡ axisLength c) (l : i < axisLength c) (same : (j : ℕ) → j < axisLength c → h j ≡ getD s j (pos 0)) where

@@ -1,0 +1,4 @@
+-- Laws of accepted correlations and convolutions along an axis.
+pub mod Accepted
+pub mod Weighed
+pub mod Stores

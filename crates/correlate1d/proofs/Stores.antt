@@ -1,0 +1,39 @@
+-- A product of a level and a weight fits 64 bits, and one weight's answer is every cell times it.
+-- Assumes nothing.
+use mathlib.Core.Path.{_≡_, refl, sym, ap, _∙_}
+use mathlib.Core.List.{List, [], _∷_, map, reverse}
+use Prim.Native.Nat.{ℕ}
+use native.Mathlib.Omega.{arith}
+use borrow.Author.Tests.{eq-eqb}
+use lib.Dec.{eqb}
+use lib.IntN.{ℤ, pos, _*ℤ_}
+use lib.ListN.{length, getD}
+use Rattle.numbers.proofs.Size.{Size, size-inside, size-mul, member-sized, tested-sized}
+use Rattle.numbers.proofs.Tests.{cond-yes}
+use Rattle.array.specs.Conditions.{badLevel}
+use Rattle.border.specs.Border.{Border}
+use Rattle.correlation.specs.Correlated.{correlatedBy, changedOrigin, correlate1dZ, convolve1dZ}
+use Rattle.correlate_judge.specs.Judge.{badWeight}
+use Rattle.correlate_line.proofs.Computed.{Computed, read, computed, computed-level}
+use Rattle.correlate1d.specs.Weighs.{Scales}
+
+-- the product as the machine computes it
+pub scaled : {cells out : List ℤ} {w : ℤ} → Scales cells w out → (i : ℕ) → Computed (read (getD cells i (pos 0)) *ℤ read w) (getD cells i (pos 0) *ℤ w)
+unfolding badLevel badWeight
+scaled {cells} {out} {w} S i =
+    let a : Size (getD cells i (pos 0)) 2147483647 = member-sized 2147483647 cells (tested-sized 2147483647 cells (S .levels)) i in
+    let b : Size w 65535 = size-inside 65535 w (S .weight) in
+    computed _*ℤ_ (computed-level a (omega arith)) (computed-level b (omega arith)) (size-mul a b) (omega arith)
+
+pub one-weight : (b : Border ℤ) (o : ℤ) (w : List ℤ) (ns : List ℕ) (a : ℕ) (cells : List ℤ) → length w ≡ 1 → map (λ x. x *ℤ getD w 0 (pos 0)) cells ≡ correlate1dZ b o w ns a cells
+unfolding correlatedBy
+one-weight b o w ns a cells e = sym (cond-yes (eqb (length w) 1) _ _ (eq-eqb (length w) 1 e))
+
+-- a convolution with one weight
+one-reversed : (w : List ℤ) → length w ≡ 1 → reverse w ≡ w
+one-reversed [] e = refl
+one-reversed (x ∷ []) e = refl
+one-reversed (x ∷ y ∷ w) e = absurd (omega arith)
+
+pub one-turned : (b : Border ℤ) (o : ℤ) (w : List ℤ) (ns : List ℕ) (a : ℕ) (cells : List ℤ) → length w ≡ 1 → map (λ x. x *ℤ getD w 0 (pos 0)) cells ≡ convolve1dZ b o w ns a cells
+one-turned b o w ns a cells e = one-weight b (changedOrigin (length w) o) w ns a cells e ∙ ap (λ (v : List ℤ). correlate1dZ b (changedOrigin (length w) o) v ns a cells) (sym (one-reversed w e))

@@ -1,0 +1,76 @@
+-- `correlate1d::weigh` meets its contract: an accepted origin has its pads, and the lanes are filtered with them.
+-- Assumes nothing.
+use Prim.Native.Nat.{ℕ, _-_, _/_, _<_}
+use mathlib.Core.Path.{_≡_, ap, _∙_}
+use native.Mathlib.Omega.{arith}
+use denote.Ref.{now}
+use lib.ListN.{length}
+use mir.Syntax.{w64}
+use mir.Val.{toZ, ofZ}
+use Rattle.origin.specs.Origin.{originPads}
+use Rattle.filter_judge.proofs.Reach.{PadsAre, origin-refused, pads-are}
+use Rattle.correlate1d.proofs.Weighed.{window-origin, sweep-weighed, weighing, weighed-answer}
+use borrow.Author.Needs.{needs}
+use Rattle.correlate1d.proofs.weigh.Statement.{statement}
+use Rattle.correlate1d.proofs.weigh.Tie as tie
+
+-- the answer to the origin
+checked : (c : tie.After-origin-check) → let a = c .before .before .args in
+    let n = length (now (a .weights)) in c .origin-check .result ≡ originPads n (n / 2) (n - n / 2 - 1) (a .origin)
+checked c =
+    let a = c .before .before .args in
+    let n = length (now (a .weights)) in
+    let e : toZ w64 (ofZ w64 (a .origin)) ≡ a .origin = search needs in
+    c .origin-check .ensures ∙ ap (originPads n (n / 2) (n - n / 2 - 1)) e
+
+two : {n : ℕ} → 1 < n → n ≡ 1 → ⊥
+two h e = omega arith
+
+-- the pads that it gives
+given : (c : tie.After-left) → let s = c .before .before .before .before in PadsAre _ (s .args .origin) (two (s .pre .more)) (window-origin (s .pre)) (checked (c .before .before)) (c .left .given .0 .0) (c .left .given .0 .1 .0)
+given c = let s = c .before .before .before .before in pads-are _ (s .args .origin) (two (s .pre .more)) (window-origin (s .pre)) (checked (c .before .before)) (c .left .given .1)
+
+origin-check-requires : tie.Need-origin-check-requires
+origin-check-requires c κs = search needs
+
+enum-told : tie.Need-enum-told
+enum-told c = search needs
+
+enum-known-left : tie.Need-enum-known-left
+enum-known-left c = search needs
+
+symmetry-state-i64-requires : tie.Need-symmetry-state-i64-requires
+symmetry-state-i64-requires c κs = search needs
+
+filter-axis-requires : tie.Need-filter-axis-requires
+filter-axis-requires c κs =
+    let s = c .before .before .before .before .before .before .before in
+    let G = given (c .before .before .before) in
+    (sweep-weighed (s .pre) (G .left) (G .right), weighing (s .pre) (G .left) (G .right) (c .before .symmetry-state-i64 .ensures))
+
+returns : tie.Need-returns
+returns c =
+    let s = c .before .before .before .before in
+    absurd (origin-refused _ (s .args .origin) (two (s .pre .more)) (window-origin (s .pre)) (checked (c .before .before)) (c .enum-told .given .1))
+
+same-length : tie.Need-same-length
+same-length c = search needs
+
+returns-2 : tie.Need-returns-2
+returns-2 c =
+    let s = c .before .before .before .before .before .before .before .before .before in
+    let G = given (c .before .before .before .before .before) in
+    weighed-answer (s .pre) (G .left) (G .right) (c .before .filter-axis .ensures)
+
+pub weigh-spec : {M : Type 1} → statement M
+weigh-spec =
+    tie.close
+    (tie.spec
+    origin-check-requires
+    enum-told
+    enum-known-left
+    symmetry-state-i64-requires
+    filter-axis-requires
+    returns
+    same-length
+    returns-2)

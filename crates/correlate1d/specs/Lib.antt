@@ -1,0 +1,2 @@
+-- What the workers of correlate1d and convolve1d suppose.
+pub mod Weighs

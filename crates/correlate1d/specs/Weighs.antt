@@ -1,0 +1,40 @@
+-- What the workers suppose of a call that was accepted.
+--   tooLarge z                  a level that a sum of a pass might leave 64 bits with: outside −2^38..2^38
+--   Scales cells w out          every cell and the weight w are within their limits, and the output is as long
+--   Weighs b ns a o w cells out two weights or more, applied with the origin o along axis a, whose border fills both pads
+use Prim.Native.Nat.{ℕ, _^_, _≤_, _<_}
+use mathlib.Core.Path.{_≡_}
+use mathlib.Core.Bool.{Bool, false}
+use mathlib.Core.List.{List}
+use lib.IntN.{ℤ, pos, negℤ}
+use lib.ListN.{length}
+use Rattle.numbers.specs.Lists.{anyOf}
+use Rattle.numbers.specs.Ranges.{outsideZ}
+use Rattle.array.specs.Conditions.{badShape, badLevel}
+use Rattle.array.specs.Grid.{cellCount, lengthOf}
+use Rattle.border.specs.Border.{Border}
+use Rattle.border.specs.Modes.{badConstantBy}
+use Rattle.origin.specs.Origin.{badOrigin}
+use Rattle.filter_judge.specs.Judge.{badReach}
+use Rattle.correlate_judge.specs.Judge.{badWeight}
+
+abbrev pub tooLarge : ℤ → Bool
+tooLarge z = outsideZ (negℤ (pos (2 ^ 38))) (pos (2 ^ 38)) z
+
+pub record Scales (cells : List ℤ) (w : ℤ) (out : List ℤ) : Type 0 where
+  pub same : length out ≡ length cells
+  pub levels : anyOf badLevel cells ≡ false
+  pub weight : badWeight w ≡ false
+
+pub record Weighs (b : Border ℤ) (ns : List ℕ) (a : ℕ) (o : ℤ) (w cells out : List ℤ) : Type 0 where
+  pub shape : badShape ns ≡ false
+  pub axis : a < length ns
+  pub count : length cells ≡ cellCount ns
+  pub same : length out ≡ length cells
+  pub more : 1 < length w
+  pub few : length w ≤ 65
+  pub weights : anyOf badWeight w ≡ false
+  pub level : badConstantBy tooLarge b ≡ false
+  pub levels : anyOf tooLarge cells ≡ false
+  pub origin : badOrigin (length w) o ≡ false
+  pub reach : badReach b (length w) o (lengthOf ns a) ≡ false

@@ -1,0 +1,204 @@
+// Correlation and convolution of whole levels along an axis (src/filters/con_corr.rs; SciPy's correlate1d and convolve1d).
+ghost use mathlib.Core.Path.{_≡_};
+ghost use mathlib.Core.Bool.{true, false};
+ghost use mathlib.Core.List.{map, reverse};
+ghost use lib.IntN.{pos, _*ℤ_};
+ghost use lib.ListN.{length};
+ghost use Rattle.numbers.specs.Refusal.{refusalOf, Answers};
+ghost use Rattle.border.specs.Modes.{borderOf};
+ghost use Rattle.correlation.specs.Correlated.{correlate1dZ, convolve1dZ};
+ghost use Rattle.correlate_judge.specs.Judge.{correlateJudged};
+ghost use Rattle.correlate1d.specs.Weighs.{Scales, Weighs};
+use axis_filter::LineFilter;
+use border::BorderMode;
+use origin::Origin;
+
+// Every cell times one weight.
+fn scale(data: &[i64], weight: i64, out: &mut [i64])
+    requires { ⌜ Scales (now «data») weight (now out) ⌝ }
+    ensures { λ _. ⌜ now (out .exit) ≡ map (λ x. x *ℤ weight) (now («data» .entry)) ⌝ }
+{
+    let n = out.len();
+    let mut i = 0;
+    while i < n {
+        out[i] = data[i] * weight;
+        i += 1;
+    }
+}
+
+// Fills out with the weighted sums along the axis; weights and origin are as they are applied.
+pub fn weigh(
+    data: &[i64],
+    shape: &[usize],
+    weights: &[i64],
+    axis: usize,
+    mode: BorderMode,
+    origin: isize,
+    out: &mut [i64],
+)
+    requires { ⌜ Weighs (borderOf mode) (now shape) axis origin (now weights) (now «data») (now out) ⌝ }
+    ensures { λ _. ⌜ now (out .exit) ≡ correlate1dZ (borderOf mode) origin (now (weights .entry)) (now (shape .entry)) axis (now («data» .entry)) ⌝ }
+{
+    match origin::origin_check(weights.len(), origin) {
+        Origin::Refused => {}
+        Origin::Pads(left, right) => axis_filter::filter_axis(
+            LineFilter::Weighed(symmetry::symmetry_state_i64(weights)),
+            weights,
+            mode,
+            data,
+            shape,
+            axis,
+            left,
+            right,
+            out,
+        ),
+    }
+}
+
+// The weights from the last to the first.
+fn reverse(weights: &[i64], turned: &mut [i64])
+    requires { ⌜ length (now turned) ≡ length (now weights) ⌝ }
+    ensures { λ _. ⌜ now (turned .exit) ≡ reverse (now (weights .entry)) ⌝ }
+{
+    let n = turned.len();
+    let mut i = 0;
+    while i < n {
+        let v = weights[n - 1 - i];
+        turned[i] = v;
+        i += 1;
+    }
+}
+
+// Fills out with the answer of an accepted correlation.
+fn correlate_cells(
+    data: &[i64],
+    shape: &[usize],
+    weights: &[i64],
+    axis: usize,
+    mode: BorderMode,
+    origin: isize,
+    out: &mut [i64],
+)
+    requires { ⌜ refusalOf (correlateJudged false (borderOf mode) origin (now weights) (now shape) axis (now «data») (length (now out))) ≡ 0 ⌝ }
+    ensures { λ _. ⌜ now (out .exit) ≡ correlate1dZ (borderOf mode) origin (now (weights .entry)) (now (shape .entry)) axis (now («data» .entry)) ⌝ }
+{
+    if weights.len() == 1 {
+        scale(data, weights[0], out);
+        return;
+    }
+    weigh(data, shape, weights, axis, mode, origin, out);
+}
+
+// Fills out with the answer of an accepted convolution; turned is a buffer, as long as the weights.
+fn convolve_cells(
+    data: &[i64],
+    shape: &[usize],
+    weights: &[i64],
+    axis: usize,
+    mode: BorderMode,
+    origin: isize,
+    turned: &mut [i64],
+    out: &mut [i64],
+)
+    requires { ⌜ (refusalOf (correlateJudged true (borderOf mode) origin (now weights) (now shape) axis (now «data») (length (now out))) ≡ 0) × (length (now turned) ≡ length (now weights)) ⌝ }
+    ensures { λ _. ⌜ now (out .exit) ≡ convolve1dZ (borderOf mode) origin (now (weights .entry)) (now (shape .entry)) axis (now («data» .entry)) ⌝ }
+{
+    if weights.len() == 1 {
+        scale(data, weights[0], out);
+        return;
+    }
+    reverse(weights, turned);
+    let applied = correlate_judge::applied_origin(weights.len(), origin, true);
+    weigh(data, shape, turned, axis, mode, applied, out);
+}
+
+// The sums of each window times the weights, along an axis. With one weight every cell is multiplied by it, and the origin is not read.
+//
+// * `data` - the cells of the grid.
+// * `shape` - the length of each axis.
+// * `weights` - the weights.
+// * `axis` - the axis along which the windows lie.
+// * `mode` - the border.
+// * `origin` - how far the window is moved: 0 centres it over the cell, positive values move it to the left.
+// * `out` - the lent output, as many cells.
+//
+// Refuses: 1, 2, 3, 5, 6, 7, 8, 9, 11, 12. Of 1 2 3 with the weights 1 2 3 under Nearest: 9 14 17.
+pub fn correlate1d(
+    data: &[i64],
+    shape: &[usize],
+    weights: &[i64],
+    axis: usize,
+    mode: BorderMode,
+    origin: isize,
+    out: &mut [i64],
+) -> u8
+    ensures { λ r. ⌜ Answers (correlateJudged false (borderOf mode) origin (now (weights .entry)) (now (shape .entry)) axis (now («data» .entry)) (length (now (out .entry))))
+        (correlate1dZ (borderOf mode) origin (now (weights .entry)) (now (shape .entry)) axis (now («data» .entry))) (now (out .entry)) r (now (out .exit)) ⌝ }
+{
+    let refusal = correlate_judge::judge_correlate(
+        data,
+        shape,
+        weights,
+        axis,
+        mode,
+        origin,
+        false,
+        out.len(),
+    );
+    if refusal != 0 {
+        return refusal;
+    }
+    correlate_cells(data, shape, weights, axis, mode, origin, out);
+    numbers::ACCEPTED
+}
+
+// As `correlate1d` with the weights reversed and the origin negated, and 1 less for an even number of weights.
+//
+// * `data` - the cells of the grid.
+// * `shape` - the length of each axis.
+// * `weights` - the weights.
+// * `axis` - the axis along which the windows lie.
+// * `mode` - the border.
+// * `origin` - how far the window is moved: 0 centres it over the cell, positive values move it to the right.
+// * `out` - the lent output, as many cells.
+//
+// Refuses: 1, 2, 3, 5, 6, 7, 8, 9, 11, 12. Of 1 2 3 with the weights 1 2 3 under Nearest: 7 10 15.
+pub fn convolve1d(
+    data: &[i64],
+    shape: &[usize],
+    weights: &[i64],
+    axis: usize,
+    mode: BorderMode,
+    origin: isize,
+    out: &mut [i64],
+) -> u8
+    ensures { λ r. ⌜ Answers (correlateJudged true (borderOf mode) origin (now (weights .entry)) (now (shape .entry)) axis (now («data» .entry)) (length (now (out .entry))))
+        (convolve1dZ (borderOf mode) origin (now (weights .entry)) (now (shape .entry)) axis (now («data» .entry))) (now (out .entry)) r (now (out .exit)) ⌝ }
+{
+    let refusal = correlate_judge::judge_correlate(
+        data,
+        shape,
+        weights,
+        axis,
+        mode,
+        origin,
+        true,
+        out.len(),
+    );
+    if refusal != 0 {
+        return refusal;
+    }
+    let count = weights.len();
+    let mut turned = [0; 65];
+    convolve_cells(
+        data,
+        shape,
+        weights,
+        axis,
+        mode,
+        origin,
+        &mut turned[..count],
+        out,
+    );
+    numbers::ACCEPTED
+}
