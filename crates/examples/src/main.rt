@@ -9,6 +9,7 @@ mod grids;
 mod kernels;
 mod padded;
 mod print;
+mod weighing;
 
 fn rows() {
     numbers::rows();
@@ -30,6 +31,7 @@ fn rows() {
     min_max::rows();
     pad::rows();
     correlation::rows();
+    correlate_judge::rows();
 }
 
 fn main() {
@@ -64,4 +66,7 @@ fn main() {
     grids::squares();
     grids::rims();
     grids::refusals();
+    weighing::weights();
+    weighing::judges();
+    weighing::judges_f64();
 }
