@@ -12,8 +12,9 @@ use lib.IntN.{ℤ, pos, natAbs, _+ℤ_, _-ℤ_, _*ℤ_}
 use lib.ListN.{length, getD, length-reverse}
 use Rattle.numbers.specs.Lists.{anyOf}
 use Rattle.numbers.specs.Ranges.{outside, beyond}
-use Rattle.numbers.proofs.Any.{none-any, every-imp, every-table, every-map, every-reverse}
+use Rattle.numbers.proofs.Any.{none-any, every-imp, every-map, every-reverse}
 use Rattle.numbers.proofs.Size.{Size, Sized, size-mul, size-le, member-sized, tested-sized, beyond-sized}
+use Rattle.numbers.proofs.Tabulate.{every-table}
 use Rattle.numbers.proofs.Tests.{cond-ind, or-false}
 use Rattle.array.specs.Conditions.{badLevel}
 use Rattle.array.specs.Grid.{lengthOf, strideOf}

@@ -39,6 +39,8 @@ pub fn level_conditions() {
 pub fn copies() {
     let mut out = [0i64; 4];
     line(array::judge_grid(&[1, 2, 3], &[2, 2], 4, 4) as usize);
+    line(array::judge_grid_f64(&[0.0 / 0.0], &[1], 1, 1) as usize);
+    line(array::judge_grid_f64(&[-0.0], &[1], 1, 1) as usize);
     line(array::assign(&[1, 2, 3, 4], &[2, 2], &mut out) as usize);
     levels(&out);
     line(array::assign(&[5, 6, 7], &[2, 2], &mut out) as usize);

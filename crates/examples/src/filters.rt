@@ -1,6 +1,7 @@
 // The examples of `min_max` and `filter_judge`: T4, T5 in both orders, the grid forms, and refused calls, which leave the lent cells.
 use crate::print::levels;
 use crate::print::line;
+use crate::print::test;
 use border::BorderMode;
 
 pub fn one_axis() {
@@ -155,4 +156,6 @@ pub fn judges() {
     line(filter_judge::judge_call(&cells, &shape, 2, 2, BorderMode::Nearest, 0, &cells) as usize);
     line(filter_judge::judge_filter(&cells, &shape, 5, BorderMode::Mirror, 0, &cells, 4) as usize);
     line(filter_judge::judge_filter(&cells, &shape, 2, BorderMode::Mirror, 0, &cells, 3) as usize);
+    test(filter_judge::bad_window_origin(4, 2));
+    test(filter_judge::bad_window_origin(1, 99));
 }

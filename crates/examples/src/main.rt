@@ -9,6 +9,7 @@ mod grids;
 mod kernels;
 mod padded;
 mod print;
+mod weighing;
 
 fn rows() {
     numbers::rows();
@@ -31,6 +32,7 @@ fn rows() {
     min_max::rows();
     pad::rows();
     correlation::rows();
+    correlate_judge::rows();
 }
 
 fn main() {
@@ -65,4 +67,7 @@ fn main() {
     grids::squares();
     grids::rims();
     grids::refusals();
+    weighing::weights();
+    weighing::judges();
+    weighing::judges_f64();
 }

@@ -9,7 +9,7 @@ use native.Mathlib.Numerals.{add-one}
 use lib.ListN.{length, getD, drop, drop-of-length-le}
 use lib.Seq.{drop-cons}
 use Rattle.numbers.proofs.Tests.{or-false, or-no}
-use Rattle.numbers.specs.Lists.{tabulate, anyOf, Every}
+use Rattle.numbers.specs.Lists.{anyOf, Every}
 
 module _ {A : Type 0} (t : A → Bool) (d : A) (i : ℕ) (s : List A) (b : i < length s) (e : anyOf t s ≡ anyOf t (drop i s)) where
   pub any-hit : t (getD s i d) ≡ true → anyOf t s ≡ true
@@ -56,12 +56,7 @@ pub every-imp : {A : Type 0} (P Q : A → Type 0) (s : List A) → ((x : A) → 
 every-imp P Q [] f h = tt
 every-imp P Q (x ∷ xs) f h = (f x (h .0), every-imp P Q xs f (h .1))
 
--- what holds of every value of a table, of every member of the list turned round
-pub every-table : {A : Type 0} (P : A → Type 0) (f : ℕ → A) (m n : ℕ) → ((k : ℕ) → P (f k)) → Every P (tabulate f m n)
-unfolding tabulate
-every-table P f m zero h = tt
-every-table P f m (suc n) h = (h m, every-table P f (suc m) n h)
-
+-- every member of the list turned round, of a list of values
 every-onto : {A : Type 0} (P : A → Type 0) (s r : List A) → Every P s → Every P r → Every P (reverseAux s r)
 every-onto P [] r h k = k
 every-onto P (x ∷ xs) r h k = every-onto P xs (x ∷ r) (h .1) (h .0, k)

@@ -7,7 +7,7 @@ use native.Mathlib.Nat.{not-suc-le-zero, le-of-suc-le-suc, add-zero, zero-add, s
 use native.Mathlib.Omega.{arith}
 use lib.ListN.{length, getD, take, drop, replicate}
 use lib.Seq.{ext-getD}
-use Rattle.numbers.specs.Lists.{tabulate}
+use Rattle.numbers.specs.Lists.{tabulate, Every}
 
 pub length-tabulate : {A : Type 0} (f : ℕ → A) (m n : ℕ) → length (tabulate f m n) ≡ n
 unfolding tabulate
@@ -85,3 +85,9 @@ unfolding tabulate
 take-tabulate f m n zero h = refl
 take-tabulate f m zero (suc t) h = absurd (not-suc-le-zero h)
 take-tabulate f m (suc n) (suc t) h = ap (λ l. f m ∷ l) (take-tabulate f (suc m) n t (le-of-suc-le-suc h))
+
+-- what holds of every value holds of every member
+pub every-table : {A : Type 0} (P : A → Type 0) (f : ℕ → A) (m n : ℕ) → ((k : ℕ) → P (f k)) → Every P (tabulate f m n)
+unfolding tabulate
+every-table P f m zero h = tt
+every-table P f m (suc n) h = (h m, every-table P f (suc m) n h)

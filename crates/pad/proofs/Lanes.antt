@@ -11,9 +11,8 @@ use lib.Dec.{ltb, eqb}
 use lib.IntN.{ℤ, pos}
 use lib.ListN.{length, getD}
 use Rattle.numbers.specs.Lists.{anyOf}
-use Rattle.numbers.proofs.Any.{every-table}
 use Rattle.numbers.proofs.Size.{Sized}
-use Rattle.numbers.proofs.Tabulate.{length-tabulate, getD-tabulate}
+use Rattle.numbers.proofs.Tabulate.{length-tabulate, getD-tabulate, every-table}
 use Rattle.numbers.proofs.Tests.{and-true, cond-yes, cond-no, ltb-more}
 use Rattle.array.specs.Conditions.{badLevel}
 use Rattle.array.specs.Grid.{cellCount, lengthOf, strideOf, coordinate, moved}

@@ -12,9 +12,9 @@ use lib.ListN.{length, getD}
 use Rattle.numbers.specs.Lists.{tabulate, anyOf}
 use Rattle.numbers.specs.Ranges.{beyond}
 use Rattle.numbers.specs.Sums.{sumOf}
-use Rattle.numbers.proofs.Any.{any-never, every-table}
+use Rattle.numbers.proofs.Any.{any-never}
 use Rattle.numbers.proofs.Size.{Size, Sized, size-inside, size-sum, size-add, member-sized, beyond-sized}
-use Rattle.numbers.proofs.Tabulate.{length-tabulate}
+use Rattle.numbers.proofs.Tabulate.{length-tabulate, every-table}
 use Rattle.array.specs.Conditions.{badShape, badLevel}
 use Rattle.array.specs.Grid.{cellCount, lengthOf, placeOf, coordinate, moved}
 use Rattle.array.proofs.Judged.{levels-sized}

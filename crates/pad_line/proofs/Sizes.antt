@@ -6,8 +6,8 @@ use mathlib.Core.Bool.{false}
 use mathlib.Core.List.{List}
 use lib.IntN.{ℤ, pos, natAbs, _-ℤ_}
 use lib.ListN.{length, getD}
-use Rattle.numbers.proofs.Any.{every-table}
 use Rattle.numbers.proofs.Size.{Size, Sized, size-inside, member-sized}
+use Rattle.numbers.proofs.Tabulate.{every-table}
 use Rattle.numbers.proofs.Tests.{cond-ind}
 use Rattle.array.specs.Conditions.{badLevel}
 use Rattle.border.specs.Border.{Border, constant, along, cellFor, inside, extendedLane}

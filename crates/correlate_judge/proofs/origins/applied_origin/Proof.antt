@@ -1,9 +1,9 @@
 -- `correlate_judge::origins::applied_origin` meets its contract: the caller's origin, or the changed one, which fits 64 bits since condition 7 accepts it.
 -- Assumes nothing.
 use mathlib.Core.Path.{_≡_, ap, sym, _∙_}
+use mathlib.Core.Bool.{Bool, true}
 use mir.Syntax.{w64}
 use mir.Val.{toZ, ofZ}
-use mathlib.Core.Bool.{Bool, true}
 use Rattle.correlation.specs.Correlated.{changedOrigin}
 use Rattle.correlate_judge.specs.Judge.{appliedOrigin}
 use Rattle.correlate_judge.proofs.Changed.{negation-fits, odd-read, shift-fits, even-read}
@@ -15,14 +15,14 @@ use Rattle.correlate_judge.proofs.origins.applied_origin.Tie as tie
 turned-is : (s : tie.Start) → s .args .turned ≡ true → appliedOrigin (s .args .turned) (s .args .len) (s .args .origin) ≡ changedOrigin (s .args .len) (s .args .origin)
 turned-is s t = ap (λ (u : Bool). appliedOrigin u (s .args .len) (s .args .origin)) t
 
+returns : tie.Need-returns
+returns c = let s = c .before .before in even-read (s .args .len) (s .args .origin) (s .fits .origin) (s .fits .len .fits) (s .pre) (c .if2 .taken) ∙ sym (turned-is s (c .before .if1 .taken))
+
 sub-result : tie.Need-sub-result
 sub-result c = let s = c .before .before in negation-fits (s .args .len) (s .args .origin) (s .fits .origin) (s .fits .len .fits) (s .pre)
 
 sub-result-2 : tie.Need-sub-result-2
 sub-result-2 c = let s = c .before .before in shift-fits (s .args .len) (s .args .origin) (s .fits .origin) (s .fits .len .fits) (s .pre) (c .if2 .taken)
-
-returns : tie.Need-returns
-returns c = let s = c .before .before in even-read (s .args .len) (s .args .origin) (s .fits .origin) (s .fits .len .fits) (s .pre) (c .if2 .taken) ∙ sym (turned-is s (c .before .if1 .taken))
 
 sub-result-3 : tie.Need-sub-result-3
 sub-result-3 c = let s = c .before .before in negation-fits (s .args .len) (s .args .origin) (s .fits .origin) (s .fits .len .fits) (s .pre)
