@@ -8,6 +8,7 @@ ghost use Rattle.numbers.specs.Refusal.{refusalOf, Answers};
 ghost use Rattle.border.specs.Modes.{borderOf};
 ghost use Rattle.correlation.specs.Correlated.{correlate1dZ, convolve1dZ};
 ghost use Rattle.correlate_judge.specs.Judge.{correlateJudged};
+ghost use Rattle.correlate1d.specs.Rows.{Correlate1dRows};
 ghost use Rattle.correlate1d.specs.Weighs.{Scales, Weighs};
 use axis_filter::LineFilter;
 use border::BorderMode;
@@ -202,3 +203,8 @@ pub fn convolve1d(
     );
     numbers::ACCEPTED
 }
+
+// Worked rows of this crate's definitions. Refuses nothing.
+pub fn rows()
+    ensures { λ _. ⌜ Correlate1dRows ⌝ }
+{}

@@ -3,6 +3,7 @@
 mod arrays;
 mod averages;
 mod borders;
+mod correlations;
 mod extremes;
 mod filters;
 mod grids;
@@ -33,6 +34,7 @@ fn rows() {
     pad::rows();
     correlation::rows();
     correlate_judge::rows();
+    correlate1d::rows();
 }
 
 fn main() {
@@ -70,4 +72,7 @@ fn main() {
     weighing::weights();
     weighing::judges();
     weighing::judges_f64();
+    correlations::t2();
+    correlations::t3();
+    correlations::limits();
 }
