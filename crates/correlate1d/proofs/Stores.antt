@@ -12,7 +12,9 @@ use Rattle.numbers.proofs.Size.{Size, size-inside, size-mul, member-sized, test
 use Rattle.numbers.proofs.Tests.{cond-yes}
 use Rattle.array.specs.Conditions.{badLevel}
 use Rattle.border.specs.Border.{Border}
-use Rattle.correlation.specs.Correlated.{correlatedBy, changedOrigin, correlate1dZ, convolve1dZ}
+use Rattle.symmetry.specs.declared.SymmetryState.{SymmetryState}
+use Rattle.correlation.specs.Weighed.{Ops}
+use Rattle.correlation.specs.Correlated.{correlatedBy}
 use Rattle.correlate_judge.specs.Judge.{badWeight}
 use Rattle.correlate_line.proofs.Computed.{Computed, read, computed, computed-level}
 use Rattle.correlate1d.specs.Weighs.{Scales}
@@ -25,15 +27,19 @@ scaled {cells} {out} {w} S i =
     let b : Size w 65535 = size-inside 65535 w (S .weight) in
     computed _*ℤ_ (computed-level a (omega arith)) (computed-level b (omega arith)) (size-mul a b) (omega arith)
 
-pub one-weight : (b : Border ℤ) (o : ℤ) (w : List ℤ) (ns : List ℕ) (a : ℕ) (cells : List ℤ) → length w ≡ 1 → map (λ x. x *ℤ getD w 0 (pos 0)) cells ≡ correlate1dZ b o w ns a cells
-unfolding correlatedBy
-one-weight b o w ns a cells e = sym (cond-yes (eqb (length w) 1) _ _ (eq-eqb (length w) 1 e))
+-- ---- one weight, over any element: every cell times it
+module _ {A : Type 0} (ops : Ops A) (b : Border A) where
+  pub one-weight : (class : SymmetryState) (o : ℤ) (w : List A) (ns : List ℕ) (a : ℕ) (cells : List A) → length w ≡ 1
+      → map (λ x. ops .product x (getD w 0 (ops .past))) cells ≡ correlatedBy ops class b o w ns a cells
+  unfolding correlatedBy
+  one-weight class o w ns a cells e = sym (cond-yes (eqb (length w) 1) _ _ (eq-eqb (length w) 1 e))
 
--- a convolution with one weight
-one-reversed : (w : List ℤ) → length w ≡ 1 → reverse w ≡ w
-one-reversed [] e = refl
-one-reversed (x ∷ []) e = refl
-one-reversed (x ∷ y ∷ w) e = absurd (omega arith)
+  one-reversed : (w : List A) → length w ≡ 1 → reverse w ≡ w
+  one-reversed [] e = refl
+  one-reversed (x ∷ []) e = refl
+  one-reversed (x ∷ y ∷ w) e = absurd (omega arith)
 
-pub one-turned : (b : Border ℤ) (o : ℤ) (w : List ℤ) (ns : List ℕ) (a : ℕ) (cells : List ℤ) → length w ≡ 1 → map (λ x. x *ℤ getD w 0 (pos 0)) cells ≡ convolve1dZ b o w ns a cells
-one-turned b o w ns a cells e = one-weight b (changedOrigin (length w) o) w ns a cells e ∙ ap (λ (v : List ℤ). correlate1dZ b (changedOrigin (length w) o) v ns a cells) (sym (one-reversed w e))
+  -- of a convolution too
+  pub one-turned : (class : List A → SymmetryState) (o : ℤ) (w : List A) (ns : List ℕ) (a : ℕ) (cells : List A) → length w ≡ 1
+      → map (λ x. ops .product x (getD w 0 (ops .past))) cells ≡ correlatedBy ops (class (reverse w)) b o (reverse w) ns a cells
+  one-turned class o w ns a cells e = one-weight (class w) o w ns a cells e ∙ ap (λ (v : List A). correlatedBy ops (class v) b o v ns a cells) (sym (one-reversed w e))

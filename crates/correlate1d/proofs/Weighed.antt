@@ -7,7 +7,7 @@ use Prim.Native.Nat.{ℕ, _+_}
 use native.Mathlib.Omega.{arith}
 use borrow.Author.Tests.{ne-eqb}
 use lib.Dec.{eqb}
-use lib.IntN.{ℤ, pos}
+use lib.IntN.{ℤ}
 use lib.ListN.{length}
 use Rattle.numbers.proofs.Tests.{or-false, cond-no}
 use Rattle.array.specs.Grid.{lengthOf}
@@ -16,45 +16,53 @@ use Rattle.border.specs.Border.{Border}
 use Rattle.pad_line.specs.Line.{badPad}
 use Rattle.symmetry.specs.Class.{classZ}
 use Rattle.symmetry.specs.declared.SymmetryState.{SymmetryState}
-use Rattle.symmetry.specs.declared.SymmetryState.the-variants.{NonSymmetric}
 use Rattle.filter_judge.specs.Judge.{windowOrigin}
 use Rattle.filter_judge.proofs.Reach.{leftOf, rightOf, pads-size}
-use Rattle.correlation.specs.Weighed.{wholeOps}
-use Rattle.correlation.specs.Correlated.{correlatedLine, correlatedBy, correlate1dZ}
+use Rattle.correlation.specs.Weighed.{Ops}
+use Rattle.correlation.specs.Correlated.{correlatedLine, correlatedBy}
 use Rattle.correlate_judge.specs.Judge.{badWeight}
 use Rattle.axis_filter.specs.Lane.{Sweep}
 use Rattle.axis_filter.specs.Filter.{Weighing}
-use Rattle.correlate1d.specs.Weighs.{Weighs}
+use Rattle.correlate1d.specs.Weighs.{Placed, Weighs}
 
 -- the same call by other names of its origin and weights
 pub weighs-as : {b : Border ℤ} {ns : List ℕ} {a : ℕ} {o q : ℤ} {w v cells out : List ℤ} → Weighs b ns a o w cells out → q ≡ o → v ≡ w → Weighs b ns a q v cells out
 weighs-as {b} {ns} {a} {o} {q} {w} {v} {cells} {out} W e f = subst (λ (x : ℤ). Weighs b ns a x v cells out) (sym e) (subst (λ (x : List ℤ). Weighs b ns a o x cells out) (sym f) W)
 
-pub window-origin : {b : Border ℤ} {ns : List ℕ} {a : ℕ} {o : ℤ} {w cells out : List ℤ} → Weighs b ns a o w cells out → windowOrigin (length w) o ≡ false
-window-origin {o = o} {w = w} W = ap (λ t. not (eqb (length w) 1) && t) (W .origin) ∙ and-false (not (eqb (length w) 1))
+pub placed-as : {A : Type 0} {b : Border A} {ns : List ℕ} {a : ℕ} {o q : ℤ} {w v cells out : List A} → Placed b ns a o w cells out → q ≡ o → v ≡ w → Placed b ns a q v cells out
+placed-as {A} {b} {ns} {a} {o} {q} {w} {v} {cells} {out} W e f = subst (λ (x : ℤ). Placed b ns a x v cells out) (sym e) (subst (λ (x : List A). Placed b ns a o x cells out) (sym f) W)
 
-module _ {b : Border ℤ} {ns : List ℕ} {a : ℕ} {o : ℤ} {w cells out : List ℤ} (W : Weighs b ns a o w cells out) {l g : ℕ} (L : l ≡ leftOf (length w) o) (G : g ≡ rightOf (length w) o) where
-  pub pads-total : l + g + 1 ≡ length w
-  pads-total = (λ j. L j + G j + 1) ∙ pads-size (length w) o (W .origin)
+module _ {A : Type 0} {b : Border A} {ns : List ℕ} {a : ℕ} {o : ℤ} {w cells out : List A} (W : Placed b ns a o w cells out) where
+  pub window-origin : windowOrigin (length w) o ≡ false
+  window-origin = ap (λ t. not (eqb (length w) 1) && t) (W .origin) ∙ and-false (not (eqb (length w) 1))
 
-  pub sweep-weighed : Sweep b ns a l g cells out
-  sweep-weighed =
-      let p = or-false (badPad b (lengthOf ns a) (leftOf (length w) o)) (badPad b (lengthOf ns a) (rightOf (length w) o)) (W .reach) in record {
-        shape = W .shape;
-        axis = W .axis;
-        count = W .count;
-        same = W .same;
-        fills-left = ap (badPad b (lengthOf ns a)) L ∙ p .0;
-        fills-right = ap (badPad b (lengthOf ns a)) G ∙ p .1;
-        narrow = omega (arith, pads-total, W .few);
-      }
+  pub two-weights : length w ≡ 1 → ⊥
+  two-weights e = omega (arith, W .more)
 
-  pub weighing : {class : SymmetryState} → class ≡ classZ w → Weighing class w (l + g + 1) b cells
-  unfolding badWeight
-  weighing q = record { class-is = q; many = sym pads-total; weights = W .weights; level = W .level; cells-in = W .levels }
+  module _ {l g : ℕ} (L : l ≡ leftOf (length w) o) (G : g ≡ rightOf (length w) o) where
+    pub pads-total : l + g + 1 ≡ length w
+    pads-total = (λ j. L j + G j + 1) ∙ pads-size (length w) o (W .origin)
 
-  pub weighed-answer : {left : List ℤ} → left ≡ alongAxis (pos 0) (correlatedLine wholeOps NonSymmetric b l g w) ns a cells → left ≡ correlate1dZ b o w ns a cells
-  unfolding correlatedBy
-  weighed-answer {left} e =
-      e ∙ (λ j. alongAxis (pos 0) (correlatedLine wholeOps NonSymmetric b (L j) (G j) w) ns a cells)
-      ∙ sym (cond-no (eqb (length w) 1) _ _ (ne-eqb (length w) 1 (λ z. omega (arith, W .more))))
+    pub sweep-weighed : Sweep b ns a l g cells out
+    sweep-weighed =
+        let p = or-false (badPad b (lengthOf ns a) (leftOf (length w) o)) (badPad b (lengthOf ns a) (rightOf (length w) o)) (W .reach) in record {
+          shape = W .shape;
+          axis = W .axis;
+          count = W .count;
+          same = W .same;
+          fills-left = ap (badPad b (lengthOf ns a)) L ∙ p .0;
+          fills-right = ap (badPad b (lengthOf ns a)) G ∙ p .1;
+          narrow = omega (arith, pads-total, W .few);
+        }
+
+    pub weighed-answer : (ops : Ops A) (class : SymmetryState) {left : List A} → left ≡ alongAxis (ops .past) (correlatedLine ops class b l g w) ns a cells → left ≡ correlatedBy ops class b o w ns a cells
+    unfolding correlatedBy
+    weighed-answer ops class {left} e =
+        e ∙ (λ j. alongAxis (ops .past) (correlatedLine ops class b (L j) (G j) w) ns a cells)
+        ∙ sym (cond-no (eqb (length w) 1) _ _ (ne-eqb (length w) 1 two-weights))
+
+-- the weights and levels of a whole call
+pub weighing : {b : Border ℤ} {ns : List ℕ} {a : ℕ} {o : ℤ} {w cells out : List ℤ} (W : Weighs b ns a o w cells out) {l g : ℕ} → l ≡ leftOf (length w) o → g ≡ rightOf (length w) o
+    → {class : SymmetryState} → class ≡ classZ w → Weighing class w (l + g + 1) b cells
+unfolding badWeight
+weighing W L G q = record { class-is = q; many = sym (pads-total (W .placed) L G); weights = W .weights; level = W .level; cells-in = W .levels }

@@ -1,7 +1,8 @@
 -- What the workers suppose of a call that was accepted.
 --   tooLarge z                  a level that a sum of a pass might leave 64 bits with: outside −2^38..2^38
 --   Scales cells w out          every cell and the weight w are within their limits, and the output is as long
---   Weighs b ns a o w cells out two weights or more, applied with the origin o along axis a, whose border fills both pads
+--   Placed b ns a o w cells out two weights or more, of any element, applied with the origin o along axis a, whose border fills both pads
+--   Weighs b ns a o w cells out the same of whole weights and levels within their limits
 use Prim.Native.Nat.{ℕ, _^_, _≤_, _<_}
 use mathlib.Core.Path.{_≡_}
 use mathlib.Core.Bool.{Bool, false}
@@ -26,15 +27,18 @@ pub record Scales (cells : List ℤ) (w : ℤ) (out : List ℤ) : Type 0 where
   pub levels : anyOf badLevel cells ≡ false
   pub weight : badWeight w ≡ false
 
-pub record Weighs (b : Border ℤ) (ns : List ℕ) (a : ℕ) (o : ℤ) (w cells out : List ℤ) : Type 0 where
+pub record Placed {A : Type 0} (b : Border A) (ns : List ℕ) (a : ℕ) (o : ℤ) (w cells out : List A) : Type 0 where
   pub shape : badShape ns ≡ false
   pub axis : a < length ns
   pub count : length cells ≡ cellCount ns
   pub same : length out ≡ length cells
   pub more : 1 < length w
   pub few : length w ≤ 65
+  pub origin : badOrigin (length w) o ≡ false
+  pub reach : badReach b (length w) o (lengthOf ns a) ≡ false
+
+pub record Weighs (b : Border ℤ) (ns : List ℕ) (a : ℕ) (o : ℤ) (w cells out : List ℤ) : Type 0 where
+  pub placed : Placed b ns a o w cells out
   pub weights : anyOf badWeight w ≡ false
   pub level : badConstantBy tooLarge b ≡ false
   pub levels : anyOf tooLarge cells ≡ false
-  pub origin : badOrigin (length w) o ≡ false
-  pub reach : badReach b (length w) o (lengthOf ns a) ≡ false

@@ -13,7 +13,7 @@ use Rattle.numbers.proofs.Refusal.{answers-refused, answers-accepted}
 use Rattle.border.specs.Modes.{borderOf}
 use Rattle.correlation.specs.Correlated.{convolve1dZ}
 use Rattle.correlate_judge.specs.Judge.{correlateJudged}
-use Rattle.correlate1d.proofs.Accepted.{passed}
+use Rattle.correlate1d.proofs.Passed.{passed}
 use borrow.Author.Needs.{needs}
 use Rattle.correlate1d.proofs.convolve1d.Statement.{statement}
 use Rattle.correlate1d.proofs.convolve1d.Tie as tie

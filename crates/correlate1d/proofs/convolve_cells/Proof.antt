@@ -10,7 +10,10 @@ use Rattle.border.specs.Modes.{borderOf}
 use Rattle.origin.specs.Origin.{badOrigin}
 use Rattle.filter_judge.proofs.Reach.{origin-accepted}
 use Rattle.correlation.specs.Correlated.{changedOrigin, correlate1dZ}
-use Rattle.correlate1d.proofs.Accepted.{passed, scales-read, scaled-cells, weighs-accepted}
+use Rattle.symmetry.specs.declared.SymmetryState.the-variants.{NonSymmetric}
+use Rattle.correlation.specs.Weighed.{wholeOps}
+use Rattle.correlate1d.proofs.Passed.{passed}
+use Rattle.correlate1d.proofs.Accepted.{scales-read, scaled-cells, weighs-accepted}
 use Rattle.correlate1d.proofs.Weighed.{weighs-as}
 use Rattle.correlate1d.proofs.Stores.{one-turned}
 use borrow.Author.Needs.{needs}
@@ -40,7 +43,7 @@ returns : tie.Need-returns
 returns c =
     let s = c .before .before .before .before .before .before in
     scaled-cells (now (s .args .out)) (passed true (borderOf (s .args .mode)) (s .args .origin) (now (s .args .weights)) (now (s .args .shape)) (s .args .axis) (now (s .args .«data»)) (length (now (s .args .out))) (s .pre .0)) (c .before .scale .ensures)
-    ∙ one-turned (borderOf (s .args .mode)) (s .args .origin) (now (s .args .weights)) (now (s .args .shape)) (s .args .axis) (now (s .args .«data»)) (c .before .before .before .before .if1 .taken)
+    ∙ one-turned wholeOps (borderOf (s .args .mode)) (λ w. NonSymmetric) (changedOrigin (length (now (s .args .weights))) (s .args .origin)) (now (s .args .weights)) (now (s .args .shape)) (s .args .axis) (now (s .args .«data»)) (c .before .before .before .before .if1 .taken)
 
 reverse-requires : tie.Need-reverse-requires
 reverse-requires c κs = search needs

@@ -9,8 +9,11 @@ use mir.Syntax.{w64}
 use mir.Val.{toZ, ofZ}
 use Rattle.border.specs.Modes.{borderOf}
 use Rattle.correlation.specs.Correlated.{correlate1dZ}
+use Rattle.symmetry.specs.declared.SymmetryState.the-variants.{NonSymmetric}
+use Rattle.correlation.specs.Weighed.{wholeOps}
 use Rattle.correlate1d.specs.Weighs.{Weighs}
-use Rattle.correlate1d.proofs.Accepted.{passed, scales-read, scaled-cells, weighs-accepted}
+use Rattle.correlate1d.proofs.Passed.{passed}
+use Rattle.correlate1d.proofs.Accepted.{scales-read, scaled-cells, weighs-accepted}
 use Rattle.correlate1d.proofs.Stores.{one-weight}
 use borrow.Author.Needs.{needs}
 use Rattle.correlate1d.proofs.correlate_cells.Statement.{statement}
@@ -31,7 +34,7 @@ returns : tie.Need-returns
 returns c =
     let s = c .before .before .before .before .before .before in
     scaled-cells (now (s .args .out)) (passed false (borderOf (s .args .mode)) (s .args .origin) (now (s .args .weights)) (now (s .args .shape)) (s .args .axis) (now (s .args .«data»)) (length (now (s .args .out))) (s .pre)) (c .before .scale .ensures)
-    ∙ one-weight (borderOf (s .args .mode)) (s .args .origin) _ (now (s .args .shape)) (s .args .axis) _ (c .before .before .before .before .if1 .taken)
+    ∙ one-weight wholeOps (borderOf (s .args .mode)) NonSymmetric (s .args .origin) _ (now (s .args .shape)) (s .args .axis) _ (c .before .before .before .before .if1 .taken)
 
 weigh-requires : tie.Need-weigh-requires
 weigh-requires c κs =

@@ -1,15 +1,16 @@
 -- `correlate1d::weigh` meets its contract: an accepted origin has its pads, and the lanes are filtered with them.
 -- Assumes nothing.
-use Prim.Native.Nat.{ℕ, _-_, _/_, _<_}
+use Prim.Native.Nat.{_-_, _/_}
 use mathlib.Core.Path.{_≡_, ap, _∙_}
-use native.Mathlib.Omega.{arith}
 use denote.Ref.{now}
 use lib.ListN.{length}
 use mir.Syntax.{w64}
 use mir.Val.{toZ, ofZ}
 use Rattle.origin.specs.Origin.{originPads}
+use Rattle.symmetry.specs.declared.SymmetryState.the-variants.{NonSymmetric}
+use Rattle.correlation.specs.Weighed.{wholeOps}
 use Rattle.filter_judge.proofs.Reach.{PadsAre, origin-refused, pads-are}
-use Rattle.correlate1d.proofs.Weighed.{window-origin, sweep-weighed, weighing, weighed-answer}
+use Rattle.correlate1d.proofs.Weighed.{window-origin, two-weights, sweep-weighed, weighing, weighed-answer}
 use borrow.Author.Needs.{needs}
 use Rattle.correlate1d.proofs.weigh.Statement.{statement}
 use Rattle.correlate1d.proofs.weigh.Tie as tie
@@ -23,12 +24,9 @@ checked c =
     let e : toZ w64 (ofZ w64 (a .origin)) ≡ a .origin = search needs in
     c .origin-check .ensures ∙ ap (originPads n (n / 2) (n - n / 2 - 1)) e
 
-two : {n : ℕ} → 1 < n → n ≡ 1 → ⊥
-two h e = omega arith
-
 -- the pads that it gives
-given : (c : tie.After-left) → let s = c .before .before .before .before in PadsAre _ (s .args .origin) (two (s .pre .more)) (window-origin (s .pre)) (checked (c .before .before)) (c .left .given .0 .0) (c .left .given .0 .1 .0)
-given c = let s = c .before .before .before .before in pads-are _ (s .args .origin) (two (s .pre .more)) (window-origin (s .pre)) (checked (c .before .before)) (c .left .given .1)
+given : (c : tie.After-left) → let s = c .before .before .before .before in PadsAre _ (s .args .origin) (two-weights (s .pre .placed)) (window-origin (s .pre .placed)) (checked (c .before .before)) (c .left .given .0 .0) (c .left .given .0 .1 .0)
+given c = let s = c .before .before .before .before in pads-are _ (s .args .origin) (two-weights (s .pre .placed)) (window-origin (s .pre .placed)) (checked (c .before .before)) (c .left .given .1)
 
 origin-check-requires : tie.Need-origin-check-requires
 origin-check-requires c κs = search needs
@@ -46,12 +44,12 @@ filter-axis-requires : tie.Need-filter-axis-requires
 filter-axis-requires c κs =
     let s = c .before .before .before .before .before .before .before in
     let G = given (c .before .before .before) in
-    (sweep-weighed (s .pre) (G .left) (G .right), weighing (s .pre) (G .left) (G .right) (c .before .symmetry-state-i64 .ensures))
+    (sweep-weighed (s .pre .placed) (G .left) (G .right), weighing (s .pre) (G .left) (G .right) (c .before .symmetry-state-i64 .ensures))
 
 returns : tie.Need-returns
 returns c =
     let s = c .before .before .before .before in
-    absurd (origin-refused _ (s .args .origin) (two (s .pre .more)) (window-origin (s .pre)) (checked (c .before .before)) (c .enum-told .given .1))
+    absurd (origin-refused _ (s .args .origin) (two-weights (s .pre .placed)) (window-origin (s .pre .placed)) (checked (c .before .before)) (c .enum-told .given .1))
 
 same-length : tie.Need-same-length
 same-length c = search needs
@@ -60,7 +58,7 @@ returns-2 : tie.Need-returns-2
 returns-2 c =
     let s = c .before .before .before .before .before .before .before .before .before in
     let G = given (c .before .before .before .before .before) in
-    weighed-answer (s .pre) (G .left) (G .right) (c .before .filter-axis .ensures)
+    weighed-answer (s .pre .placed) (G .left) (G .right) wholeOps NonSymmetric (c .before .filter-axis .ensures)
 
 pub weigh-spec : {M : Type 1} → statement M
 weigh-spec =
