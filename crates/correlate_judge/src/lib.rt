@@ -25,19 +25,19 @@ pub use weights::bad_weights;
 fn judge_weighing(
     shape: &[usize],
     len: usize,
-    heavy: bool,
+    six: bool,
     axis: usize,
     mode: BorderMode,
-    beyond: bool,
+    nine: bool,
     origin: isize,
     turned: bool,
 ) -> u8
-    ensures { λ r. ⌜ r ≡ refusalOf ((outside 1 65 len, 5) ∷ (heavy, 6) ∷ (windowOrigin len origin, 7) ∷ (badAxis (now (shape .entry)) axis, 8) ∷ (beyond, 9) ∷ (not (eqb len 1) && badReach (borderOf mode) len (appliedOrigin turned len origin) (lengthOf (now (shape .entry)) axis), 11) ∷ []) ⌝ }
+    ensures { λ r. ⌜ r ≡ refusalOf ((outside 1 65 len, 5) ∷ (six, 6) ∷ (windowOrigin len origin, 7) ∷ (badAxis (now (shape .entry)) axis, 8) ∷ (nine, 9) ∷ (not (eqb len 1) && badReach (borderOf mode) len (appliedOrigin turned len origin) (lengthOf (now (shape .entry)) axis), 11) ∷ []) ⌝ }
 {
     if filter_judge::bad_size(len) {
         return numbers::KERNEL;
     }
-    if heavy {
+    if six {
         return numbers::WEIGHT;
     }
     if filter_judge::bad_window_origin(len, origin) {
@@ -46,7 +46,7 @@ fn judge_weighing(
     if array::bad_axis(shape, axis) {
         return numbers::AXIS;
     }
-    if beyond {
+    if nine {
         return numbers::CONSTANT;
     }
     let n = array::len_of(shape, axis);
@@ -86,18 +86,9 @@ pub fn judge_correlate(
     if refusal != 0 {
         return refusal;
     }
-    let heavy = bad_weights(weights);
-    let beyond = border::bad_constant(mode);
-    judge_weighing(
-        shape,
-        weights.len(),
-        heavy,
-        axis,
-        mode,
-        beyond,
-        origin,
-        turned,
-    )
+    let six = bad_weights(weights);
+    let nine = border::bad_constant(mode);
+    judge_weighing(shape, weights.len(), six, axis, mode, nine, origin, turned)
 }
 
 // The same of a call on floats: 3, 6 and 9 refuse what is not finite, and no sum is refused.
@@ -118,15 +109,15 @@ pub fn judge_correlate_f64(
     if refusal != 0 {
         return refusal;
     }
-    let heavy = array::bad_levels_f64(weights);
-    let beyond = border::bad_constant_f64(mode);
+    let six = array::bad_levels_f64(weights);
+    let nine = border::bad_constant_f64(mode);
     judge_weighing(
         shape,
         weights.len(),
-        heavy,
+        six,
         axis,
         origins::kind_of(mode),
-        beyond,
+        nine,
         origin,
         turned,
     )
