@@ -1,6 +1,6 @@
 // The weighted sums of a whole line: the weights are taken one after the other, each along the whole row.
 ghost use mathlib.Core.Path.{_≡_};
-ghost use Prim.Native.Nat.{_+_, _/_, _<_};
+ghost use Prim.Native.Nat.{_+_, _-_, _/_, _<_};
 ghost use lib.IntN.{pos, _+ℤ_, _-ℤ_};
 ghost use lib.ListN.{length};
 ghost use Rattle.numbers.specs.Lists.{tabulate};
@@ -50,32 +50,30 @@ fn add_row(weights: &[i64], line: &[i64], j: usize, out: &mut [i64])
     }
 }
 
-// Adds to every cell the term of the pair j of its window, joined by sum.
-fn add_pairs(weights: &[i64], line: &[i64], j: usize, out: &mut [i64])
-    requires { ⌜ Weighable (now weights) (now line) (length (now out)) × (j < length (now weights) / 2) × (now out ≡ tabulate (pairsTo wholeOps _+ℤ_ (now weights) (now line) j) 0 (length (now out))) ⌝ }
-    ensures { λ _. ⌜ now (out .exit) ≡ tabulate (pairsTo wholeOps _+ℤ_ (now (weights .entry)) (now (line .entry)) (j + 1)) 0 (length (now (out .entry))) ⌝ }
+// Adds to every cell the term of its window's cells left and right, which mirror each other, joined by sum.
+fn add_pairs(weights: &[i64], line: &[i64], left: usize, right: usize, out: &mut [i64])
+    requires { ⌜ Weighable (now weights) (now line) (length (now out)) × (left < length (now weights) / 2) × (right ≡ length (now weights) - 1 - left) × (now out ≡ tabulate (pairsTo wholeOps _+ℤ_ (now weights) (now line) left) 0 (length (now out))) ⌝ }
+    ensures { λ _. ⌜ now (out .exit) ≡ tabulate (pairsTo wholeOps _+ℤ_ (now (weights .entry)) (now (line .entry)) (left + 1)) 0 (length (now (out .entry))) ⌝ }
 {
-    let weight = weights[j];
-    let far = weights.len() - 1 - j;
+    let shared = weights[left];
     let n = out.len();
     let mut i = 0;
     while i < n {
-        out[i] = out[i] + (line[i + j] + line[i + far]) * weight;
+        out[i] = out[i] + (line[i + left] + line[i + right]) * shared;
         i += 1;
     }
 }
 
-// Adds to every cell the term of the pair j of its window, joined by difference.
-fn add_differences(weights: &[i64], line: &[i64], j: usize, out: &mut [i64])
-    requires { ⌜ Weighable (now weights) (now line) (length (now out)) × (j < length (now weights) / 2) × (now out ≡ tabulate (pairsTo wholeOps _-ℤ_ (now weights) (now line) j) 0 (length (now out))) ⌝ }
-    ensures { λ _. ⌜ now (out .exit) ≡ tabulate (pairsTo wholeOps _-ℤ_ (now (weights .entry)) (now (line .entry)) (j + 1)) 0 (length (now (out .entry))) ⌝ }
+// Adds to every cell the term of its window's cells left and right, which mirror each other, joined by difference.
+fn add_differences(weights: &[i64], line: &[i64], left: usize, right: usize, out: &mut [i64])
+    requires { ⌜ Weighable (now weights) (now line) (length (now out)) × (left < length (now weights) / 2) × (right ≡ length (now weights) - 1 - left) × (now out ≡ tabulate (pairsTo wholeOps _-ℤ_ (now weights) (now line) left) 0 (length (now out))) ⌝ }
+    ensures { λ _. ⌜ now (out .exit) ≡ tabulate (pairsTo wholeOps _-ℤ_ (now (weights .entry)) (now (line .entry)) (left + 1)) 0 (length (now (out .entry))) ⌝ }
 {
-    let weight = weights[j];
-    let far = weights.len() - 1 - j;
+    let signed = weights[left];
     let n = out.len();
     let mut i = 0;
     while i < n {
-        out[i] = out[i] + (line[i + j] - line[i + far]) * weight;
+        out[i] = out[i] + (line[i + left] - line[i + right]) * signed;
         i += 1;
     }
 }
@@ -87,38 +85,42 @@ fn plain_line(weights: &[i64], line: &[i64], out: &mut [i64])
 {
     clear_row(out);
     let count = weights.len();
-    let mut j = 0;
-    while j < count {
-        add_row(weights, line, j, out);
-        j += 1;
+    let mut k = 0;
+    while k < count {
+        add_row(weights, line, k, out);
+        k += 1;
     }
 }
 
-// The middle cell and then the pairs, joined by sum.
+// The middle cell and then the pairs from the outside in, joined by sum.
 fn symmetric_line(weights: &[i64], line: &[i64], out: &mut [i64])
     requires { ⌜ Weighable (now weights) (now line) (length (now out)) ⌝ }
     ensures { λ _. ⌜ now (out .exit) ≡ weighedLine wholeOps Symmetric (now (weights .entry)) (now (line .entry)) (length (now (out .entry))) ⌝ }
 {
     let half = weights.len() / 2;
     set_row(weights, line, half, out);
-    let mut j = 0;
-    while j < half {
-        add_pairs(weights, line, j, out);
-        j += 1;
+    let mut left = 0;
+    let mut right = weights.len() - 1;
+    while left < right {
+        add_pairs(weights, line, left, right, out);
+        left += 1;
+        right -= 1;
     }
 }
 
-// The middle cell and then the pairs, joined by difference.
+// The middle cell and then the pairs from the outside in, joined by difference.
 fn antisymmetric_line(weights: &[i64], line: &[i64], out: &mut [i64])
     requires { ⌜ Weighable (now weights) (now line) (length (now out)) ⌝ }
     ensures { λ _. ⌜ now (out .exit) ≡ weighedLine wholeOps AntiSymmetric (now (weights .entry)) (now (line .entry)) (length (now (out .entry))) ⌝ }
 {
     let half = weights.len() / 2;
     set_row(weights, line, half, out);
-    let mut j = 0;
-    while j < half {
-        add_differences(weights, line, j, out);
-        j += 1;
+    let mut left = 0;
+    let mut right = weights.len() - 1;
+    while left < right {
+        add_differences(weights, line, left, right, out);
+        left += 1;
+        right -= 1;
     }
 }
 

@@ -1,6 +1,6 @@
 -- The loop along a row that adds to each cell its next term, and the row that a loop over the terms begins with: over any element and any operation.
 -- Cell i of the row starts with a i, and its terms are f i. Assumes nothing.
-use Prim.Native.Nat.{ℕ, _+_, _/_, _<_}
+use Prim.Native.Nat.{ℕ, _+_, _-_, _/_, _<_}
 use mathlib.Core.Path.{_≡_, refl, sym, ap, _∙_}
 use mathlib.Core.Bool.{cond}
 use mathlib.Core.List.{List}
@@ -67,9 +67,13 @@ module _ {A : Type 0} (o : Ops A) (w s : List A) where
     pub pairs-start : (n : ℕ) {l : List A} → l ≡ tabulate (λ i. cellTerm o w s i (length w / 2)) 0 n → Row (pairsTo o op w s 0) (length l) l
     pairs-start n e = row-start (o .sum) (λ i. cellTerm o w s i (length w / 2)) (pairTerm o op w s) n e
 
-    pub pairs-more : (j : ℕ) {l₀ l : List A} {i : ℕ} → l₀ ≡ tabulate (pairsTo o op w s j) 0 (length l₀) → i < length l₀ → Stored (o .past) (λ k. ltb k i) (pairsTo o op w s (j + 1)) l₀ l
-        → Stored (o .past) (λ k. ltb k (i + 1)) (pairsTo o op w s (j + 1)) l₀ (set l i (o .sum (getD l i (o .past)) (pairTerm o op w s i j)))
-    pairs-more j e b S = row-more (o .sum) (λ i. cellTerm o w s i (length w / 2)) (pairTerm o op w s) (o .past) j _ e b S refl
+    -- r is the place that mirrors j
+    pub pairs-more : (j r : ℕ) {l₀ l : List A} {i : ℕ} → r ≡ length w - 1 - j → l₀ ≡ tabulate (pairsTo o op w s j) 0 (length l₀) → i < length l₀
+        → Stored (o .past) (λ k. ltb k i) (pairsTo o op w s (j + 1)) l₀ l
+        → Stored (o .past) (λ k. ltb k (i + 1)) (pairsTo o op w s (j + 1)) l₀ (set l i (o .sum (getD l i (o .past)) (o .product (op (getD s (i + j) (o .past)) (getD s (i + r) (o .past))) (getD w j (o .past)))))
+    pairs-more j r {l₀} {l} {i} q e b S =
+        row-more (o .sum) (λ i. cellTerm o w s i (length w / 2)) (pairTerm o op w s) (o .past) j _ e b S
+        (ap (λ m. o .sum (getD l i (o .past)) (o .product (op (getD s (i + j) (o .past)) (getD s (i + m) (o .past))) (getD w j (o .past)))) q)
 
     pub pairs-end : {j n m : ℕ} {l : List A} → Row (pairsTo o op w s j) n l → j ≡ length w / 2 → n ≡ m → l ≡ tabulate (pairsAt o op w s) 0 m
     pairs-end r p q = row-end (o .sum) (λ i. cellTerm o w s i (length w / 2)) (pairTerm o op w s) r p q

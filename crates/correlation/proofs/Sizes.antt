@@ -1,11 +1,11 @@
 -- The size of a partial sum of whole numbers: at most the number of cells read so far, times the greatest cell, times the greatest weight.
 -- Assumes nothing.
-use Prim.Native.Nat.{ℕ, zero, suc, _+_, _*_, _/_}
+use Prim.Native.Nat.{ℕ, zero, suc, _+_, _-_, _*_, _/_}
 use mathlib.Core.Path.{_≡_}
 use mathlib.Core.List.{List}
 use native.Mathlib.Nat.{suc-mul, add-mul}
 use native.Mathlib.Omega.{arith}
-use lib.IntN.{ℤ, pos, negℤ, _+ℤ_, _-ℤ_}
+use lib.IntN.{ℤ, pos, negℤ, _+ℤ_, _-ℤ_, _*ℤ_}
 use lib.ListN.{length, getD}
 use Rattle.numbers.proofs.Size.{Size, size-zero, size-add, size-neg, size-mul, size-le}
 use Rattle.correlation.specs.Weighed.{summed, wholeOps, cellTerm, pairTerm, plainTo, pairsTo}
@@ -28,15 +28,19 @@ pub difference-joins : Joins _-ℤ_
 difference-joins a b p h k = size-add h (size-neg k)
 
 module _ (p q : ℕ) (w s : List ℤ) (cells : (k : ℕ) → Size (getD s k (pos 0)) p) (weights : (k : ℕ) → Size (getD w k (pos 0)) q) where
-  pub size-cell : (i j : ℕ) → Size (cellTerm wholeOps w s i j) (1 * (p * q))
-  size-cell i j = size-le (size-mul (cells (i + j)) (weights j)) (omega arith)
+  -- any cell times any weight
+  pub size-cell : (a k : ℕ) → Size (getD s a (pos 0) *ℤ getD w k (pos 0)) (1 * (p * q))
+  size-cell a k = size-le (size-mul (cells a) (weights k)) (omega arith)
 
   pub size-plain : (n i : ℕ) → Size (plainTo wholeOps w s n i) ((0 + n * 1) * (p * q))
-  size-plain n i = size-summed (p * q) 0 1 (pos 0) (cellTerm wholeOps w s i) (size-zero _) (size-cell i) n
+  size-plain n i = size-summed (p * q) 0 1 (pos 0) (cellTerm wholeOps w s i) (size-zero _) (λ j. size-cell (i + j) j) n
 
-  module _ (op : ℤ → ℤ → ℤ) (joined : Joins op) where
-    pub size-pair : (i j : ℕ) → Size (pairTerm wholeOps op w s i j) (2 * (p * q))
-    size-pair i j = size-le (size-mul (joined _ _ p (cells _) (cells _)) (weights j)) (omega (arith, add-mul p p q))
+  module _ (op : ℤ → ℤ → ℤ) (joins : Joins op) where
+    -- any two cells, joined, times any weight
+    pub size-pair : (a b k : ℕ) → Size (op (getD s a (pos 0)) (getD s b (pos 0)) *ℤ getD w k (pos 0)) (2 * (p * q))
+    size-pair a b k = size-le (size-mul (joins _ _ p (cells a) (cells b)) (weights k)) (omega (arith, add-mul p p q))
 
     pub size-pairs : (n i : ℕ) → Size (pairsTo wholeOps op w s n i) ((1 + n * 2) * (p * q))
-    size-pairs n i = size-summed (p * q) 1 2 (cellTerm wholeOps w s i (length w / 2)) (pairTerm wholeOps op w s i) (size-cell i (length w / 2)) (size-pair i) n
+    size-pairs n i =
+        let h = length w / 2 in
+        size-summed (p * q) 1 2 (cellTerm wholeOps w s i h) (pairTerm wholeOps op w s i) (size-cell (i + h) h) (λ j. size-pair (i + j) (i + (length w - 1 - j)) j) n

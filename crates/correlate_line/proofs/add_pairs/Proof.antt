@@ -9,28 +9,22 @@ use lib.ListN.{length}
 use Rattle.numbers.proofs.Stored.{Stored, front-none, front-all}
 use Rattle.correlation.specs.Weighed.{wholeOps, pairsTo}
 use Rattle.correlation.proofs.Sizes.{sum-joins}
-use Rattle.correlate_line.proofs.Turns.{pair-joined, pair-computed, pairs-turn}
+use Rattle.correlate_line.proofs.Turns.{pair, pair-term, pairs-sum, pairs-stored}
 use borrow.Author.Needs.{needs}
 use Rattle.correlate_line.proofs.add_pairs.Statement.{statement}
 use Rattle.correlate_line.proofs.add_pairs.Tie as tie
 
 abbrev Inv-loop : tie.InvT-loop
-Inv-loop weights line j out₀ weight far n i₀ out i = (i ≤ n) × (n ≡ length out₀) × Stored (pos 0) (λ k. ltb k i) (pairsTo wholeOps _+ℤ_ weights line (j + 1)) out₀ out
+Inv-loop weights line left right out₀ shared n i₀ out i = (i ≤ n) × (n ≡ length out₀) × Stored (pos 0) (λ k. ltb k i) (pairsTo wholeOps _+ℤ_ weights line (left + 1)) out₀ out
 
 abbrev μ-loop : tie.MeasureT-loop
-μ-loop weights line j out₀ weight far n i₀ out i = n - i
+μ-loop weights line left right out₀ shared n i₀ out i = n - i
 
-mul-weight : tie.Need-mul-weight Inv-loop μ-loop
-mul-weight c = search needs
+mul-shared : tie.Need-mul-shared Inv-loop μ-loop
+mul-shared c = search needs
 
-shared-slice-copy-out-weight : tie.Need-shared-slice-copy-out-weight Inv-loop μ-loop
-shared-slice-copy-out-weight c = search needs
-
-sub-far : tie.Need-sub-far Inv-loop μ-loop
-sub-far c = search needs
-
-sub-far-2 : tie.Need-sub-far-2 Inv-loop μ-loop
-sub-far-2 c = search needs
+shared-slice-copy-out-shared : tie.Need-shared-slice-copy-out-shared Inv-loop μ-loop
+shared-slice-copy-out-shared c = search needs
 
 loop-holds : tie.Need-loop-holds Inv-loop μ-loop
 loop-holds c = (search needs, refl, front-none (pos 0) _ _)
@@ -60,16 +54,16 @@ shared-slice-copy-out-out-2 : tie.Need-shared-slice-copy-out-out-2 Inv-loop μ-l
 shared-slice-copy-out-out-2 c = search needs
 
 add-out-3 : tie.Need-add-out-3 Inv-loop μ-loop
-add-out-3 c = let s = c .before .before .before .before .before .before in pair-joined (s .pre .0) _+ℤ_ sum-joins _ _ .fits
+add-out-3 c = pair (c .before .before .before .before .before .before .pre .0) _+ℤ_ sum-joins _ _ .fits
 
 mul-out-4 : tie.Need-mul-out-4 Inv-loop μ-loop
-mul-out-4 c = let s = c .before .before .before .before .before .before in pair-computed (s .pre .0) _+ℤ_ sum-joins (c .before .before .before .before .loop .i) (s .args .j) .fits
+mul-out-4 c = pair-term (c .before .before .before .before .before .before .pre .0) _+ℤ_ sum-joins _ _ _ .fits
 
 add-out-4 : tie.Need-add-out-4 Inv-loop μ-loop
-add-out-4 c = let s = c .before .before .before .before .before .before in pairs-turn (s .pre .0) _+ℤ_ sum-joins (s .args .j) (s .pre .1) (s .pre .2) (omega arith) (c .before .before .before .before .loop .inv .2) .fits
+add-out-4 c = let s = c .before .before .before .before .before .before in pairs-sum (s .pre .0) _+ℤ_ sum-joins (s .args .left) (s .pre .1) (s .pre .3) (omega arith) (c .before .before .before .before .loop .inv .2) _ _ _ .fits
 
-mul-t28 : tie.Need-mul-t28 Inv-loop μ-loop
-mul-t28 c = search needs
+mul-t27 : tie.Need-mul-t27 Inv-loop μ-loop
+mul-t27 c = search needs
 
 slice-set-from-out : tie.Need-slice-set-from-out Inv-loop μ-loop
 slice-set-from-out c = search needs
@@ -84,7 +78,7 @@ loop-again : tie.Need-loop-again Inv-loop μ-loop
 loop-again c =
     let s = c .before .before .before .before .before .before in
     let l = c .before .before .before .before .loop in
-    (search needs, l .inv .1, pairs-turn (s .pre .0) _+ℤ_ sum-joins (s .args .j) (s .pre .1) (s .pre .2) (omega arith) (l .inv .2) .stored)
+    (search needs, l .inv .1, pairs-stored (s .pre .0) _+ℤ_ sum-joins (s .args .left) (s .pre .1) (s .pre .3) (omega arith) (l .inv .2) (s .args .right) (s .pre .2))
 
 same-length : tie.Need-same-length Inv-loop μ-loop
 same-length c = c .before .loop .inv .2 .kept
@@ -98,10 +92,8 @@ add-pairs-spec =
     (tie.spec
     Inv-loop
     μ-loop
-    mul-weight
-    shared-slice-copy-out-weight
-    sub-far
-    sub-far-2
+    mul-shared
+    shared-slice-copy-out-shared
     loop-holds
     mul-out
     slice-copy-out-out
@@ -114,7 +106,7 @@ add-pairs-spec =
     add-out-3
     mul-out-4
     add-out-4
-    mul-t28
+    mul-t27
     slice-set-from-out
     add-i
     loop-less

@@ -8,7 +8,7 @@ use lib.IntN.{pos}
 use lib.ListN.{length}
 use Rattle.numbers.proofs.Stored.{Stored, front-none, front-all}
 use Rattle.correlation.specs.Weighed.{wholeOps, plainTo}
-use Rattle.correlate_line.proofs.Turns.{Turn, cell-computed, plain-turn}
+use Rattle.correlate_line.proofs.Turns.{term, plain-sum, plain-stored}
 use borrow.Author.Needs.{needs}
 use Rattle.correlate_line.proofs.add_row.Statement.{statement}
 use Rattle.correlate_line.proofs.add_row.Tie as tie
@@ -44,10 +44,10 @@ shared-slice-copy-out-out : tie.Need-shared-slice-copy-out-out Inv-loop μ-loop
 shared-slice-copy-out-out c = search needs
 
 mul-out-3 : tie.Need-mul-out-3 Inv-loop μ-loop
-mul-out-3 c = let s = c .before .before .before .before .before in cell-computed (s .pre .0) (c .before .before .before .loop .i) (s .args .j) .fits
+mul-out-3 c = term (c .before .before .before .before .before .pre .0) _ _ .fits
 
 add-out-2 : tie.Need-add-out-2 Inv-loop μ-loop
-add-out-2 c = let s = c .before .before .before .before .before in plain-turn (s .pre .0) (s .args .j) (s .pre .1) (s .pre .2) (omega arith) (c .before .before .before .loop .inv .2) .fits
+add-out-2 c = let s = c .before .before .before .before .before in plain-sum (s .pre .0) (s .args .j) (s .pre .1) (s .pre .2) (omega arith) (c .before .before .before .loop .inv .2) _ _ .fits
 
 mul-t21 : tie.Need-mul-t21 Inv-loop μ-loop
 mul-t21 c = search needs
@@ -65,7 +65,7 @@ loop-again : tie.Need-loop-again Inv-loop μ-loop
 loop-again c =
     let s = c .before .before .before .before .before in
     let l = c .before .before .before .loop in
-    (search needs, l .inv .1, plain-turn (s .pre .0) (s .args .j) (s .pre .1) (s .pre .2) (omega arith) (l .inv .2) .stored)
+    (search needs, l .inv .1, plain-stored (s .pre .0) (s .args .j) (s .pre .1) (s .pre .2) (omega arith) (l .inv .2))
 
 same-length : tie.Need-same-length Inv-loop μ-loop
 same-length c = c .before .loop .inv .2 .kept

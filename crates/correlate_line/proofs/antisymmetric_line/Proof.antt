@@ -1,6 +1,6 @@
 -- `correlate_line::antisymmetric_line` meets its contract: from the row of the middle cells, each turn adds the term of one pair, joined by difference, to the whole row.
 -- Assumes nothing.
-use mathlib.Core.Path.{_≡_, refl, _∙_}
+use mathlib.Core.Path.{_≡_, _∙_}
 use Prim.Native.Nat.{_/_, _-_, _≤_}
 use native.Mathlib.Omega.{arith}
 use denote.Ref.{now}
@@ -14,30 +14,36 @@ use Rattle.correlate_line.proofs.antisymmetric_line.Statement.{statemen
 use Rattle.correlate_line.proofs.antisymmetric_line.Tie as tie
 
 abbrev Inv-loop : tie.InvT-loop
-Inv-loop weights line out₀ half j₀ out j = (j ≤ half) × (half ≡ length weights / 2) × Row (pairsTo wholeOps _-ℤ_ weights line j) (length out₀) out
+Inv-loop weights line out₀ half left₀ right₀ out left right = (left ≤ length weights / 2) × (right ≡ length weights - 1 - left) × Row (pairsTo wholeOps _-ℤ_ weights line left) (length out₀) out
 
 abbrev μ-loop : tie.MeasureT-loop
-μ-loop weights line out₀ half j₀ out j = half - j
+μ-loop weights line out₀ half left₀ right₀ out left right = length weights / 2 - left
 
 set-row-requires : tie.Need-set-row-requires Inv-loop μ-loop
 set-row-requires c κs = search needs
 
+sub-right : tie.Need-sub-right Inv-loop μ-loop
+sub-right c = search needs
+
 loop-holds : tie.Need-loop-holds Inv-loop μ-loop
-loop-holds c = let s = c .before .before .before in (search needs, refl, pairs-start wholeOps (now (s .args .weights)) (now (s .args .line)) _-ℤ_ _ (c .before .set-row .ensures))
+loop-holds c = let s = c .before .before .before in (search needs, search needs, pairs-start wholeOps (now (s .args .weights)) (now (s .args .line)) _-ℤ_ _ (c .before .set-row .ensures))
 
 add-differences-requires : tie.Need-add-differences-requires Inv-loop μ-loop
 add-differences-requires c κs =
     let r = c .before .before .loop .inv .2 in
-    (weighable-kept (row-length r ∙ c .before .before .before .before .set-row .kept .1 .1 .1 .0) (c .before .before .before .before .before .before .pre), search needs, row-own r)
+    (weighable-kept (row-length r ∙ c .before .before .before .before .set-row .kept .1 .1 .1 .0) (c .before .before .before .before .before .before .pre), search needs, search needs, row-own r)
 
-add-j : tie.Need-add-j Inv-loop μ-loop
-add-j c = search needs
+add-left : tie.Need-add-left Inv-loop μ-loop
+add-left c = search needs
+
+sub-right-2 : tie.Need-sub-right-2 Inv-loop μ-loop
+sub-right-2 c = search needs
 
 loop-less : tie.Need-loop-less Inv-loop μ-loop
 loop-less c = search needs
 
 loop-again : tie.Need-loop-again Inv-loop μ-loop
-loop-again c = let l = c .before .before .before .before .loop in (search needs, l .inv .1, row-next (l .inv .2) (c .before .add-differences .ensures))
+loop-again c = let l = c .before .before .before .before .loop in (search needs, search needs, row-next (l .inv .2) (c .before .add-differences .ensures))
 
 same-length : tie.Need-same-length Inv-loop μ-loop
 same-length c = row-length (c .before .loop .inv .2) ∙ c .before .before .before .set-row .kept .1 .1 .1 .0
@@ -54,9 +60,11 @@ antisymmetric-line-spec =
     Inv-loop
     μ-loop
     set-row-requires
+    sub-right
     loop-holds
     add-differences-requires
-    add-j
+    add-left
+    sub-right-2
     loop-less
     loop-again
     same-length

@@ -13,10 +13,10 @@ use Rattle.correlate_line.proofs.plain_line.Statement.{statement}
 use Rattle.correlate_line.proofs.plain_line.Tie as tie
 
 abbrev Inv-loop : tie.InvT-loop
-Inv-loop weights line out₀ count j₀ out j = (j ≤ count) × (count ≡ length weights) × Row (plainTo wholeOps weights line j) (length out₀) out
+Inv-loop weights line out₀ count k₀ out k = (k ≤ count) × (count ≡ length weights) × Row (plainTo wholeOps weights line k) (length out₀) out
 
 abbrev μ-loop : tie.MeasureT-loop
-μ-loop weights line out₀ count j₀ out j = count - j
+μ-loop weights line out₀ count k₀ out k = count - k
 
 clear-row-requires : tie.Need-clear-row-requires Inv-loop μ-loop
 clear-row-requires c κs = search needs
@@ -29,8 +29,8 @@ add-row-requires c κs =
     let r = c .before .before .loop .inv .2 in
     (weighable-kept (row-length r ∙ c .before .before .before .before .clear-row .kept .0) (c .before .before .before .before .before .before .pre), search needs, row-own r)
 
-add-j : tie.Need-add-j Inv-loop μ-loop
-add-j c = search needs
+add-k : tie.Need-add-k Inv-loop μ-loop
+add-k c = search needs
 
 loop-less : tie.Need-loop-less Inv-loop μ-loop
 loop-less c = search needs
@@ -55,7 +55,7 @@ plain-line-spec =
     clear-row-requires
     loop-holds
     add-row-requires
-    add-j
+    add-k
     loop-less
     loop-again
     same-length

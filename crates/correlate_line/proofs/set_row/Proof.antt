@@ -1,7 +1,7 @@
 -- `correlate_line::set_row` meets its contract: the row is filled from the front with terms, each of which fits.
 -- Assumes nothing.
 use mathlib.Core.Path.{_≡_, refl}
-use Prim.Native.Nat.{_+_, _-_, _≤_}
+use Prim.Native.Nat.{_-_, _≤_}
 use native.Mathlib.Omega.{arith}
 use lib.Dec.{ltb}
 use lib.IntN.{pos}
@@ -9,7 +9,7 @@ use lib.ListN.{length}
 use Rattle.numbers.proofs.Stored.{Stored, front-none, front-more, front-all}
 use Rattle.correlation.specs.Weighed.{wholeOps, cellTerm}
 use Rattle.correlate_line.proofs.Computed.{computed-read}
-use Rattle.correlate_line.proofs.Turns.{cell-computed}
+use Rattle.correlate_line.proofs.Turns.{term}
 use borrow.Author.Needs.{needs}
 use Rattle.correlate_line.proofs.set_row.Statement.{statement}
 use Rattle.correlate_line.proofs.set_row.Tie as tie
@@ -39,7 +39,7 @@ shared-slice-copy-out-out : tie.Need-shared-slice-copy-out-out Inv-loop μ-loop
 shared-slice-copy-out-out c = search needs
 
 mul-out-2 : tie.Need-mul-out-2 Inv-loop μ-loop
-mul-out-2 c = let s = c .before .before .before .before in cell-computed (s .pre .0) (c .before .before .loop .i) (s .args .j) .fits
+mul-out-2 c = term (c .before .before .before .before .pre .0) _ _ .fits
 
 mul-t17 : tie.Need-mul-t17 Inv-loop μ-loop
 mul-t17 c = search needs
@@ -57,7 +57,7 @@ loop-again : tie.Need-loop-again Inv-loop μ-loop
 loop-again c =
     let s = c .before .before .before .before in
     let l = c .before .before .loop in
-    (search needs, l .inv .1, front-more (pos 0) _ _ (omega arith) (l .inv .2) (computed-read (cell-computed (s .pre .0) (l .i) (s .args .j))))
+    (search needs, l .inv .1, front-more (pos 0) _ _ (omega arith) (l .inv .2) (computed-read (term (s .pre .0) _ _)))
 
 same-length : tie.Need-same-length Inv-loop μ-loop
 same-length c = c .before .loop .inv .2 .kept

@@ -15,22 +15,16 @@ use Rattle.correlate_line_f64.proofs.add_pairs.Statement.{statement}
 use Rattle.correlate_line_f64.proofs.add_pairs.Tie as tie
 
 abbrev Inv-loop : tie.InvT-loop
-Inv-loop weights line j out₀ weight far n i₀ out i = (i ≤ n) × (n ≡ length out₀) × Stored nan (λ k. ltb k i) (pairsTo floatOps (floatOps .sum) weights line (j + 1)) out₀ out
+Inv-loop weights line left right out₀ shared n i₀ out i = (i ≤ n) × (n ≡ length out₀) × Stored nan (λ k. ltb k i) (pairsTo floatOps (floatOps .sum) weights line (left + 1)) out₀ out
 
 abbrev μ-loop : tie.MeasureT-loop
-μ-loop weights line j out₀ weight far n i₀ out i = n - i
+μ-loop weights line left right out₀ shared n i₀ out i = n - i
 
-mul-weight : tie.Need-mul-weight Inv-loop μ-loop
-mul-weight c = search needs
+mul-shared : tie.Need-mul-shared Inv-loop μ-loop
+mul-shared c = search needs
 
-shared-slice-read-weight : tie.Need-shared-slice-read-weight Inv-loop μ-loop
-shared-slice-read-weight c = search needs
-
-sub-far : tie.Need-sub-far Inv-loop μ-loop
-sub-far c = search needs
-
-sub-far-2 : tie.Need-sub-far-2 Inv-loop μ-loop
-sub-far-2 c = search needs
+shared-slice-read-shared : tie.Need-shared-slice-read-shared Inv-loop μ-loop
+shared-slice-read-shared c = search needs
 
 loop-holds : tie.Need-loop-holds Inv-loop μ-loop
 loop-holds c = (search needs, refl, front-none nan _ _)
@@ -75,7 +69,7 @@ loop-again : tie.Need-loop-again Inv-loop μ-loop
 loop-again c =
     let s = c .before .before .before .before .before .before in
     let l = c .before .before .before .before .loop in
-    (search needs, l .inv .1, pairs-more floatOps (now (s .args .weights)) (now (s .args .line)) (floatOps .sum) (s .args .j) (s .pre .2) (omega arith) (l .inv .2))
+    (search needs, l .inv .1, pairs-more floatOps (now (s .args .weights)) (now (s .args .line)) (floatOps .sum) (s .args .left) (s .args .right) (s .pre .2) (s .pre .3) (omega arith) (l .inv .2))
 
 same-length : tie.Need-same-length Inv-loop μ-loop
 same-length c = c .before .loop .inv .2 .kept
@@ -89,10 +83,8 @@ add-pairs-spec =
     (tie.spec
     Inv-loop
     μ-loop
-    mul-weight
-    shared-slice-read-weight
-    sub-far
-    sub-far-2
+    mul-shared
+    shared-slice-read-shared
     loop-holds
     mul-out
     slice-read-out
