@@ -1,0 +1,3 @@
+-- Correlation with a grid kernel.
+pub mod Kernel
+pub mod Rows
