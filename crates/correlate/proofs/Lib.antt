@@ -1,0 +1,5 @@
+-- Laws of correlation with a grid kernel, leaves first.
+pub mod Added
+pub mod Lines
+pub mod Sources
+pub mod RowLine

@@ -1,0 +1,124 @@
+// The rows of the kernel on each row of the grid, one after the other.
+ghost use mathlib.Core.Path.{_≡_};
+ghost use Prim.Native.Nat.{_+_, _*_, _/_, _%_, _<_};
+ghost use lib.ListN.{length};
+ghost use Rattle.numbers.specs.Lists.{tabulate};
+ghost use Rattle.border.specs.Modes.{borderOf};
+ghost use Rattle.correlate.specs.Axes.{Found, Laid};
+ghost use Rattle.correlate.specs.ByRows.{rowsTo};
+use border::BorderMode;
+use crate::axes::Axis;
+use crate::row::add_row;
+use crate::row::row_for;
+use crate::row::sum_row;
+
+// Adds kernel row q to the sums of row r. The tables have the sources of planes and rows; line and swept are buffers.
+fn add_kernel_row(
+    data: &[i64],
+    weights: &[i64],
+    mode: BorderMode,
+    planes: Axis,
+    rows: Axis,
+    cells: Axis,
+    first: &[i64],
+    second: &[i64],
+    r: usize,
+    q: usize,
+    line: &mut [i64],
+    swept: &mut [i64],
+    out: &mut [i64],
+)
+    requires { ⌜ Laid (borderOf mode) planes rows cells (now weights) (now «data») × Found (borderOf mode) planes (now first) × Found (borderOf mode) rows (now second) × (r < planes .len * rows .len) × (q < planes .side * rows .side) × (length (now line) ≡ cells .left + cells .len + cells .right) × (length (now swept) ≡ cells .len) × (now out ≡ tabulate (rowsTo (borderOf mode) planes rows cells (now weights) (now «data») r q) 0 (cells .len)) ⌝ }
+    ensures { λ _. ⌜ now (out .exit) ≡ tabulate (rowsTo (borderOf mode) planes rows cells (now (weights .entry)) (now («data» .entry)) r (q + 1)) 0 (cells .len) ⌝ }
+{
+    let none = planes.len * rows.len;
+    let i = r / rows.len + q / rows.side;
+    let j = r % rows.len + q % rows.side;
+    let row = row_for(first[i], second[j], rows.len, none);
+    let a = q * cells.side;
+    let e = a + cells.side;
+    sum_row(data, mode, cells, none, row, &weights[a..e], line, swept);
+    add_row(swept, out);
+}
+
+// Sets out to the sums of row r.
+fn correlate_row(
+    data: &[i64],
+    weights: &[i64],
+    mode: BorderMode,
+    planes: Axis,
+    rows: Axis,
+    cells: Axis,
+    first: &[i64],
+    second: &[i64],
+    r: usize,
+    line: &mut [i64],
+    swept: &mut [i64],
+    out: &mut [i64],
+)
+    requires { ⌜ Laid (borderOf mode) planes rows cells (now weights) (now «data») × Found (borderOf mode) planes (now first) × Found (borderOf mode) rows (now second) × (r < planes .len * rows .len) × (length (now line) ≡ cells .left + cells .len + cells .right) × (length (now swept) ≡ cells .len) × (length (now out) ≡ cells .len) ⌝ }
+    ensures { λ _. ⌜ now (out .exit) ≡ tabulate (rowsTo (borderOf mode) planes rows cells (now (weights .entry)) (now («data» .entry)) r (planes .side * rows .side)) 0 (cells .len) ⌝ }
+{
+    array::fill(out, 0);
+    let count = planes.side * rows.side;
+    let mut q = 0;
+    while q < count {
+        add_kernel_row(
+            data,
+            weights,
+            mode,
+            planes,
+            rows,
+            cells,
+            first,
+            second,
+            r,
+            q,
+            line,
+            swept,
+            out,
+        );
+        q += 1;
+    }
+}
+
+// Sets out to the sums of every row.
+pub(crate) fn correlate_rows(
+    data: &[i64],
+    weights: &[i64],
+    mode: BorderMode,
+    planes: Axis,
+    rows: Axis,
+    cells: Axis,
+    first: &[i64],
+    second: &[i64],
+    line: &mut [i64],
+    swept: &mut [i64],
+    out: &mut [i64],
+)
+    requires { ⌜ Laid (borderOf mode) planes rows cells (now weights) (now «data») × Found (borderOf mode) planes (now first) × Found (borderOf mode) rows (now second) × (length (now line) ≡ cells .left + cells .len + cells .right) × (length (now swept) ≡ cells .len) × (length (now out) ≡ length (now «data»)) ⌝ }
+    ensures { λ _. ⌜ now (out .exit) ≡ tabulate (λ k. rowsTo (borderOf mode) planes rows cells (now (weights .entry)) (now («data» .entry)) (k / cells .len) (planes .side * rows .side) (k % cells .len)) 0 (length (now («data» .entry))) ⌝ }
+{
+    let count = planes.len * rows.len;
+    let n = cells.len;
+    let mut r = 0;
+    while r < count {
+        let a = r * n;
+        let e = a + n;
+        correlate_row(
+            data,
+            weights,
+            mode,
+            planes,
+            rows,
+            cells,
+            first,
+            second,
+            r,
+            line,
+            swept,
+            &mut out[a..e],
+        );
+        r += 1;
+    }
+}
