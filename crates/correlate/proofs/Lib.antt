@@ -3,3 +3,4 @@ pub mod Added
 pub mod Lines
 pub mod Sources
 pub mod RowLine
+pub mod Weighed

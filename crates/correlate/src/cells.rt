@@ -1,16 +1,35 @@
 // The rows of the kernel on each row of the grid, one after the other.
 ghost use mathlib.Core.Path.{_≡_};
 ghost use Prim.Native.Nat.{_+_, _*_, _/_, _%_, _<_};
-ghost use lib.ListN.{length};
+ghost use lib.IntN.{pos};
+ghost use lib.ListN.{length, getD};
 ghost use Rattle.numbers.specs.Lists.{tabulate};
 ghost use Rattle.border.specs.Modes.{borderOf};
 ghost use Rattle.correlate.specs.Axes.{Found, Laid};
-ghost use Rattle.correlate.specs.ByRows.{rowsTo};
+ghost use Rattle.correlate.specs.ByRows.{rowFor, Pointed, rowsTo};
 use border::BorderMode;
 use crate::axes::Axis;
 use crate::row::add_row;
 use crate::row::row_for;
 use crate::row::sum_row;
+
+// The row that kernel row q reads for row r: `none`, the number of rows, where a source is −1.
+fn find_row(
+    planes: Axis,
+    rows: Axis,
+    first: &[i64],
+    second: &[i64],
+    r: usize,
+    q: usize,
+    none: usize,
+) -> usize
+    requires { ⌜ Pointed planes rows (now first) (now second) r q ⌝ }
+    ensures { λ f. ⌜ f ≡ rowFor (getD (now (first .entry)) (r / rows .len + q / rows .side) (pos 0)) (getD (now (second .entry)) (r % rows .len + q % rows .side) (pos 0)) (rows .len) none ⌝ }
+{
+    let i = r / rows.len + q / rows.side;
+    let j = r % rows.len + q % rows.side;
+    row_for(first[i], second[j], rows.len, none)
+}
 
 // Adds kernel row q to the sums of row r. The tables have the sources of planes and rows; line and swept are buffers.
 fn add_kernel_row(
@@ -32,9 +51,7 @@ fn add_kernel_row(
     ensures { λ _. ⌜ now (out .exit) ≡ tabulate (rowsTo (borderOf mode) planes rows cells (now (weights .entry)) (now («data» .entry)) r (q + 1)) 0 (cells .len) ⌝ }
 {
     let none = planes.len * rows.len;
-    let i = r / rows.len + q / rows.side;
-    let j = r % rows.len + q % rows.side;
-    let row = row_for(first[i], second[j], rows.len, none);
+    let row = find_row(planes, rows, first, second, r, q, none);
     let a = q * cells.side;
     let e = a + cells.side;
     sum_row(data, mode, cells, none, row, &weights[a..e], line, swept);

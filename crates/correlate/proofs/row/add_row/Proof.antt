@@ -37,7 +37,7 @@ shared-slice-copy-out-out : tie.Need-shared-slice-copy-out-out Inv-loop μ-loop
 shared-slice-copy-out-out c = search needs
 
 add-out : tie.Need-add-out Inv-loop μ-loop
-add-out c = let s = c .before .before .before in added-sum (now (s .args .swept)) (now (s .args .out)) (s .pre .1) (s .pre .2) (omega arith) (c .before .loop .inv .2) .fits
+add-out c = let s = c .before .before .before .before in added-sum (now (s .args .swept)) (now (s .args .out)) (s .pre .1) (s .pre .2) (omega arith) (c .before .before .before .loop .inv .2) .fits
 
 mul-t13 : tie.Need-mul-t13 Inv-loop μ-loop
 mul-t13 c = search needs
@@ -52,7 +52,7 @@ loop-less : tie.Need-loop-less Inv-loop μ-loop
 loop-less c = search needs
 
 loop-again : tie.Need-loop-again Inv-loop μ-loop
-loop-again c = let s = c .before .before .before .before .before in
+loop-again c = let s = c .before .before .before .before in
     let l = c .before .before .before .loop in
     (search needs, l .inv .1, added-more (now (s .args .swept)) (now (s .args .out)) (s .pre .1) (s .pre .2) (omega arith) (l .inv .2))
 

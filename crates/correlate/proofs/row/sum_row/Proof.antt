@@ -1,3 +1,13 @@
+-- `correlate::row::sum_row` meets its contract: the sums along the row that was loaded.
+-- Assumes nothing.
+use mathlib.Core.Path.{_≡_, _∙_}
+use Prim.Native.Nat.{ℕ}
+use denote.Ref.{now}
+use mathlib.Core.List.{List}
+use lib.IntN.{ℤ}
+use Rattle.symmetry.specs.declared.SymmetryState.the-variants.{NonSymmetric}
+use Rattle.correlation.specs.Weighed.{wholeOps, weighedLine}
+use Rattle.correlate.proofs.Weighed.{ready-weighable}
 use borrow.Author.Needs.{needs}
 use Rattle.correlate.proofs.row.sum_row.Statement.{statement}
 use Rattle.correlate.proofs.row.sum_row.Tie as tie
@@ -7,29 +17,25 @@ use Rattle.correlate.proofs.row.load_row.Reads as load-row-reads
 use Rattle.correlate_line.proofs.correlate_line.Reads as correlate-line-reads
 use Rattle.symmetry.proofs.symmetry_state_i64.Reads as symmetry-state-i64-reads
 
--- src/row.rt:88:5
 load-row-requires : tie.Need-load-row-requires
 load-row-requires c κs = search needs
 
--- src/row.rt:89:9
 symmetry-state-i64-requires : tie.Need-symmetry-state-i64-requires
 symmetry-state-i64-requires c κs = search needs
 
--- src/row.rt:90:5
 correlate-line-requires : tie.Need-correlate-line-requires
-correlate-line-requires c κs = ?
+correlate-line-requires c κs = let s = c .before .before .before .before .before .before in
+    (ready-weighable (s .pre) _ (c .before .before .before .before .load-row .ensures) _ (s .pre .swept-long), c .before .before .symmetry-state-i64 .ensures)
 
--- src/row.rt:75:1
 same-length : tie.Need-same-length
 same-length c = search needs
 
--- src/row.rt:75:1
 same-length-2 : tie.Need-same-length-2
 same-length-2 c = search needs
 
--- src/row.rt:75:1
 returns : tie.Need-returns
-returns c = ?
+returns c = let s = c .before .before .before .before .before .before .before .before in
+    c .before .correlate-line .ensures ∙ (λ j. weighedLine wholeOps NonSymmetric (now (s .args .weights)) (c .before .before .before .before .before .before .load-row .ensures j) (s .pre .swept-long j))
 
 pub sum-row-spec : {M : Type 1} → statement M
 sum-row-spec =

@@ -1,0 +1,69 @@
+-- A padded row and its weights are small enough for the sums of a line, and the sums are the row sums of the definition.
+-- Assumes nothing.
+use mathlib.Core.Path.{_≡_, refl, sym, ap, subst, _∙_}
+use mathlib.Core.Bool.{Bool, false}
+use mathlib.Core.List.{List, [], _∷_}
+use Prim.Native.Nat.{ℕ, _+_, _-_, _*_, _/_, _%_, _^_, _≤_, _<_}
+use native.Mathlib.Omega.{arith}
+use lib.IntN.{ℤ, pos, negℤ, _+ℤ_, _*ℤ_}
+use lib.ListN.{length, getD, take, drop}
+use lib.Seq.{getD-take, getD-drop}
+use Rattle.numbers.specs.Lists.{tabulate, anyOf}
+use Rattle.numbers.specs.Ranges.{outsideZ}
+use Rattle.numbers.proofs.Size.{size-le, size-inside, inside-sized}
+use Rattle.numbers.proofs.Tabulate.{tabulate-agree}
+use Rattle.numbers.proofs.Tests.{or-false, or-no}
+use Rattle.array.specs.Conditions.{badLevel}
+use Rattle.border.specs.Border.{Border, constant, along, extendedGrid}
+use Rattle.border.specs.Modes.{badConstantBy}
+use Rattle.symmetry.specs.declared.SymmetryState.the-variants.{NonSymmetric}
+use Rattle.correlation.specs.Weighed.{summed, wholeOps, weighedLine}
+use Rattle.correlation.proofs.Summed.{summed-agree}
+use Rattle.correlate_line.specs.Sizes.{Weighable}
+use Rattle.correlate.specs.declared.axes.Axis.{Axis}
+use Rattle.correlate.specs.Axes.{Serves, readAt, sourceFor}
+use Rattle.correlate.specs.ByRows.{three, rowFor, rowLine, rowSum, Ready}
+use Rattle.correlate.proofs.RowLine.{length-line, any-line, row-level}
+use Rattle.correlate.proofs.Sources.{reads-in, read-place, read-in}
+
+-- ---- a level is within the limit of a line's cells
+any-imp : {A : Type 0} (t u : A → Bool) → ((x : A) → t x ≡ false → u x ≡ false) → (s : List A) → anyOf t s ≡ false → anyOf u s ≡ false
+any-imp t u f [] e = refl
+any-imp t u f (x ∷ s) e = let p = or-false (t x) (anyOf t s) e in or-no (u x) (anyOf u s) (f x (p .0)) (any-imp t u f s (p .1))
+
+level-wide : (x : ℤ) → badLevel x ≡ false → outsideZ (negℤ (pos (2 ^ 38))) (pos (2 ^ 38)) x ≡ false
+unfolding badLevel
+level-wide x e = inside-sized (2 ^ 38) x (size-le (size-inside (2 ^ 31 - 1) x e) (omega arith))
+
+constant-wide : (b : Border ℤ) → badConstantBy badLevel b ≡ false → badConstantBy (outsideZ (negℤ (pos (2 ^ 38))) (pos (2 ^ 38))) b ≡ false
+constant-wide (constant c) e = level-wide c e
+constant-wide (along m) e = refl
+
+pub ready-weighable : {b : Border ℤ} {z : Axis} {none row : ℕ} {w cells line swept : List ℤ} → Ready b z none row w cells line swept → (s : List ℤ) → s ≡ rowLine b z none row cells → (n : ℕ) → n ≡ z .len → Weighable w s n
+ready-weighable {b} {z} {none} {row} {w} {cells} {line} {swept} R s e n k =
+    let S = R .axis in
+    let l : length s ≡ z .left + z .len + z .right = ap length e ∙ length-line b z none row cells in record {
+      some = omega (arith, S .some-side, R .many);
+      few = omega (arith, S .wide, S .pads, R .many);
+      long = omega (arith, S .wide, R .many);
+      short = omega (arith, S .short, S .pads);
+      weights = R .weights;
+      cells =
+          ap (anyOf (outsideZ (negℤ (pos (2 ^ 38))) (pos (2 ^ 38)))) e
+          ∙ any-line b z none row cells _ refl (constant-wide b (R .level)) (any-imp badLevel _ level-wide cells (R .levels));
+    }
+
+-- ---- the sums of kernel row q on row r
+module _ (b : Border ℤ) (x y z : Axis) (w cells : List ℤ) (r q : ℕ) (X : Serves b x) (Y : Serves b y) (Z : Serves b z) (hr : r < x .len * y .len) (hq : q < x .side * y .side) where
+  abbrev u : ℤ
+  u = readAt x (r / y .len) (q / y .side)
+
+  abbrev v : ℤ
+  v = readAt y (r % y .len) (q % y .side)
+
+  abbrev source : ℕ
+  source = rowFor (sourceFor b (x .len) u) (sourceFor b (y .len) v) (y .len) (x .len * y .len)
+
+  pub sum-is : (part : List ℤ) → length part ≡ z .side → ((j : ℕ) → j < z .side → getD part j (pos 0) ≡ getD w (q * z .side + j) (pos 0)) → (i : ℕ) → i < z .len
+      → summed _+ℤ_ (pos 0) (λ j. getD (rowLine b z (x .len * y .len) source cells) (i + j) (pos 0) *ℤ getD part j (pos 0)) (length part) ≡ rowSum b x y z w cells r q i
+  sum-is part e own i h = ?
