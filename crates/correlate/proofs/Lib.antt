@@ -6,3 +6,4 @@ pub mod RowLine
 pub mod Weighed
 pub mod Turn
 pub mod SumSizes
+pub mod EveryRow
