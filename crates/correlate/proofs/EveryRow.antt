@@ -91,6 +91,9 @@ module _ {b : Border ℤ} {x y z : Axis} {w cells : List ℤ} (L : Laid b x y z 
         let p : r < x .len * y .len = omega (arith, S .count-is) in
         subst (λ (m : ℕ). r * m + m ≤ length out) (sym (S .length-is)) (omega (arith, step-le (z .len) p, S .kept, L .count))
 
+    pub part-long : r < count → length (midOf (r * n) (r * n + n - r * n) out) ≡ z .len
+    part-long h = mid-len (r * n) (r * n + n) out (row-room h) ∙ omega (arith, S .length-is)
+
     -- one row more
     pub storing-more : {line′ swept′ part out′ : List ℤ} → r < count → length line′ ≡ length line → length swept′ ≡ length swept
         → part ≡ tabulate (rowsTo b x y z w cells r (x .side * y .side)) 0 (z .len) → out′ ≡ putMid (r * n) (r * n + n - r * n) out part

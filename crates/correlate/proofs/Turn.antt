@@ -62,6 +62,9 @@ any-take t s zero e = refl
 any-take t [] (suc k) e = refl
 any-take t (x ∷ s) (suc k) e = let p = or-false (t x) (anyOf t s) e in or-no (t x) (anyOf t (take k s)) (p .0) (any-take t s k (p .1))
 
+pub rows-small : {b : Border ℤ} {x y z : Axis} {w cells : List ℤ} → Laid b x y z w cells → x .len * y .len ≤ 8192
+rows-small {x = x} {y = y} L = omega (arith, mul-le-mul (le-refl (x .len * y .len)) (L .row .some), L .count, L .small)
+
 module _ {b : Border ℤ} {x y z : Axis} {w cells : List ℤ} (L : Laid b x y z w cells) {r q : ℕ} (hr : r < x .len * y .len) (hq : q < x .side * y .side) where
   -- ---- the coordinates of row and kernel row
   plane-in : r / y .len < x .len
@@ -88,9 +91,6 @@ module _ {b : Border ℤ} {x y z : Axis} {w cells : List ℤ} (L : Laid b x y z 
   reads-v : ReadsIn b (y .len) v
   reads-v = read-in b y (L .rows) (r % y .len) (q % y .side) row-in kernel-row-in
 
-  pub rows-small : x .len * y .len ≤ 8192
-  rows-small = omega (arith, mul-le-mul (le-refl (x .len * y .len)) (L .row .some), L .count, L .small)
-
   -- ---- the row that is read
   module _ {first second : List ℤ} (F : Found b x first) (G : Found b y second) where
     first-is : getD first (r / y .len + q / y .side) (pos 0) ≡ sourceFor b (x .len) u
@@ -104,7 +104,7 @@ module _ {b : Border ℤ} {x y z : Axis} {w cells : List ℤ} (L : Laid b x y z 
       some = L .rows .some;
       short = L .rows .short;
       some-side = L .rows .some-side;
-      rows = rows-small;
+      rows = rows-small L;
       in-first = omega (arith, F .long, plane-in, kernel-plane-in, L .planes .wide, L .planes .pads, L .planes .short);
       in-second = omega (arith, G .long, row-in, kernel-row-in, L .rows .wide, L .rows .pads, L .rows .short);
       long-first = F .long;

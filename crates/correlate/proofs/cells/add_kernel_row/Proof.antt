@@ -14,7 +14,7 @@ use Rattle.correlate.proofs.row.add_row.Reads as add-row-reads
 use Rattle.correlate.proofs.row.sum_row.Reads as sum-row-reads
 
 mul-none : tie.Need-mul-none
-mul-none c = let s = c .before .before in omega (arith, rows-small (s .pre .0) (s .pre .3) (s .pre .4))
+mul-none c = let s = c .before .before in omega (arith, rows-small (s .pre .0))
 
 find-row-requires : tie.Need-find-row-requires
 find-row-requires c κs = let s = c .before .before in pointed (s .pre .0) (s .pre .3) (s .pre .4) (s .pre .1) (s .pre .2)

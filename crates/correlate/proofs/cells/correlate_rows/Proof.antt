@@ -1,3 +1,12 @@
+-- `correlate::cells::correlate_rows` meets its contract: each turn stores the sums of one row.
+-- Assumes nothing.
+use mathlib.Core.Path.{_≡_, refl, sym, _∙_}
+use Prim.Native.Nat.{_-_}
+use native.Mathlib.Omega.{arith}
+use Rattle.border.specs.Modes.{borderOf}
+use Rattle.correlate.proofs.EveryRow.{Storing, storing-none, row-room, part-long, storing-more, storing-all}
+use Rattle.correlate.proofs.Turn.{rows-small}
+use borrow.Author.Needs.{needs}
 use Rattle.correlate.proofs.cells.correlate_rows.Statement.{statement}
 use Rattle.correlate.proofs.cells.correlate_rows.Tie as tie
 use Rattle.correlate.proofs.cells.correlate_rows.Reads as reads
@@ -6,75 +15,64 @@ use Rattle.correlate.proofs.cells.correlate_row.Reads as correlate-row-
 
 abbrev Inv-loop : tie.InvT-loop
 Inv-loop «data» weights mode planes rows cells first second line₀ swept₀ out₀ count n r₀ line swept out r =
-    ?
+    Storing (borderOf mode) planes rows cells weights «data» count n r line swept out
 
 abbrev μ-loop : tie.MeasureT-loop
 μ-loop «data» weights mode planes rows cells first second line₀ swept₀ out₀ count n r₀ line swept out r =
-    ?
+    count - r
 
--- src/cells.rt:119:17
 mul-count : tie.Need-mul-count Inv-loop μ-loop
-mul-count c = ?
+mul-count c = omega (arith, rows-small (c .before .before .pre .0))
 
--- src/cells.rt:122:5
 loop-holds : tie.Need-loop-holds Inv-loop μ-loop
-loop-holds c = ?
+loop-holds c = let s = c .before .before in storing-none (s .pre .0) (s .pre .3) (s .pre .4) (s .pre .5)
 
--- src/cells.rt:123:17
 mul-a : tie.Need-mul-a Inv-loop μ-loop
-mul-a c = ?
+mul-a c = let s = c .before .before .before .before in let l = c .before .loop in omega (arith, row-room (s .pre .0) (l .inv) (search needs), l .inv .kept, s .pre .0 .small)
 
--- src/cells.rt:124:17
 add-e : tie.Need-add-e Inv-loop μ-loop
-add-e c = ?
+add-e c = let s = c .before .before .before .before in let l = c .before .loop in omega (arith, row-room (s .pre .0) (l .inv) (search needs), l .inv .kept, s .pre .0 .small)
 
--- src/cells.rt:137:13
 mul-correlate-row : tie.Need-mul-correlate-row Inv-loop μ-loop
-mul-correlate-row c = ?
+mul-correlate-row c = let s = c .before .before .before .before .before .before in let l = c .before .before .before .loop in omega (arith, row-room (s .pre .0) (l .inv) (search needs), l .inv .kept, s .pre .0 .small)
 
--- src/cells.rt:137:13
 sub-correlate-row : tie.Need-sub-correlate-row Inv-loop μ-loop
-sub-correlate-row c = ?
+sub-correlate-row c = search needs
 
--- src/cells.rt:137:13
 part-correlate-row-start : tie.Need-part-correlate-row-start Inv-loop μ-loop
-part-correlate-row-start c = ?
+part-correlate-row-start c = search needs
 
--- src/cells.rt:137:13
 part-correlate-row-end : tie.Need-part-correlate-row-end Inv-loop μ-loop
-part-correlate-row-end c = ?
+part-correlate-row-end c = let s = c .before .before .before .before .before .before in let l = c .before .before .before .loop in row-room (s .pre .0) (l .inv) (search needs)
 
--- src/cells.rt:125:9
 correlate-row-requires : tie.Need-correlate-row-requires Inv-loop μ-loop
-correlate-row-requires c κs = ?
+correlate-row-requires c κs = let s = c .before .before .before .before .before .before .before in
+    let l = c .before .before .before .before .loop in
+    (s .pre .0, s .pre .1, s .pre .2, omega (arith, l .inv .count-is), l .inv .line-long, l .inv .swept-long, part-long (s .pre .0) (l .inv) (search needs))
 
--- src/cells.rt:139:9
 add-r : tie.Need-add-r Inv-loop μ-loop
-add-r c = ?
+add-r c = omega (arith, rows-small (c .before .before .before .before .before .before .before .before .before .before .before .pre .0), c .before .before .before .before .before .before .before .before .loop .inv .count-is)
 
--- src/cells.rt:122:5
 loop-less : tie.Need-loop-less Inv-loop μ-loop
-loop-less c = ?
+loop-less c = search needs
 
--- src/cells.rt:122:5
 loop-again : tie.Need-loop-again Inv-loop μ-loop
-loop-again c = ?
+loop-again c = let s = c .before .before .before .before .before .before .before .before .before .before .before in
+    let l = c .before .before .before .before .before .before .before .before .loop in
+    let k = c .before .before .before .correlate-row in
+    storing-more (s .pre .0) (l .inv) (search needs) (k .kept .1 .1 .1 .1 .1 .1 .1 .1 .1 .0) (k .kept .1 .1 .1 .1 .1 .1 .1 .1 .1 .1 .0) (k .ensures) refl
 
--- src/cells.rt:103:1
 same-length : tie.Need-same-length Inv-loop μ-loop
-same-length c = ?
+same-length c = c .before .loop .inv .line-long ∙ sym (c .before .before .before .before .pre .3)
 
--- src/cells.rt:103:1
 same-length-2 : tie.Need-same-length-2 Inv-loop μ-loop
-same-length-2 c = ?
+same-length-2 c = c .before .loop .inv .swept-long ∙ sym (c .before .before .before .before .pre .4)
 
--- src/cells.rt:103:1
 same-length-3 : tie.Need-same-length-3 Inv-loop μ-loop
-same-length-3 c = ?
+same-length-3 c = c .before .loop .inv .kept ∙ sym (c .before .before .before .before .pre .5)
 
--- src/cells.rt:103:1
 returns : tie.Need-returns Inv-loop μ-loop
-returns c = ?
+returns c = storing-all (c .before .before .before .before .pre .0) (c .before .loop .inv) (search needs)
 
 pub correlate-rows-spec : {M : Type 1} → statement M
 correlate-rows-spec =
