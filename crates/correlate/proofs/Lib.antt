@@ -7,3 +7,6 @@ pub mod Weighed
 pub mod Turn
 pub mod SumSizes
 pub mod EveryRow
+pub mod Sums
+pub mod ThreeAxes
+pub mod Accepted

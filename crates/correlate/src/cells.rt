@@ -8,6 +8,7 @@ ghost use Rattle.border.specs.Modes.{borderOf};
 ghost use Rattle.correlate.specs.Axes.{Found, Laid};
 ghost use Rattle.correlate.specs.ByRows.{rowFor, Pointed, rowsTo};
 use border::BorderMode;
+use crate::axes::find_sources;
 use crate::axes::Axis;
 use crate::row::add_row;
 use crate::row::row_for;
@@ -100,7 +101,7 @@ fn correlate_row(
 }
 
 // Sets out to the sums of every row.
-pub(crate) fn correlate_rows(
+fn correlate_rows(
     data: &[i64],
     weights: &[i64],
     mode: BorderMode,
@@ -138,4 +139,40 @@ pub(crate) fn correlate_rows(
         );
         r += 1;
     }
+}
+
+// The same, with buffers of its own: the sources of planes and rows, the line and the row of sums.
+pub(crate) fn correlate_three(
+    data: &[i64],
+    weights: &[i64],
+    mode: BorderMode,
+    planes: Axis,
+    rows: Axis,
+    cells: Axis,
+    out: &mut [i64],
+)
+    requires { ⌜ Laid (borderOf mode) planes rows cells (now weights) (now «data») × (length (now out) ≡ length (now «data»)) ⌝ }
+    ensures { λ _. ⌜ now (out .exit) ≡ tabulate (λ k. rowsTo (borderOf mode) planes rows cells (now (weights .entry)) (now («data» .entry)) (k / cells .len) (planes .side * rows .side) (k % cells .len)) 0 (length (now («data» .entry))) ⌝ }
+{
+    let mut first = [0; 1088];
+    find_sources(mode, planes, &mut first);
+    let mut second = [0; 1088];
+    find_sources(mode, rows, &mut second);
+    let mut line = [0; 1088];
+    let mut swept = [0; 1024];
+    let n = cells.len;
+    let total = cells.left + n + cells.right;
+    correlate_rows(
+        data,
+        weights,
+        mode,
+        planes,
+        rows,
+        cells,
+        &first,
+        &second,
+        &mut line[..total],
+        &mut swept[..n],
+        out,
+    );
 }

@@ -26,27 +26,7 @@ pub fn correlate_cells(
     let planes = axes::axis_from(shape, 2, side, left, right);
     let rows = axes::axis_from(shape, 1, side, left, right);
     let cells = axes::axis_from(shape, 0, side, left, right);
-    let mut first = [0; 1088];
-    axes::find_sources(mode, planes, &mut first);
-    let mut second = [0; 1088];
-    axes::find_sources(mode, rows, &mut second);
-    let mut line = [0; 1088];
-    let mut swept = [0; 1024];
-    let n = cells.len;
-    let total = left + n + right;
-    cells::correlate_rows(
-        data,
-        weights,
-        mode,
-        planes,
-        rows,
-        cells,
-        &first,
-        &second,
-        &mut line[..total],
-        &mut swept[..n],
-        out,
-    );
+    cells::correlate_three(data, weights, mode, planes, rows, cells, out);
 }
 
 // Worked rows of this crate's definitions. Refuses nothing.
