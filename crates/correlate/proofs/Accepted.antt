@@ -1,14 +1,14 @@
 -- What the worker supposes, on three axes: the axes serve, grid and kernel are laid on them, and their sums are the answer.
 -- Assumes nothing.
-use mathlib.Core.Path.{_≡_, refl, sym, ap, subst, _∙_}
+use mathlib.Core.Path.{_≡_, refl, sym, subst, _∙_}
 use mathlib.Core.Bool.{Bool, true, false, cond}
 use mathlib.Core.List.{List, [], _∷_}
-use Prim.Native.Nat.{ℕ, _+_, _-_, _*_, _/_, _%_, _≤_, _<_}
+use Prim.Native.Nat.{ℕ, _+_, _-_, _*_, _≤_, _<_}
 use native.Mathlib.Nat.{one-mul}
 use native.Mathlib.Omega.{arith}
 use borrow.Author.Tests.{leb-false}
 use lib.Dec.{leb}
-use lib.IntN.{ℤ, pos}
+use lib.IntN.{ℤ}
 use lib.ListN.{length}
 use Rattle.numbers.specs.Lists.{tabulate}
 use Rattle.numbers.proofs.Tabulate.{tabulate-agree}
@@ -16,7 +16,6 @@ use Rattle.array.specs.Grid.{cellCount, lengthOf}
 use Rattle.array.proofs.Places.{length-pos}
 use Rattle.array.proofs.Shapes.{Accepted, shape-accepted}
 use Rattle.border.specs.Border.{Border, constant, along}
-use Rattle.border.specs.declared.Along.{Along}
 use Rattle.border.specs.declared.Along.the-variants.{Nearest, Mirror, Reflect, Wrap}
 use Rattle.pad_line.specs.Line.{badPad}
 use Rattle.correlate.specs.declared.axes.Axis.{Axis}

@@ -3,14 +3,14 @@
 use mathlib.Core.Path.{_≡_, refl, sym, ap, subst, _∙_}
 use mathlib.Core.Bool.{Bool, true, false, _&&_, cond, and-true, true≢false}
 use mathlib.Core.List.{List, [], _∷_, _++_, append-nil}
-use Prim.Native.Nat.{ℕ, _+_, _-_, _*_, _≤_, _<_}
+use Prim.Native.Nat.{ℕ, _+_, _*_, _≤_, _<_}
 use native.Mathlib.Nat.{add-mul, mul-assoc, mul-one}
 use native.Mathlib.Omega.{arith}
 use borrow.Author.Tests.{eq-eqb, ne-eqb, ltb-true}
 use lib.Arith.{digits-lt}
-use lib.Dec.{ltb, eqb}
+use lib.Dec.{eqb}
 use lib.IntN.{ℤ, pos, negsuc, natAbs, _-ℤ_}
-use lib.ListN.{length, getD, replicate, drop, length-replicate, getD-replicate, drop-of-length-le}
+use lib.ListN.{length, getD, replicate, length-replicate, getD-replicate, drop-of-length-le}
 use Rattle.numbers.specs.Lists.{anyOf}
 use Rattle.numbers.proofs.Tabulate.{tabulate-replicate}
 use Rattle.numbers.proofs.Tests.{cond-yes, cond-no}

@@ -2,20 +2,19 @@
 -- Assumes nothing.
 use mathlib.Core.Path.{_≡_, refl, sym, ap, subst, _∙_}
 use mathlib.Core.Bool.{Bool, true, false, cond, true≢false}
-use mathlib.Core.Logic.{_⊎_, inl, inr}
 use mathlib.Core.List.{List}
 use Prim.Native.Nat.{ℕ, suc, _+_, _-_, _*_, _≤_, _<_}
 use native.Mathlib.Omega.{arith}
 use borrow.Author.Tests.{ltb-true, ltb-false}
 use lib.Dec.{ltb}
-use lib.IntN.{ℤ, pos, negsuc, negℤ, natAbs, _+ℤ_, _-ℤ_}
+use lib.IntN.{ℤ, pos, negsuc, negℤ, natAbs, _-ℤ_}
 use lib.ListN.{length, getD}
 use Rattle.numbers.specs.Lists.{tabulate}
 use Rattle.numbers.proofs.IntSum.{minus-pos, minus-neg, +ℤ-right-comm}
 use Rattle.numbers.proofs.Tabulate.{length-tabulate, getD-tabulate}
 use Rattle.lanes.specs.Lanes.{lane, laneBase}
 use Rattle.lanes.proofs.Cells.{length-laneAt}
-use Rattle.border.specs.Border.{Border, constant, along, cellBefore, cellAfter, cellFor, inside, extendedLane}
+use Rattle.border.specs.Border.{Border, constant, along, cellAfter, cellFor, inside, extendedLane}
 use Rattle.border.specs.declared.Along.{Along}
 use Rattle.pad_line.specs.Line.{badAlong, badPad, paddedAt, paddedLane}
 use Rattle.pad_line.proofs.Reach.{cell-before-in, cell-after-in}

@@ -3,10 +3,10 @@
 use mathlib.Core.Path.{_≡_, sym, ap, _∙_}
 use mathlib.Core.Bool.{Bool, true, false, cond}
 use mathlib.Core.List.{List, [], _∷_}
-use Prim.Native.Nat.{ℕ, _+_, _-_, _*_, _/_, _%_, _^_, _≤_}
-use native.Mathlib.Nat.{mul-le-mul, le-refl}
+use Prim.Native.Nat.{ℕ, _+_, _-_, _*_, _^_, _≤_}
+use native.Mathlib.Nat.{mul-le-mul}
 use native.Mathlib.Omega.{arith}
-use lib.IntN.{ℤ, pos, negℤ, natAbs, _+ℤ_}
+use lib.IntN.{ℤ, pos, negℤ, natAbs}
 use lib.ListN.{length, getD}
 use Rattle.numbers.specs.Lists.{tabulate, anyOf}
 use Rattle.numbers.specs.Ranges.{outsideZ}
@@ -71,7 +71,8 @@ module _ {b : Border ℤ} {x y z : Axis} {w cells : List ℤ} (L : Laid b x y z 
   -- what adding the sums of one kernel row to those before it supposes
   pub sums-addable : (q n : ℕ) {swept out : List ℤ} → q ≤ x .side * y .side → swept ≡ tabulate (rowSum b x y z w cells r q) 0 n → out ≡ tabulate (rowsTo b x y z w cells r q) 0 n
       → (length swept ≡ length out) × (anyOf (outsideZ (negℤ (pos (2 ^ 61))) (pos (2 ^ 61))) swept ≡ false) × (anyOf (outsideZ (negℤ (pos (2 ^ 61))) (pos (2 ^ 61))) out ≡ false)
-  sums-addable q n h e f =
-      (ap length e ∙ length-tabulate (rowSum b x y z w cells r q) 0 n ∙ sym (ap length f ∙ length-tabulate (rowsTo b x y z w cells r q) 0 n),
-      ap (anyOf _) e ∙ row-small q n,
-      ap (anyOf _) f ∙ rows-small q n h)
+  sums-addable q n h e f = (
+    ap length e ∙ length-tabulate (rowSum b x y z w cells r q) 0 n ∙ sym (ap length f ∙ length-tabulate (rowsTo b x y z w cells r q) 0 n),
+    ap (anyOf _) e ∙ row-small q n,
+    ap (anyOf _) f ∙ rows-small q n h,
+  )

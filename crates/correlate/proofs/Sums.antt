@@ -1,6 +1,6 @@
 -- A sum of rows: summing over all cells is summing row by row.
 -- Assumes nothing.
-use mathlib.Core.Path.{_≡_, refl, sym, ap, _∙_}
+use mathlib.Core.Path.{_≡_, sym, ap, _∙_}
 use Prim.Native.Nat.{ℕ, zero, suc, _+_, _*_}
 use native.Mathlib.Nat.{suc-mul, add-zero, add-suc}
 use native.Mathlib.Omega.{arith}

@@ -3,17 +3,15 @@
 use mathlib.Core.Path.{_≡_, refl, sym, ap, subst, _∙_}
 use mathlib.Core.Bool.{Bool, true, false, cond, true≢false}
 use mathlib.Core.List.{List, [], _∷_}
-use Prim.Native.Nat.{ℕ, zero, suc, _+_, _-_, _*_, _/_, _%_, _^_, _≤_, _<_}
+use Prim.Native.Nat.{ℕ, zero, suc, _+_, _-_, _*_, _/_, _%_, _≤_, _<_}
 use native.Mathlib.Nat.{mod-lt, div-lt-iff-lt-mul, mul-le-mul, le-refl}
 use native.Mathlib.Omega.{arith}
 use borrow.Author.Tests.{ltb-true}
 use lib.Arith.{digits-lt}
-use lib.Dec.{ltb}
-use lib.IntN.{ℤ, pos, negsuc, negℤ, natAbs, _+ℤ_, _-ℤ_, _*ℤ_}
+use lib.IntN.{ℤ, pos, negsuc, natAbs, _+ℤ_, _*ℤ_}
 use lib.ListN.{length, getD, take, drop, length-take, length-drop}
 use lib.Seq.{getD-take, getD-drop}
 use Rattle.numbers.specs.Lists.{tabulate, anyOf}
-use Rattle.numbers.specs.Ranges.{outsideZ}
 use Rattle.numbers.proofs.Tests.{or-false, or-no}
 use Rattle.numbers.proofs.Tabulate.{length-tabulate, getD-tabulate, tabulate-agree}
 use Rattle.lanes.proofs.Cells.{step-le}
@@ -22,7 +20,7 @@ use Rattle.symmetry.specs.declared.SymmetryState.the-variants.{NonSymmetric}
 use Rattle.correlation.specs.Weighed.{summed, wholeOps, weighedLine}
 use Rattle.correlation.proofs.Summed.{summed-agree, summed-more}
 use Rattle.correlate.specs.declared.axes.Axis.{Axis}
-use Rattle.correlate.specs.Axes.{Serves, readAt, sourceFor, Found, Laid}
+use Rattle.correlate.specs.Axes.{readAt, sourceFor, Found, Laid}
 use Rattle.correlate.specs.ByRows.{three, rowFor, sourceRow, rowLine, rowSum, rowsTo, Pointed, Ready}
 use Rattle.correlate.proofs.RowLine.{row-level}
 use Rattle.correlate.proofs.Sources.{ReadsIn, reads-in, read-place, read-in}

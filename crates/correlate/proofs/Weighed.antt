@@ -1,30 +1,23 @@
 -- A padded row and its weights are small enough for the sums of a line.
 -- Assumes nothing.
-use mathlib.Core.Path.{_≡_, refl, sym, ap, subst, _∙_}
+use mathlib.Core.Path.{_≡_, refl, ap, _∙_}
 use mathlib.Core.Bool.{Bool, false}
 use mathlib.Core.List.{List, [], _∷_}
-use Prim.Native.Nat.{ℕ, _+_, _-_, _*_, _/_, _%_, _^_, _≤_, _<_}
+use Prim.Native.Nat.{ℕ, _+_, _-_, _^_}
 use native.Mathlib.Omega.{arith}
-use lib.IntN.{ℤ, pos, negℤ, _+ℤ_, _*ℤ_}
-use lib.ListN.{length, getD, take, drop}
-use lib.Seq.{getD-take, getD-drop}
-use Rattle.numbers.specs.Lists.{tabulate, anyOf}
+use lib.IntN.{ℤ, pos, negℤ}
+use lib.ListN.{length}
+use Rattle.numbers.specs.Lists.{anyOf}
 use Rattle.numbers.specs.Ranges.{outsideZ}
 use Rattle.numbers.proofs.Size.{size-le, size-inside, inside-sized}
-use Rattle.numbers.proofs.Tabulate.{tabulate-agree}
 use Rattle.numbers.proofs.Tests.{or-false, or-no}
 use Rattle.array.specs.Conditions.{badLevel}
-use Rattle.border.specs.Border.{Border, constant, along, extendedGrid}
+use Rattle.border.specs.Border.{Border, constant, along}
 use Rattle.border.specs.Modes.{badConstantBy}
-use Rattle.symmetry.specs.declared.SymmetryState.the-variants.{NonSymmetric}
-use Rattle.correlation.specs.Weighed.{summed, wholeOps, weighedLine}
-use Rattle.correlation.proofs.Summed.{summed-agree}
 use Rattle.correlate_line.specs.Sizes.{Weighable}
 use Rattle.correlate.specs.declared.axes.Axis.{Axis}
-use Rattle.correlate.specs.Axes.{Serves, readAt, sourceFor}
-use Rattle.correlate.specs.ByRows.{three, rowFor, rowLine, rowSum, Ready}
-use Rattle.correlate.proofs.RowLine.{length-line, any-line, row-level}
-use Rattle.correlate.proofs.Sources.{reads-in, read-place, read-in}
+use Rattle.correlate.specs.ByRows.{rowLine, Ready}
+use Rattle.correlate.proofs.RowLine.{length-line, any-line}
 
 -- ---- a level is within the limit of a line's cells
 any-imp : {A : Type 0} (t u : A → Bool) → ((x : A) → t x ≡ false → u x ≡ false) → (s : List A) → anyOf t s ≡ false → anyOf u s ≡ false

@@ -7,12 +7,12 @@ ghost use Rattle.numbers.specs.Lists.{tabulate};
 ghost use Rattle.border.specs.Modes.{borderOf};
 ghost use Rattle.correlate.specs.Axes.{Found, Laid};
 ghost use Rattle.correlate.specs.ByRows.{rowFor, Pointed, rowsTo};
-use border::BorderMode;
-use crate::axes::find_sources;
 use crate::axes::Axis;
+use crate::axes::find_sources;
 use crate::row::add_row;
 use crate::row::row_for;
 use crate::row::sum_row;
+use border::BorderMode;
 
 // The row that kernel row q reads for row r: `none`, the number of rows, where a source is −1.
 fn find_row(

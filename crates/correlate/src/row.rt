@@ -11,8 +11,8 @@ ghost use Rattle.border.specs.Modes.{borderOf};
 ghost use Rattle.correlation.specs.Weighed.{wholeOps, weighedLine};
 ghost use Rattle.correlate.specs.Axes.{Serves};
 ghost use Rattle.correlate.specs.ByRows.{rowFor, constantOf, rowLine, Ready};
-use border::BorderMode;
 use crate::axes::Axis;
+use border::BorderMode;
 
 // The row of two sources, with `per` rows in a plane; `none` where one of them is −1.
 pub(crate) fn row_for(i: i64, j: i64, per: usize, none: usize) -> usize
@@ -44,14 +44,7 @@ fn constant_of(mode: BorderMode) -> i64
 }
 
 // Sets the line to the padded row, or to the constant where there is no row.
-fn load_row(
-    data: &[i64],
-    mode: BorderMode,
-    axis: Axis,
-    none: usize,
-    row: usize,
-    line: &mut [i64],
-)
+fn load_row(data: &[i64], mode: BorderMode, axis: Axis, none: usize, row: usize, line: &mut [i64])
     requires { ⌜ Serves (borderOf mode) axis × (length (now «data») ≤ 8192) × ((row ≡ none → ⊥) → row * axis .len + axis .len ≤ length (now «data»)) × (length (now line) ≡ axis .left + axis .len + axis .right) ⌝ }
     ensures { λ _. ⌜ now (line .exit) ≡ rowLine (borderOf mode) axis none row (now («data» .entry)) ⌝ }
 {
@@ -59,16 +52,7 @@ fn load_row(
         array::fill(line, constant_of(mode));
         return;
     }
-    pad_line::pad_lane(
-        data,
-        1,
-        row,
-        axis.len,
-        mode,
-        axis.left,
-        axis.right,
-        line,
-    );
+    pad_line::pad_lane(data, 1, row, axis.len, mode, axis.left, axis.right, line);
 }
 
 // Sets each cell of swept to the weighted sum of its window of the padded row.

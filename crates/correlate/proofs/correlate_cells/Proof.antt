@@ -4,10 +4,6 @@ use Rattle.correlate.proofs.Accepted.{laid-on, answered}
 use borrow.Author.Needs.{needs}
 use Rattle.correlate.proofs.correlate_cells.Statement.{statement}
 use Rattle.correlate.proofs.correlate_cells.Tie as tie
-use Rattle.correlate.proofs.correlate_cells.Reads as reads
-use Rattle.correlate.proofs.correlate_cells.Lts as lts
-use Rattle.correlate.proofs.axes.axis_from.Reads as axis-from-reads
-use Rattle.correlate.proofs.cells.correlate_three.Reads as correlate-three-reads
 
 axis-from-requires : tie.Need-axis-from-requires
 axis-from-requires c κs = search needs

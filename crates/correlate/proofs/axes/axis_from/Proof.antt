@@ -11,9 +11,6 @@ use Rattle.correlate.specs.declared.axes.Axis.{Axis}
 use borrow.Author.Needs.{needs}
 use Rattle.correlate.proofs.axes.axis_from.Statement.{statement}
 use Rattle.correlate.proofs.axes.axis_from.Tie as tie
-use Rattle.correlate.proofs.axes.axis_from.Reads as reads
-use Rattle.correlate.proofs.axes.axis_from.Lts as lts
-use Rattle.array.proofs.len_of.Reads as len-of-reads
 
 returns : tie.Need-returns
 returns c = let a = c .before .before .args in sym (cond-yes _ _ _ (le-leb (length (now (a .shape))) (a .back) (omega arith)))

@@ -12,8 +12,6 @@ use Rattle.numbers.proofs.Stored.{Stored, front-none, front-more, front-all}
 use borrow.Author.Needs.{needs}
 use Rattle.correlate.proofs.axes.count_up.Statement.{statement}
 use Rattle.correlate.proofs.axes.count_up.Tie as tie
-use Rattle.correlate.proofs.axes.count_up.Reads as reads
-use Rattle.correlate.proofs.axes.count_up.Lts as lts
 
 abbrev Inv-loop : tie.InvT-loop
 Inv-loop out₀ n i₀ out i = (i ≤ n) × (n ≡ length out₀) × Stored (pos 0) (λ k. ltb k i) pos out₀ out

@@ -6,11 +6,6 @@ use Rattle.correlate.proofs.Sources.{sources-found}
 use borrow.Author.Needs.{needs}
 use Rattle.correlate.proofs.axes.find_sources.Statement.{statement}
 use Rattle.correlate.proofs.axes.find_sources.Tie as tie
-use Rattle.correlate.proofs.axes.find_sources.Reads as reads
-use Rattle.correlate.proofs.axes.find_sources.Lts as lts
-use Rattle.correlate.proofs.axes.count_up.Reads as count-up-reads
-use Rattle.correlate.proofs.axes.numbering.Reads as numbering-reads
-use Rattle.pad_line.proofs.pad_lane.Reads as pad-lane-reads
 
 slice-aggregate-count-up : tie.Need-slice-aggregate-count-up
 slice-aggregate-count-up c = search needs

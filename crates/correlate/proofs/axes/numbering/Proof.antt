@@ -4,8 +4,6 @@ use mathlib.Core.Path.{refl}
 use borrow.Author.Needs.{needs}
 use Rattle.correlate.proofs.axes.numbering.Statement.{statement}
 use Rattle.correlate.proofs.axes.numbering.Tie as tie
-use Rattle.correlate.proofs.axes.numbering.Reads as reads
-use Rattle.correlate.proofs.axes.numbering.Lts as lts
 
 enum-told : tie.Need-enum-told
 enum-told c = search needs

@@ -7,11 +7,6 @@ use Rattle.correlate.proofs.SumSizes.{weights-few, sums-addable}
 use borrow.Author.Needs.{needs}
 use Rattle.correlate.proofs.cells.add_kernel_row.Statement.{statement}
 use Rattle.correlate.proofs.cells.add_kernel_row.Tie as tie
-use Rattle.correlate.proofs.cells.add_kernel_row.Reads as reads
-use Rattle.correlate.proofs.cells.add_kernel_row.Lts as lts
-use Rattle.correlate.proofs.cells.find_row.Reads as find-row-reads
-use Rattle.correlate.proofs.row.add_row.Reads as add-row-reads
-use Rattle.correlate.proofs.row.sum_row.Reads as sum-row-reads
 
 mul-none : tie.Need-mul-none
 mul-none c = let s = c .before .before in omega (arith, rows-small (s .pre .0))

@@ -1,6 +1,6 @@
 -- `correlate::cells::correlate_row` meets its contract: from a row of 0, each turn adds the sums of one kernel row.
 -- Assumes nothing.
-use mathlib.Core.Path.{_≡_, sym, subst, _∙_}
+use mathlib.Core.Path.{sym, _∙_}
 use Prim.Native.Nat.{_-_}
 use native.Mathlib.Omega.{arith}
 use denote.Ref.{now}
@@ -10,10 +10,6 @@ use Rattle.correlate.proofs.SumSizes.{kernel-few}
 use borrow.Author.Needs.{needs}
 use Rattle.correlate.proofs.cells.correlate_row.Statement.{statement}
 use Rattle.correlate.proofs.cells.correlate_row.Tie as tie
-use Rattle.correlate.proofs.cells.correlate_row.Reads as reads
-use Rattle.correlate.proofs.cells.correlate_row.Lts as lts
-use Rattle.array.proofs.fill.Reads as fill-reads
-use Rattle.correlate.proofs.cells.add_kernel_row.Reads as add-kernel-row-reads
 
 abbrev Inv-loop : tie.InvT-loop
 Inv-loop «data» weights mode planes rows cells first second r line₀ swept₀ out₀ count q₀ line swept out q =

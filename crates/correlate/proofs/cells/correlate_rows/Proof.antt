@@ -1,6 +1,6 @@
 -- `correlate::cells::correlate_rows` meets its contract: each turn stores the sums of one row.
 -- Assumes nothing.
-use mathlib.Core.Path.{_≡_, refl, sym, _∙_}
+use mathlib.Core.Path.{refl, sym, _∙_}
 use Prim.Native.Nat.{_-_}
 use native.Mathlib.Omega.{arith}
 use Rattle.border.specs.Modes.{borderOf}
@@ -9,9 +9,6 @@ use Rattle.correlate.proofs.Turn.{rows-small}
 use borrow.Author.Needs.{needs}
 use Rattle.correlate.proofs.cells.correlate_rows.Statement.{statement}
 use Rattle.correlate.proofs.cells.correlate_rows.Tie as tie
-use Rattle.correlate.proofs.cells.correlate_rows.Reads as reads
-use Rattle.correlate.proofs.cells.correlate_rows.Lts as lts
-use Rattle.correlate.proofs.cells.correlate_row.Reads as correlate-row-reads
 
 abbrev Inv-loop : tie.InvT-loop
 Inv-loop «data» weights mode planes rows cells first second line₀ swept₀ out₀ count n r₀ line swept out r =

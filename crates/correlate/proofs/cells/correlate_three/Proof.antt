@@ -6,10 +6,6 @@ use lib.Seq.{length-take-le}
 use borrow.Author.Needs.{needs}
 use Rattle.correlate.proofs.cells.correlate_three.Statement.{statement}
 use Rattle.correlate.proofs.cells.correlate_three.Tie as tie
-use Rattle.correlate.proofs.cells.correlate_three.Reads as reads
-use Rattle.correlate.proofs.cells.correlate_three.Lts as lts
-use Rattle.correlate.proofs.axes.find_sources.Reads as find-sources-reads
-use Rattle.correlate.proofs.cells.correlate_rows.Reads as correlate-rows-reads
 
 slice-aggregate-find-sources : tie.Need-slice-aggregate-find-sources
 slice-aggregate-find-sources c = search needs

@@ -14,9 +14,6 @@ use mir.Val.{toZ, ofZ}
 use borrow.Author.Needs.{needs}
 use Rattle.correlate.proofs.cells.find_row.Statement.{statement}
 use Rattle.correlate.proofs.cells.find_row.Tie as tie
-use Rattle.correlate.proofs.cells.find_row.Reads as reads
-use Rattle.correlate.proofs.cells.find_row.Lts as lts
-use Rattle.correlate.proofs.row.row_for.Reads as row-for-reads
 
 div-i : tie.Need-div-i
 div-i c = search needs

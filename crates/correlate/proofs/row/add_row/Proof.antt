@@ -12,8 +12,6 @@ use Rattle.correlate.proofs.Added.{both, added-sum, added-more}
 use borrow.Author.Needs.{needs}
 use Rattle.correlate.proofs.row.add_row.Statement.{statement}
 use Rattle.correlate.proofs.row.add_row.Tie as tie
-use Rattle.correlate.proofs.row.add_row.Reads as reads
-use Rattle.correlate.proofs.row.add_row.Lts as lts
 
 abbrev Inv-loop : tie.InvT-loop
 Inv-loop swept out₀ n i₀ out i = (i ≤ n) × (n ≡ length out₀) × Stored (pos 0) (λ k. ltb k i) (both out₀ swept) out₀ out

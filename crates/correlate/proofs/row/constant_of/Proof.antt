@@ -6,8 +6,6 @@ use mir.Val.{toZ, ofZ}
 use borrow.Author.Needs.{needs}
 use Rattle.correlate.proofs.row.constant_of.Statement.{statement}
 use Rattle.correlate.proofs.row.constant_of.Tie as tie
-use Rattle.correlate.proofs.row.constant_of.Reads as reads
-use Rattle.correlate.proofs.row.constant_of.Lts as lts
 
 enum-known-mode : tie.Need-enum-known-mode
 enum-known-mode c = search needs

@@ -9,11 +9,6 @@ use Rattle.correlate.proofs.RowLine.{loaded-none, loaded-some}
 use borrow.Author.Needs.{needs}
 use Rattle.correlate.proofs.row.load_row.Statement.{statement}
 use Rattle.correlate.proofs.row.load_row.Tie as tie
-use Rattle.correlate.proofs.row.load_row.Reads as reads
-use Rattle.correlate.proofs.row.load_row.Lts as lts
-use Rattle.array.proofs.fill.Reads as fill-reads
-use Rattle.correlate.proofs.row.constant_of.Reads as constant-of-reads
-use Rattle.pad_line.proofs.pad_lane.Reads as pad-lane-reads
 
 constant-of-requires : tie.Need-constant-of-requires
 constant-of-requires c κs = search needs

@@ -1,6 +1,6 @@
 -- `correlate::row::row_for` meets its contract: a source is −1 or a number of at most 1,024.
 -- Assumes nothing.
-use mathlib.Core.Path.{_≡_, sym, ap, _∙_}
+use mathlib.Core.Path.{sym, ap, _∙_}
 use Prim.Native.Nat.{_+_, _*_, _≤_}
 use native.Mathlib.Nat.{mul-le-mul}
 use native.Mathlib.Omega.{arith}
@@ -10,11 +10,8 @@ use mir.Val.{toZ, ofZ}
 use mir.ValLaws.{toZ-ofZ}
 use Rattle.numbers.proofs.Sign.{below-is, on-is, on-read, on-casts}
 use Rattle.correlate.specs.ByRows.{rowFor}
-use borrow.Author.Needs.{needs}
 use Rattle.correlate.proofs.row.row_for.Statement.{statement}
 use Rattle.correlate.proofs.row.row_for.Tie as tie
-use Rattle.correlate.proofs.row.row_for.Reads as reads
-use Rattle.correlate.proofs.row.row_for.Lts as lts
 
 returns : tie.Need-returns
 returns c = let a = c .before .args in sym (ap (λ (z : ℤ). rowFor z (a .j) (a .per) (a .none)) (below-is _ (c .before .fits .i) (c .if1 .taken)))

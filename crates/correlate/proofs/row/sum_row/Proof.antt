@@ -1,21 +1,13 @@
 -- `correlate::row::sum_row` meets its contract: the sums along the row that was loaded.
 -- Assumes nothing.
-use mathlib.Core.Path.{_≡_, _∙_}
-use Prim.Native.Nat.{ℕ}
+use mathlib.Core.Path.{_∙_}
 use denote.Ref.{now}
-use mathlib.Core.List.{List}
-use lib.IntN.{ℤ}
 use Rattle.symmetry.specs.declared.SymmetryState.the-variants.{NonSymmetric}
 use Rattle.correlation.specs.Weighed.{wholeOps, weighedLine}
 use Rattle.correlate.proofs.Weighed.{ready-weighable}
 use borrow.Author.Needs.{needs}
 use Rattle.correlate.proofs.row.sum_row.Statement.{statement}
 use Rattle.correlate.proofs.row.sum_row.Tie as tie
-use Rattle.correlate.proofs.row.sum_row.Reads as reads
-use Rattle.correlate.proofs.row.sum_row.Lts as lts
-use Rattle.correlate.proofs.row.load_row.Reads as load-row-reads
-use Rattle.correlate_line.proofs.correlate_line.Reads as correlate-line-reads
-use Rattle.symmetry.proofs.symmetry_state_i64.Reads as symmetry-state-i64-reads
 
 load-row-requires : tie.Need-load-row-requires
 load-row-requires c κs = search needs
