@@ -36,7 +36,7 @@ module _ {A : Type 0} (t : A → Bool) where
   any-getD (x ∷ s) d z e zero = or-false (t x) (anyOf t s) e .0
   any-getD (x ∷ s) d z e (suc k) = any-getD s d z (or-false (t x) (anyOf t s) e .1) k
 
-  any-table : (f : ℕ → A) (m n : ℕ) → ((k : ℕ) → t (f k) ≡ false) → anyOf t (tabulate f m n) ≡ false
+  pub any-table : (f : ℕ → A) (m n : ℕ) → ((k : ℕ) → t (f k) ≡ false) → anyOf t (tabulate f m n) ≡ false
   unfolding tabulate
   any-table f m zero h = refl
   any-table f m (suc n) h = or-no (t (f m)) (anyOf t (tabulate f (suc m) n)) (h m) (any-table f (suc m) n h)

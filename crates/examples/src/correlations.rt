@@ -1,7 +1,10 @@
-// The examples of `correlate1d`: T2 and T3, one weight whose origin is not read, and refused calls, which leave the lent cells.
+// The examples of `correlate1d` and `correlate1d_f64`: T2, T3 and the float example, one weight whose origin is not read, and refused calls, which leave
+// the lent cells.
 use crate::print::levels;
 use crate::print::line;
+use crate::print::test;
 use border::BorderMode;
+use border::BorderModeF64;
 
 // 1 2 3 under Nearest, correlated and convolved.
 fn both(weights: &[i64]) {
@@ -44,4 +47,17 @@ pub fn limits() {
     levels(&out);
     line(correlate1d::correlate1d(&cells, &shape, &[4i64], 0, mode, 99, &mut out) as usize);
     levels(&out);
+}
+
+// 0 0 1 with the weights 1, 2, 1 + 2^-52: cell 1 is exactly 1 in the correlation, and more in the convolution.
+pub fn floats() {
+    let cells = [0.0f64, 0.0, 1.0];
+    let shape = [3usize];
+    let weights = [1.0f64, 2.0, 1.0 + 1.0 / 4503599627370496.0];
+    let mode = BorderModeF64::Constant(0.0);
+    let mut out = [9.0f64; 3];
+    line(correlate1d_f64::correlate1d_f64(&cells, &shape, &weights, 0, mode, 0, &mut out) as usize);
+    test(out[1] == 1.0);
+    line(correlate1d_f64::convolve1d_f64(&cells, &shape, &weights, 0, mode, 0, &mut out) as usize);
+    test(out[1] == weights[2]);
 }

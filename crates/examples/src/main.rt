@@ -30,6 +30,7 @@ fn rows() {
     sweeps::order_of_axes();
     filter_judge::rows();
     axis_filter::rows();
+    correlate::rows();
     min_max::rows();
     pad::rows();
     correlation::rows();
@@ -75,4 +76,5 @@ fn main() {
     correlations::t2();
     correlations::t3();
     correlations::limits();
+    correlations::floats();
 }

@@ -1,0 +1,17 @@
+-- `correlate::rows` meets its contract: every row holds by computing.
+-- Assumes nothing.
+use mathlib.Core.Path.{refl}
+use Rattle.numbers.specs.Lists.{tabulate}
+use Rattle.array.specs.Grid.{placeOf, coordinate}
+use Rattle.border.specs.Border.{cellFor, allInside, extendedGrid}
+use Rattle.correlation.specs.Weighed.{summed}
+use Rattle.correlate.specs.Kernel.{kernelSum, kernelAnswer}
+use Rattle.correlate.proofs.rows.Statement.{statement}
+use Rattle.correlate.proofs.rows.Tie as tie
+
+returns : tie.Need-returns
+unfolding tabulate placeOf coordinate cellFor allInside extendedGrid summed kernelSum kernelAnswer
+returns c = record { t8 = refl; no-left = refl; three-axes = refl; one-cell = refl }
+
+pub rows-spec : {M : Type 1} → statement M
+rows-spec = tie.close (tie.spec returns)

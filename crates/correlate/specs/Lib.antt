@@ -1,0 +1,5 @@
+-- Correlation with a grid kernel.
+pub mod Kernel
+pub mod Axes
+pub mod ByRows
+pub mod Rows
