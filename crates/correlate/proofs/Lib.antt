@@ -3,10 +3,8 @@ pub mod Added
 pub mod Lines
 pub mod Sources
 pub mod RowLine
-pub mod Weighed
 pub mod Turn
 pub mod SumSizes
 pub mod EveryRow
-pub mod Sums
 pub mod ThreeAxes
 pub mod Accepted

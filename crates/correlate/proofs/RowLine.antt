@@ -1,19 +1,19 @@
--- The padded row, or the constant all along: how it is loaded, how long it is, how large its cells are, and that its cells are those of the extended grid.
+-- The padded row, or the constant all along: how it is loaded, how long it is, that its cells are those of the extended grid, and that it is small enough for the sums of a line.
 -- Assumes nothing.
 use mathlib.Core.Path.{_≡_, refl, sym, ap, subst, _∙_}
 use mathlib.Core.Bool.{Bool, true, false, _&&_, cond, and-true, true≢false}
 use mathlib.Core.List.{List, [], _∷_, _++_, append-nil}
-use Prim.Native.Nat.{ℕ, _+_, _*_, _≤_, _<_}
+use Prim.Native.Nat.{ℕ, _+_, _*_, _≤_, _<_, _-_, _^_}
 use native.Mathlib.Nat.{add-mul, mul-assoc, mul-one}
 use native.Mathlib.Omega.{arith}
 use borrow.Author.Tests.{eq-eqb, ne-eqb, ltb-true}
 use lib.Arith.{digits-lt}
 use lib.Dec.{eqb}
-use lib.IntN.{ℤ, pos, negsuc, natAbs, _-ℤ_}
+use lib.IntN.{ℤ, pos, negsuc, natAbs, _-ℤ_, negℤ}
 use lib.ListN.{length, getD, replicate, length-replicate, getD-replicate, drop-of-length-le}
 use Rattle.numbers.specs.Lists.{anyOf}
 use Rattle.numbers.proofs.Tabulate.{tabulate-replicate}
-use Rattle.numbers.proofs.Tests.{cond-yes, cond-no}
+use Rattle.numbers.proofs.Tests.{cond-yes, cond-no, or-false, or-no}
 use Rattle.array.specs.Grid.{placeOf}
 use Rattle.lanes.specs.Lanes.{lane, laneBase}
 use Rattle.lanes.proofs.Cells.{length-laneAt}
@@ -24,9 +24,13 @@ use Rattle.pad_line.proofs.Padded.{length-padded, getD-padded}
 use Rattle.axis_filter.proofs.Supposed.{any-table, any-padded}
 use Rattle.correlate.specs.declared.axes.Axis.{Axis}
 use Rattle.correlate.specs.Axes.{Serves, sourceFor}
-use Rattle.correlate.specs.ByRows.{three, rowFor, constantOf, rowLine}
+use Rattle.correlate.specs.ByRows.{three, rowFor, constantOf, rowLine, Ready}
 use Rattle.correlate.proofs.Lines.{lane-row, padded-is}
 use Rattle.correlate.proofs.Sources.{ReadsIn}
+use Rattle.numbers.specs.Ranges.{outsideZ}
+use Rattle.numbers.proofs.Size.{size-le, size-inside, inside-sized}
+use Rattle.array.specs.Conditions.{badLevel}
+use Rattle.correlate_line.specs.Sizes.{Weighable}
 
 module _ (b : Border ℤ) (z : Axis) (none row : ℕ) (cells : List ℤ) where
   abbrev total : ℕ
@@ -138,3 +142,30 @@ module _ (z : Axis) (n m : ℕ) (cells : List ℤ) (k : ℕ) (h : k < z .left + 
   row-level (along a) u v p q r =
       row-cell (along a) z (n * m) (cellFor a n u * m + cellFor a m v) cells k h r (below p q)
       ∙ ap (λ (i : ℕ). getD cells i (pos 0)) (place-row (cellFor a n u) (cellFor a m v) (cellFor a (z .len) y) m (z .len))
+
+-- ---- a level is within the limit of a line's cells
+any-imp : {A : Type 0} (t u : A → Bool) → ((x : A) → t x ≡ false → u x ≡ false) → (s : List A) → anyOf t s ≡ false → anyOf u s ≡ false
+any-imp t u f [] e = refl
+any-imp t u f (x ∷ s) e = let p = or-false (t x) (anyOf t s) e in or-no (u x) (anyOf u s) (f x (p .0)) (any-imp t u f s (p .1))
+
+level-wide : (x : ℤ) → badLevel x ≡ false → outsideZ (negℤ (pos (2 ^ 38))) (pos (2 ^ 38)) x ≡ false
+unfolding badLevel
+level-wide x e = inside-sized (2 ^ 38) x (size-le (size-inside (2 ^ 31 - 1) x e) (omega arith))
+
+constant-wide : (b : Border ℤ) → badConstantBy badLevel b ≡ false → badConstantBy (outsideZ (negℤ (pos (2 ^ 38))) (pos (2 ^ 38))) b ≡ false
+constant-wide (constant c) e = level-wide c e
+constant-wide (along m) e = refl
+
+pub ready-weighable : {b : Border ℤ} {z : Axis} {none row : ℕ} {w cells line swept : List ℤ} → Ready b z none row w cells line swept → (s : List ℤ) → s ≡ rowLine b z none row cells → (n : ℕ) → n ≡ z .len → Weighable w s n
+ready-weighable {b} {z} {none} {row} {w} {cells} {line} {swept} R s e n k =
+    let S = R .axis in
+    let l : length s ≡ z .left + z .len + z .right = ap length e ∙ length-line b z none row cells in record {
+      some = omega (arith, S .some-side, R .many);
+      few = omega (arith, S .wide, S .pads, R .many);
+      long = omega (arith, S .wide, R .many);
+      short = omega (arith, S .short, S .pads);
+      weights = R .weights;
+      cells =
+          ap (anyOf (outsideZ (negℤ (pos (2 ^ 38))) (pos (2 ^ 38)))) e
+          ∙ any-line b z none row cells _ refl (constant-wide b (R .level)) (any-imp badLevel _ level-wide cells (R .levels));
+    }

@@ -4,10 +4,10 @@ use mathlib.Core.Path.{_≡_, refl, sym, ap, subst, _∙_}
 use mathlib.Core.Bool.{_&&_, cond}
 use mathlib.Core.List.{List, [], _∷_}
 use Prim.Native.Nat.{ℕ, zero, suc, _+_, _*_, _/_, _%_, _<_}
-use native.Mathlib.Nat.{mul-one, mul-comm, mul-assoc, div-one, div-div-eq-div-mul, mod-eq-of-lt, div-eq-of-lt}
+use native.Mathlib.Nat.{mul-one, mul-comm, mul-assoc, div-one, div-div-eq-div-mul, mod-eq-of-lt, div-eq-of-lt, suc-mul, add-zero, add-suc}
 use native.Mathlib.Omega.{arith}
 use lib.Arith.{digits-lt, digits-div, digits-mod}
-use lib.IntN.{ℤ, pos, natAbs, _+ℤ_, _-ℤ_, _*ℤ_}
+use lib.IntN.{ℤ, pos, natAbs, _+ℤ_, _-ℤ_, _*ℤ_, +ℤ-idr, +ℤ-assoc}
 use lib.ListN.{length, getD}
 use Rattle.array.specs.Grid.{cellCount, lengthOf, placeOf, coordinate}
 use Rattle.array.proofs.Places.{Positive}
@@ -19,7 +19,25 @@ use Rattle.correlate.specs.declared.axes.Axis.{Axis}
 use Rattle.correlate.specs.Axes.{readAt, Laid}
 use Rattle.correlate.specs.ByRows.{three, rowSum, rowsTo}
 use Rattle.correlate.proofs.EveryRow.{sumAt}
-use Rattle.correlate.proofs.Sums.{sum-rows}
+
+-- ---- summing over all cells is summing row by row
+sum-split : (f : ℕ → ℤ) (m n : ℕ) → summed _+ℤ_ (pos 0) f (m + n) ≡ summed _+ℤ_ (pos 0) f m +ℤ summed _+ℤ_ (pos 0) (λ j. f (m + j)) n
+unfolding summed
+sum-split f m zero = ap (summed _+ℤ_ (pos 0) f) (add-zero m) ∙ sym (+ℤ-idr (summed _+ℤ_ (pos 0) f m))
+sum-split f m (suc n) =
+    ap (summed _+ℤ_ (pos 0) f) (add-suc m n)
+    ∙ ap (λ (x : ℤ). x +ℤ f (m + n)) (sum-split f m n)
+    ∙ +ℤ-assoc (summed _+ℤ_ (pos 0) f m) (summed _+ℤ_ (pos 0) (λ j. f (m + j)) n) (f (m + n))
+
+sum-rows : (f : ℕ → ℤ) (n m : ℕ) → summed _+ℤ_ (pos 0) f (m * n) ≡ summed _+ℤ_ (pos 0) (λ q. summed _+ℤ_ (pos 0) (λ j. f (q * n + j)) n) m
+unfolding summed
+sum-rows f n zero = ap (summed _+ℤ_ (pos 0) f) (none n)
+  where
+    none : (n : ℕ) → 0 * n ≡ 0
+    none n = omega arith
+sum-rows f n (suc m) =
+    ap (summed _+ℤ_ (pos 0) f) (suc-mul m n) ∙ sum-split f (m * n) n
+    ∙ ap (λ (x : ℤ). x +ℤ summed _+ℤ_ (pos 0) (λ j. f (m * n + j)) n) (sum-rows f n m)
 
 -- the sum of a window that starts lefts a places before the cell on axis a
 abbrev pub sumBy : Border ℤ → (ℕ → ℕ) → List ℕ → List ℤ → List ℕ → List ℤ → ℕ → ℤ

@@ -4,7 +4,7 @@ use mathlib.Core.Path.{_∙_}
 use denote.Ref.{now}
 use Rattle.symmetry.specs.declared.SymmetryState.the-variants.{NonSymmetric}
 use Rattle.correlation.specs.Weighed.{wholeOps, weighedLine}
-use Rattle.correlate.proofs.Weighed.{ready-weighable}
+use Rattle.correlate.proofs.RowLine.{ready-weighable}
 use borrow.Author.Needs.{needs}
 use Rattle.correlate.proofs.row.sum_row.Statement.{statement}
 use Rattle.correlate.proofs.row.sum_row.Tie as tie
