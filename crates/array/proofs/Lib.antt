@@ -1,5 +1,4 @@
 -- Laws of arrays that belong to no one function, leaves first.
-pub mod Finite
 pub mod Places
 pub mod Shapes
 pub mod Judged

@@ -109,7 +109,7 @@ pub fn filter_axis(
     requires { ⌜ Sweep (borderOf mode) (now shape) axis left right (now «data») (now out) × Supposed filter (now weights) (left + right + 1) (borderOf mode) (now «data») ⌝ }
     ensures { λ _. ⌜ now (out .exit) ≡ alongAxis (pos 0) (filteredLane (pos 0) (filtered filter (now (weights .entry)) (left + right + 1)) (borderOf mode) left right) (now (shape .entry)) axis (now («data» .entry)) ⌝ }
 {
-    let n = array::len_of(shape, axis);
+    let n = shapes::len_of(shape, axis);
     let mut line = [0; 1088];
     let mut swept = [0; 1024];
     filter_lanes(

@@ -90,7 +90,7 @@ pub fn correlate_axis_f64(
     requires { ⌜ Sweep (borderOfF64 mode) (now shape) axis left right (now «data») (now out) × (length (now weights) ≡ left + right + 1) ⌝ }
     ensures { λ _. ⌜ now (out .exit) ≡ alongAxis nan (correlatedLine floatOps class (borderOfF64 mode) left right (now (weights .entry))) (now (shape .entry)) axis (now («data» .entry)) ⌝ }
 {
-    let n = array::len_of(shape, axis);
+    let n = shapes::len_of(shape, axis);
     let mut line = [0.0; 1088];
     let mut swept = [0.0; 1024];
     correlate_lanes(

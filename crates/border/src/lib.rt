@@ -144,7 +144,7 @@ pub fn bad_constant(mode: BorderMode) -> bool
     ensures { λ r. ⌜ r ≡ badConstantBy badLevel (borderOf mode) ⌝ }
 {
     match mode {
-        BorderMode::Constant(t) => array::bad_level(t),
+        BorderMode::Constant(t) => conditions::bad_level(t),
         BorderMode::Mirror => false,
         BorderMode::Nearest => false,
         BorderMode::Reflect => false,
@@ -158,7 +158,7 @@ pub fn bad_constant_f64(mode: BorderModeF64) -> bool
     ensures { λ r. ⌜ r ≡ badConstantBy badFloat (borderOfF64 mode) ⌝ }
 {
     match mode {
-        BorderModeF64::Constant(t) => array::bad_level_f64(t),
+        BorderModeF64::Constant(t) => conditions::bad_level_f64(t),
         BorderModeF64::Mirror => false,
         BorderModeF64::Nearest => false,
         BorderModeF64::Reflect => false,

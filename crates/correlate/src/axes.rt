@@ -35,7 +35,7 @@ pub(crate) fn axis_from(
             side: 1,
         };
     }
-    let len = array::len_of(shape, axes - 1 - back);
+    let len = shapes::len_of(shape, axes - 1 - back);
     Axis {
         len,
         left,

@@ -77,7 +77,7 @@ fn correlate_row(
     requires { ⌜ Laid (borderOf mode) planes rows cells (now weights) (now «data») × Found (borderOf mode) planes (now first) × Found (borderOf mode) rows (now second) × (r < planes .len * rows .len) × (length (now line) ≡ cells .left + cells .len + cells .right) × (length (now swept) ≡ cells .len) × (length (now out) ≡ cells .len) ⌝ }
     ensures { λ _. ⌜ now (out .exit) ≡ tabulate (rowsTo (borderOf mode) planes rows cells (now (weights .entry)) (now («data» .entry)) r (planes .side * rows .side)) 0 (cells .len) ⌝ }
 {
-    array::fill(out, 0);
+    assign::fill(out, 0);
     let count = planes.side * rows.side;
     let mut q = 0;
     while q < count {

@@ -49,7 +49,7 @@ fn load_row(data: &[i64], mode: BorderMode, axis: Axis, none: usize, row: usize,
     ensures { λ _. ⌜ now (line .exit) ≡ rowLine (borderOf mode) axis none row (now («data» .entry)) ⌝ }
 {
     if row == none {
-        array::fill(line, constant_of(mode));
+        assign::fill(line, constant_of(mode));
         return;
     }
     pad_line::pad_lane(data, 1, row, axis.len, mode, axis.left, axis.right, line);

@@ -43,13 +43,13 @@ fn judge_weighing(
     if filter_judge::bad_window_origin(len, origin) {
         return numbers::ORIGIN;
     }
-    if array::bad_axis(shape, axis) {
+    if conditions::bad_axis(shape, axis) {
         return numbers::AXIS;
     }
     if nine {
         return numbers::CONSTANT;
     }
-    let n = array::len_of(shape, axis);
+    let n = shapes::len_of(shape, axis);
     if origins::bad_reach(mode, n, len, origin, turned) {
         return numbers::REACH;
     }
@@ -82,7 +82,7 @@ pub fn judge_correlate(
 ) -> u8
     ensures { λ r. ⌜ r ≡ refusalOf (correlateJudged turned (borderOf mode) origin (now (weights .entry)) (now (shape .entry)) axis (now («data» .entry)) out) ⌝ }
 {
-    let refusal = array::judge_grid(data, shape, out, out);
+    let refusal = conditions::judge_grid(data, shape, out, out);
     if refusal != 0 {
         return refusal;
     }
@@ -105,11 +105,11 @@ pub fn judge_correlate_f64(
 ) -> u8
     ensures { λ r. ⌜ r ≡ refusalOf (correlateJudgedF turned (borderOfF64 mode) origin (now (weights .entry)) (now (shape .entry)) axis (now («data» .entry)) out) ⌝ }
 {
-    let refusal = array::judge_grid_f64(data, shape, out, out);
+    let refusal = conditions::judge_grid_f64(data, shape, out, out);
     if refusal != 0 {
         return refusal;
     }
-    let six = array::bad_levels_f64(weights);
+    let six = conditions::bad_levels_f64(weights);
     let nine = border::bad_constant_f64(mode);
     judge_weighing(
         shape,

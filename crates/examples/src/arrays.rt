@@ -5,47 +5,47 @@ use crate::print::test;
 
 pub fn shapes() {
     let shape = [2usize, 3];
-    line(array::len_of(&shape, 1));
-    line(array::len_of(&shape, 2));
-    line(array::cell_count(&shape));
-    line(array::cell_count(&[]));
-    line(array::cell_count(&[0]));
-    line(array::cell_count(&[1025]));
-    line(array::cell_count(&[128, 128]));
-    line(array::cell_count(&[18446744073709551615, 2]));
+    line(shapes::len_of(&shape, 1));
+    line(shapes::len_of(&shape, 2));
+    line(shapes::cell_count(&shape));
+    line(shapes::cell_count(&[]));
+    line(shapes::cell_count(&[0]));
+    line(shapes::cell_count(&[1025]));
+    line(shapes::cell_count(&[128, 128]));
+    line(shapes::cell_count(&[18446744073709551615, 2]));
 }
 
 pub fn shape_conditions() {
-    test(array::bad_shape(&[1024]));
-    test(array::bad_shape(&[8, 1024]));
-    test(array::bad_shape(&[1025]));
-    test(array::bad_shape(&[128, 128]));
-    test(array::bad_length(&[2, 3], 6));
-    test(array::bad_length(&[2, 3], 5));
-    test(array::bad_axis(&[2, 3], 1));
-    test(array::bad_axis(&[2, 3], 2));
+    test(conditions::bad_shape(&[1024]));
+    test(conditions::bad_shape(&[8, 1024]));
+    test(conditions::bad_shape(&[1025]));
+    test(conditions::bad_shape(&[128, 128]));
+    test(conditions::bad_length(&[2, 3], 6));
+    test(conditions::bad_length(&[2, 3], 5));
+    test(conditions::bad_axis(&[2, 3], 1));
+    test(conditions::bad_axis(&[2, 3], 2));
 }
 
 pub fn level_conditions() {
-    test(array::bad_level(-2147483648));
-    test(array::bad_level(-2147483647));
-    test(array::bad_levels(&[0, 2147483647]));
-    test(array::bad_levels(&[0, 2147483648]));
-    test(array::bad_level_f64(-0.0));
-    test(array::bad_level_f64(1.0 / 0.0));
-    test(array::bad_levels_f64(&[1.0, 0.0 / 0.0]));
+    test(conditions::bad_level(-2147483648));
+    test(conditions::bad_level(-2147483647));
+    test(conditions::bad_levels(&[0, 2147483647]));
+    test(conditions::bad_levels(&[0, 2147483648]));
+    test(conditions::bad_level_f64(-0.0));
+    test(conditions::bad_level_f64(1.0 / 0.0));
+    test(conditions::bad_levels_f64(&[1.0, 0.0 / 0.0]));
 }
 
 pub fn copies() {
     let mut out = [0i64; 4];
-    line(array::judge_grid(&[1, 2, 3], &[2, 2], 4, 4) as usize);
-    line(array::judge_grid_f64(&[0.0 / 0.0], &[1], 1, 1) as usize);
-    line(array::judge_grid_f64(&[-0.0], &[1], 1, 1) as usize);
-    line(array::assign(&[1, 2, 3, 4], &[2, 2], &mut out) as usize);
+    line(conditions::judge_grid(&[1, 2, 3], &[2, 2], 4, 4) as usize);
+    line(conditions::judge_grid_f64(&[0.0 / 0.0], &[1], 1, 1) as usize);
+    line(conditions::judge_grid_f64(&[-0.0], &[1], 1, 1) as usize);
+    line(assign::assign(&[1, 2, 3, 4], &[2, 2], &mut out) as usize);
     levels(&out);
-    line(array::assign(&[5, 6, 7], &[2, 2], &mut out) as usize);
+    line(assign::assign(&[5, 6, 7], &[2, 2], &mut out) as usize);
     levels(&out);
-    array::copy(&[8, 9], &mut out);
+    assign::copy(&[8, 9], &mut out);
     levels(&out);
 }
 

@@ -75,13 +75,13 @@ fn judge_window(shape: &[usize], size: usize, axis: usize, mode: BorderMode, ori
     if refusal != 0 {
         return refusal;
     }
-    if array::bad_axis(shape, axis) {
+    if conditions::bad_axis(shape, axis) {
         return numbers::AXIS;
     }
     if border::bad_constant(mode) {
         return numbers::CONSTANT;
     }
-    let n = array::len_of(shape, axis);
+    let n = shapes::len_of(shape, axis);
     if bad_reach(mode, n, size, origin) {
         return numbers::REACH;
     }
@@ -112,7 +112,7 @@ pub fn judge_call(
 ) -> u8
     ensures { λ r. ⌜ r ≡ refusalOf (callJudged (now («data» .entry)) (callOf (now (shape .entry)) size axis mode origin (now (out .entry)))) ⌝ }
 {
-    let refusal = array::judge_grid(data, shape, out.len(), out.len());
+    let refusal = conditions::judge_grid(data, shape, out.len(), out.len());
     if refusal != 0 {
         return refusal;
     }
@@ -173,7 +173,7 @@ pub fn judge_filter(
 ) -> u8
     ensures { λ r. ⌜ r ≡ refusalOf (filterJudged (now («data» .entry)) (callOf (now (shape .entry)) size 0 mode origin (now (out .entry))) second) ⌝ }
 {
-    let refusal = array::judge_grid(data, shape, out.len(), second);
+    let refusal = conditions::judge_grid(data, shape, out.len(), second);
     if refusal != 0 {
         return refusal;
     }

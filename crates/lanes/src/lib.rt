@@ -23,10 +23,10 @@ pub fn stride_of(shape: &[usize], axis: usize) -> usize
     ensures { λ r. ⌜ r ≡ strideOf (now (shape .entry)) axis ⌝ }
 {
     if axis == 0 {
-        return array::len_of(shape, 1) * array::len_of(shape, 2);
+        return shapes::len_of(shape, 1) * shapes::len_of(shape, 2);
     }
     if axis == 1 {
-        return array::len_of(shape, 2);
+        return shapes::len_of(shape, 2);
     }
     1
 }
@@ -37,7 +37,7 @@ pub fn stride_of(shape: &[usize], axis: usize) -> usize
 pub fn lanes_of(shape: &[usize], axis: usize) -> Lanes
     ensures { λ r. ⌜ r ≡ lanesOf (now (shape .entry)) axis ⌝ }
 {
-    let cells = array::cell_count(shape);
+    let cells = shapes::cell_count(shape);
     if cells == 0 {
         return Lanes {
             len: 0,
@@ -45,7 +45,7 @@ pub fn lanes_of(shape: &[usize], axis: usize) -> Lanes
             count: 0,
         };
     }
-    let len = array::len_of(shape, axis);
+    let len = shapes::len_of(shape, axis);
     let stride = stride_of(shape, axis);
     Lanes {
         len,

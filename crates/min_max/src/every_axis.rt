@@ -57,7 +57,7 @@ fn filter(
         return refusal;
     }
     passes(extreme, data, shape, size, mode, origin, second, out);
-    array::fill(second, 0);
+    assign::fill(second, 0);
     numbers::ACCEPTED
 }
 

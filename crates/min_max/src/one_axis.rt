@@ -38,7 +38,7 @@ pub(crate) fn pass(
     ensures { λ _. ⌜ now (out .exit) ≡ answerOf (orderOf extreme) (now («data» .entry)) (callOf (now (shape .entry)) size axis mode origin (now (out .entry))) ⌝ }
 {
     if size == 1 {
-        array::copy(data, out);
+        assign::copy(data, out);
         return;
     }
     match origin::origin_check(size, origin) {

@@ -39,7 +39,7 @@ fn start(mode: PadMode, out: &mut [i64])
     ensures { λ _. ⌜ now (out .exit) ≡ started mode (now (out .entry)) ⌝ }
 {
     match mode {
-        PadMode::Constant(c) => array::fill(out, c),
+        PadMode::Constant(c) => assign::fill(out, c),
         PadMode::Edge => {}
         PadMode::Maximum => {}
         PadMode::Mean => {}

@@ -23,7 +23,7 @@ pub(crate) fn set_frame(
     while a < shape.len() {
         let p = pad_judge::pair_of(pads, count, a);
         lefts[a] = p.left;
-        padded[a] = p.left + array::len_of(shape, a) + p.right;
+        padded[a] = p.left + shapes::len_of(shape, a) + p.right;
         a += 1;
     }
 }

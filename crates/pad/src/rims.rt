@@ -15,12 +15,12 @@ fn on_middle(shape: &[usize], lefts: &[usize], padded: &[usize], axis: usize, pl
     requires { ⌜ Framed (now shape) (now lefts) (now padded) × (place < cellCount (now padded)) × (axis < length (now shape)) ⌝ }
     ensures { λ r. ⌜ r ≡ inMiddle (now (shape .entry)) (now (lefts .entry)) (coordinate (now (padded .entry)) place) axis ⌝ }
 {
-    let q = place / lanes::stride_of(padded, axis) % array::len_of(padded, axis);
+    let q = place / lanes::stride_of(padded, axis) % shapes::len_of(padded, axis);
     let left = lefts[axis];
     if q < left {
         return false;
     }
-    q < left + array::len_of(shape, axis)
+    q < left + shapes::len_of(shape, axis)
 }
 
 // Whether it is on every axis from `from` on.
@@ -69,7 +69,7 @@ fn fill_lane(
         s,
         lane,
         lefts[axis],
-        array::len_of(shape, axis),
+        shapes::len_of(shape, axis),
         out,
     );
 }
@@ -86,8 +86,8 @@ fn fill_axis(
     requires { ⌜ Filling mode (now shape) (now lefts) (now padded) × (axis < length (now shape)) × (length (now out) ≡ cellCount (now padded)) ⌝ }
     ensures { λ _. ⌜ Fills mode (now (shape .entry)) (now (lefts .entry)) (now (padded .entry)) axis (suc axis) (now (out .entry)) (now (out .exit)) ⌝ }
 {
-    let p = array::len_of(padded, axis);
-    if p == array::len_of(shape, axis) {
+    let p = shapes::len_of(padded, axis);
+    if p == shapes::len_of(shape, axis) {
         // No pads here: the axis has no rim.
         return;
     }

@@ -46,7 +46,7 @@ fn bad_constant(mode: border::PadMode) -> bool
     ensures { λ r. ⌜ r ≡ badConstant mode ⌝ }
 {
     match mode {
-        border::PadMode::Constant(t) => array::bad_level(t),
+        border::PadMode::Constant(t) => conditions::bad_level(t),
         border::PadMode::Edge => false,
         border::PadMode::Maximum => false,
         border::PadMode::Mean => false,
@@ -110,7 +110,7 @@ fn bad_reach_on(
 ) -> bool
     ensures { λ r. ⌜ r ≡ badReachOn mode (now (shape .entry)) pads count axis ⌝ }
 {
-    let n = array::len_of(shape, axis);
+    let n = shapes::len_of(shape, axis);
     let p = pair_of(pads, count, axis);
     if pad_axis::bad_pad(mode, n, p.left) {
         return true;
@@ -141,7 +141,7 @@ fn padded_len(shape: &[usize], pads: [Pair; 3], count: usize, axis: usize) -> us
         return 1;
     }
     let p = pair_of(pads, count, axis);
-    p.left + array::len_of(shape, axis) + p.right
+    p.left + shapes::len_of(shape, axis) + p.right
 }
 
 // The number of padded cells of three padded lengths.
@@ -201,7 +201,7 @@ pub fn judge(
 ) -> u8
     ensures { λ r. ⌜ r ≡ refusalOf (padJudged mode (now (shape .entry)) pads count (now («data» .entry)) out) ⌝ }
 {
-    let refusal = array::judge_grid(data, shape, data.len(), data.len());
+    let refusal = conditions::judge_grid(data, shape, data.len(), data.len());
     if refusal != 0 {
         return refusal;
     }

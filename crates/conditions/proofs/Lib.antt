@@ -1,0 +1,3 @@
+-- Laws of the conditions.
+pub mod Finite
+pub mod Levels
