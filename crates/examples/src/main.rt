@@ -31,6 +31,7 @@ fn rows() {
     filter_judge::rows();
     axis_filter::rows();
     correlate::rows();
+    min_max1d::rows();
     min_max::rows();
     pad::rows();
     correlation::rows();

@@ -21,11 +21,10 @@ use Rattle.sweeps.proofs.Passed.{Passed, passed, passed-lengths}
 use Rattle.axis_filter.specs.Lane.{filteredLane, Sweep}
 use Rattle.axis_filter.specs.Filter.{filtered, Supposed}
 use Rattle.axis_filter.specs.declared.LineFilter.{LineFilter}
-use Rattle.min_max.specs.Filters.{orderOf}
-use Rattle.min_max.specs.Lane.{extremesOf, lineFilterOf}
-use Rattle.min_max.specs.declared.Extreme.{Extreme}
-use Rattle.min_max.specs.declared.Extreme.the-variants.{Least, Greatest}
-use Rattle.min_max.proofs.ByLanes.{lineOf, answer-lanes, answer-copied, pads-size}
+use Rattle.min_max1d.specs.Lane.{orderOf, extremesOf, lineFilterOf}
+use Rattle.min_max1d.specs.declared.Extreme.{Extreme}
+use Rattle.min_max1d.specs.declared.Extreme.the-variants.{Least, Greatest}
+use Rattle.min_max1d.proofs.ByLanes.{lineOf, answer-lanes, answer-copied, pads-size}
 
 -- ---- the extremes, as a line filter
 pub extremes-supposed : (e : Extreme) {f : LineFilter} (w : List ℤ) (size : ℕ) (b : Border ℤ) (cells : List ℤ) → f ≡ lineFilterOf e → 1 < size → Supposed f w size b cells

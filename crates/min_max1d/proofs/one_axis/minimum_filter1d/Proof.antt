@@ -1,11 +1,11 @@
--- `min_max::one_axis::minimum_filter1d` meets its contract: the worker's, in the order of the least.
+-- `min_max1d::one_axis::minimum_filter1d` meets its contract: the worker's, in the order of the least.
 -- Assumes nothing.
 use mathlib.Core.Path.{_≡_}
 use mir.Syntax.{w64}
 use mir.Val.{toZ, ofZ}
 use borrow.Author.Needs.{needs}
-use Rattle.min_max.proofs.one_axis.minimum_filter1d.Statement.{statement}
-use Rattle.min_max.proofs.one_axis.minimum_filter1d.Tie as tie
+use Rattle.min_max1d.proofs.one_axis.minimum_filter1d.Statement.{statement}
+use Rattle.min_max1d.proofs.one_axis.minimum_filter1d.Tie as tie
 
 filter1d-requires : tie.Need-filter1d-requires
 filter1d-requires c κs = search needs

@@ -1,4 +1,4 @@
--- `min_max::one_axis::filter1d` meets its contract: refused by the judge's number, or the answer of an accepted call.
+-- `min_max1d::one_axis::filter1d` meets its contract: refused by the judge's number, or the answer of an accepted call.
 -- Assumes nothing.
 use mathlib.Core.Path.{_≡_, ap, sym, _∙_}
 use denote.Ref.{now}
@@ -10,10 +10,10 @@ use Rattle.numbers.proofs.Refusal.{answers-refused, answers-accepted}
 use Rattle.sweeps.specs.Run.{answerOf}
 use Rattle.sweeps.specs.Call.{callJudged, numberOf}
 use Rattle.filter_judge.specs.Judge.{callOf}
-use Rattle.min_max.specs.Filters.{orderOf}
+use Rattle.min_max1d.specs.Lane.{orderOf}
 use borrow.Author.Needs.{needs}
-use Rattle.min_max.proofs.one_axis.filter1d.Statement.{statement}
-use Rattle.min_max.proofs.one_axis.filter1d.Tie as tie
+use Rattle.min_max1d.proofs.one_axis.filter1d.Statement.{statement}
+use Rattle.min_max1d.proofs.one_axis.filter1d.Tie as tie
 
 -- the judge's number
 judged : (c : tie.After-judge-call) → let a = c .before .before .before .args in c .judge-call .result ≡ refusalOf (callJudged (now (a .«data»)) (callOf (now (a .shape)) (a .size) (a .axis) (a .mode) (a .origin) (now (a .out))))

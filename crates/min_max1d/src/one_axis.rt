@@ -6,8 +6,7 @@ ghost use Rattle.numbers.specs.Refusal.{Answers};
 ghost use Rattle.sweeps.specs.Call.{callJudged, numberOf};
 ghost use Rattle.sweeps.specs.Run.{answerOf};
 ghost use Rattle.filter_judge.specs.Judge.{callOf};
-ghost use Rattle.min_max.specs.Filters.{orderOf};
-ghost use Rattle.min_max.specs.Lane.{lineFilterOf};
+ghost use Rattle.min_max1d.specs.Lane.{orderOf, lineFilterOf};
 use crate::Extreme;
 use axis_filter::LineFilter;
 use border::BorderMode;
@@ -23,8 +22,13 @@ fn line_filter(extreme: Extreme) -> LineFilter
     }
 }
 
-// Fills out with the answer of an accepted one-axis call.
-pub(crate) fn pass(
+// Fills out with the answer of an accepted one-axis call; the grid forms make one pass for each axis.
+//
+// * `extreme` - which level of a window is kept.
+// * `data`, `shape`, `size`, `axis`, `mode`, `origin`, `out` - as in `minimum_filter1d`.
+//
+// Supposes the number 0, and refuses nothing. 4 2 7 1 with Least and size 3 along axis 0 under Reflect and origin 0 gives 2 2 1 1.
+pub fn pass(
     extreme: Extreme,
     data: &[i64],
     shape: &[usize],

@@ -1,4 +1,4 @@
--- `min_max::one_axis::pass` meets its contract: a window of one cell copies, any other has the pads of its accepted origin.
+-- `min_max1d::one_axis::pass` meets its contract: a window of one cell copies, any other has the pads of its accepted origin.
 -- Assumes nothing.
 use Prim.Native.Nat.{_-_, _/_}
 use mathlib.Core.Path.{_≡_, ap, _∙_}
@@ -10,12 +10,12 @@ use Rattle.origin.specs.Origin.{originPads}
 use Rattle.sweeps.specs.Call.{Call}
 use Rattle.sweeps.proofs.Passed.{passed}
 use Rattle.filter_judge.specs.Judge.{callOf}
-use Rattle.min_max.specs.Filters.{orderOf}
+use Rattle.min_max1d.specs.Lane.{orderOf}
 use Rattle.filter_judge.proofs.Reach.{origin-refused, PadsAre, pads-are}
-use Rattle.min_max.proofs.OnePass.{copied-answer, extremes-supposed, extremes-filtered, sweep-accepted, window-wide, swept-answer}
+use Rattle.min_max1d.proofs.OnePass.{copied-answer, extremes-supposed, extremes-filtered, sweep-accepted, window-wide, swept-answer}
 use borrow.Author.Needs.{needs}
-use Rattle.min_max.proofs.one_axis.pass.Statement.{statement}
-use Rattle.min_max.proofs.one_axis.pass.Tie as tie
+use Rattle.min_max1d.proofs.one_axis.pass.Statement.{statement}
+use Rattle.min_max1d.proofs.one_axis.pass.Tie as tie
 
 -- the call of the arguments
 abbrev call : tie.Start → Call
