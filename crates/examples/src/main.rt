@@ -33,6 +33,7 @@ fn rows() {
     correlate::rows();
     min_max1d::rows();
     min_max::rows();
+    pad_grid::rows();
     pad::rows();
     correlation::rows();
     correlate_judge::rows();
