@@ -1,8 +1,8 @@
 // The examples of `min_max1d`, `min_max` and `filter_judge`: T4, T5 in both orders, the grid forms, and refused calls, which leave the lent cells.
-use crate::print::levels;
-use crate::print::line;
-use crate::print::test;
 use border::BorderMode;
+use print::levels;
+use print::line;
+use print::test;
 
 pub fn one_axis() {
     let cells = [2i64, 1, 4, 3, 5];

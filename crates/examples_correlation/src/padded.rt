@@ -1,9 +1,9 @@
 // The examples of `pad_line` and `pad_line_f64`.
-use crate::print::levels;
-use crate::print::line;
-use crate::print::test;
 use border::BorderMode;
 use border::BorderModeF64;
+use print::levels;
+use print::line;
+use print::test;
 
 // Pads of three cells.
 pub fn pad_conditions() {

@@ -1,10 +1,10 @@
--- `examples::print::levels` is safe and ends: the measure is what is left of the cells.
+-- `print::levels` is safe and ends: the measure is what is left of the cells.
 -- Assumes nothing.
 use borrow.Author.Needs.{needs}
 use Prim.Native.Nat.{_≤_, _-_}
 use lib.ListN.{length}
-use Rattle.examples.proofs.print.levels.Statement.{statement}
-use Rattle.examples.proofs.print.levels.Tie as tie
+use Rattle.print.proofs.levels.Statement.{statement}
+use Rattle.print.proofs.levels.Tie as tie
 
 abbrev Inv-loop : tie.InvT-loop
 Inv-loop cells i₀ i = i ≤ length cells

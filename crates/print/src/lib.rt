@@ -1,25 +1,29 @@
-// Numbers on standard output, a line for each example.
+// Numbers on standard output, for the programs of examples. Nothing is promised of what is written: the logic does not speak of it, as `io` does
+// not; the file `stdout` of each program holds it. Nothing here is refused.
 use libc::STDOUT_FILENO;
 
+// Writes a space.
 pub fn space() {
     io::write_all(STDOUT_FILENO, b" ");
 }
 
+// Ends the line.
 pub fn end() {
     io::write_all(STDOUT_FILENO, b"\n");
 }
 
+// Writes n in decimal: 12 as 12.
 pub fn number(n: usize) {
     io::print_decimal(STDOUT_FILENO, n as u64);
 }
 
-// A number and the line's end.
+// Writes n and ends the line.
 pub fn line(n: usize) {
     number(n);
     end();
 }
 
-// 1 for yes, 0 for no.
+// Writes a line: 1 for yes, 0 for no.
 pub fn test(answer: bool) {
     if answer {
         line(1);
@@ -28,7 +32,8 @@ pub fn test(answer: bool) {
     }
 }
 
-pub fn level(z: i64) {
+// Writes a level in decimal: −2 as -2.
+fn level(z: i64) {
     if z < 0 {
         io::write_all(STDOUT_FILENO, b"-");
         let m = -(z + 1);
@@ -38,7 +43,7 @@ pub fn level(z: i64) {
     io::print_decimal(STDOUT_FILENO, z as u64);
 }
 
-// The levels on one line.
+// Writes the levels on one line, each with a space after it: 4 2 7 1.
 pub fn levels(cells: &[i64]) {
     let mut i = 0;
     while i < cells.len() {

@@ -1,10 +1,10 @@
 // The examples of `correlate1d` and `correlate1d_f64`: T2, T3 and the float example, one weight whose origin is not read, and refused calls, which leave
 // the lent cells.
-use crate::print::levels;
-use crate::print::line;
-use crate::print::test;
 use border::BorderMode;
 use border::BorderModeF64;
+use print::levels;
+use print::line;
+use print::test;
 
 // 1 2 3 under Nearest, correlated and convolved.
 fn both(weights: &[i64]) {

@@ -1,12 +1,12 @@
--- `examples::print::level` is safe: below 0 the size of z is −(z + 1) and one more.
+-- `print::level` is safe: below 0 the size of z is −(z + 1) and one more.
 -- Assumes nothing.
 use mathlib.Core.Path.{ap}
 use native.Mathlib.Omega.{arith}
 use lib.IntN.{natAbs}
 use Rattle.numbers.proofs.Sign.{below-next-fits, below-turned-fits, below-turned, below-casts, on-casts}
 use borrow.Author.Needs.{needs}
-use Rattle.examples.proofs.print.level.Statement.{statement}
-use Rattle.examples.proofs.print.level.Tie as tie
+use Rattle.print.proofs.level.Statement.{statement}
+use Rattle.print.proofs.level.Tie as tie
 
 slice-aggregate-write-all : tie.Need-slice-aggregate-write-all
 slice-aggregate-write-all c = search needs

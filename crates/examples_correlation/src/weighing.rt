@@ -1,8 +1,8 @@
 // The examples of `correlate_judge`: weights at their limits, and the numbers of calls, whole and float.
-use crate::print::line;
-use crate::print::test;
 use border::BorderMode;
 use border::BorderModeF64;
+use print::line;
+use print::test;
 
 pub fn weights() {
     test(correlate_judge::bad_weight(65535));

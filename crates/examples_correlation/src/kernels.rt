@@ -1,7 +1,7 @@
 // The examples of `kernel3d` and `symmetry`.
-use crate::print::line;
-use crate::print::test;
 use kernel3d::Kernel3d;
+use print::line;
+use print::test;
 use symmetry::SymmetryState;
 
 pub fn shapes() {
