@@ -8,7 +8,7 @@ use native.Mathlib.Nat.{zero-add}
 use native.Mathlib.Omega.{arith}
 use borrow.Author.Tests.{ltb-true, eqb-true, not-false, lt-ltb}
 use lib.Dec.{ltb, eqb}
-use lib.IntN.{ℤ, pos, natAbs, negℤ, _+ℤ_, _-ℤ_, +ℤ-assoc, +ℤ-comm, negℤ-+ℤ, +ℤ-idl, +ℤ-invr}
+use lib.IntN.{ℤ, pos, natAbs, negℤ, _+ℤ_, _-ℤ_, +ℤ-assoc, +ℤ-comm, negℤ-+ℤ}
 use lib.ListN.{length, getD, take}
 use lib.Seq.{ext-getD}
 use Rattle.numbers.specs.Lists.{tabulate, upFrom}
@@ -25,7 +25,7 @@ use Rattle.lanes.specs.Lanes.{alongAxis}
 use Rattle.lanes.proofs.AlongAxis.{length-along, getD-along}
 use Rattle.border.specs.Border.{Border, constant, along, cellFor, inside, extendedLane}
 use Rattle.origin.specs.Origin.{badOrigin}
-use Rattle.origin.proofs.Origins.{SignedPads, axis-accepted, accepted-some}
+use Rattle.origin.proofs.Origins.{SignedPads, axis-accepted}
 use Rattle.pad_line.specs.Line.{paddedAt, paddedLine}
 use Rattle.filter_judge.proofs.Reach.{pads-size as window-pads}
 use Rattle.sweeps.specs.Call.{Call, left, right, leftPad, rightPad, alone, firstIn, window, axisLength, numberOf}

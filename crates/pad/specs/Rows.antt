@@ -1,9 +1,8 @@
 -- Worked rows of this crate's definitions. Each holds by computing.
 --   PaddedRows        the rows
-use Prim.Native.Nat.{ℕ}
 use mathlib.Core.Path.{_≡_}
-use mathlib.Core.List.{List, [], _∷_}
-use lib.IntN.{ℤ, pos}
+use mathlib.Core.List.{[], _∷_}
+use lib.IntN.{pos}
 use Rattle.numbers.specs.Rows.{wholes}
 use Rattle.border.specs.declared.PadMode.the-variants.{Constant, Edge}
 use Rattle.pad.specs.Laid.{laidOver, started}

@@ -7,8 +7,8 @@
 --   middleSet ns lefts ps cells held    held, a padded grid, with the cells stored in its middle
 use Prim.Native.Nat.{ℕ, _+_, _-_, _≤_, _<_}
 use mathlib.Core.Path.{_≡_}
-use mathlib.Core.Bool.{Bool, false, _&&_, cond}
-use mathlib.Core.List.{List}
+use mathlib.Core.Bool.{false, _&&_, cond}
+use mathlib.Core.List.{List, []}
 use lib.Dec.{leb, ltb}
 use lib.IntN.{ℤ, pos}
 use lib.ListN.{length, getD}
@@ -20,7 +20,6 @@ use Rattle.pad_line.specs.Line.{badPad}
 use Rattle.pad_axis.specs.Fill.{rimOf}
 use Rattle.pad_judge.specs.Conditions.{badConstant}
 use Rattle.pad_judge.specs.Pads.{middleFrom}
-use mathlib.Core.List.{[]}
 
 pub record Framed (ns lefts ps : List ℕ) : Type 0 where
   pub shape : badShape ns ≡ false

@@ -1,9 +1,7 @@
 -- Worked rows of this crate's definitions. Each holds by computing.
 --   PadGridRows       the rows
-use Prim.Native.Nat.{ℕ}
 use mathlib.Core.Path.{_≡_}
-use mathlib.Core.List.{List, [], _∷_, map}
-use lib.IntN.{ℤ, pos}
+use mathlib.Core.List.{[], _∷_, map}
 use Rattle.numbers.specs.Rows.{wholes}
 use Rattle.pad_grid.specs.Frame.{targetOf, rowLength, rowSet, middleSet}
 
