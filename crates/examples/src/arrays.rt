@@ -1,7 +1,7 @@
 // The examples of `array` and `lanes`.
-use crate::print::levels;
-use crate::print::line;
-use crate::print::test;
+use print::levels;
+use print::line;
+use print::test;
 
 pub fn shapes() {
     let shape = [2usize, 3];

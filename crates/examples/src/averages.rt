@@ -1,5 +1,5 @@
 // The examples of `statistics`.
-use crate::print::levels;
+use print::levels;
 
 pub fn extremes() {
     levels(&[statistics::minimum(&[4, 2, 7, 1])]);

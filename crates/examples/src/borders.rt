@@ -1,13 +1,13 @@
 // The examples of `border` and `origin`.
-use crate::print::end;
-use crate::print::line;
-use crate::print::number;
-use crate::print::space;
-use crate::print::test;
 use border::BorderMode;
 use border::BorderModeF64;
 use border::PadMode;
 use origin::Origin;
+use print::end;
+use print::line;
+use print::number;
+use print::space;
+use print::test;
 
 // A padding mode by its place in the enum.
 fn mode(m: PadMode) {

@@ -1,7 +1,7 @@
 // The examples of `minlist`, `minimum_line` and `maximum_line`.
-use crate::print::levels;
-use crate::print::line;
-use crate::print::test;
+use print::levels;
+use print::line;
+use print::test;
 
 pub fn rings() {
     line(minlist::place(64));

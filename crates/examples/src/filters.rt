@@ -1,19 +1,35 @@
-// The examples of `min_max` and `filter_judge`: T4, T5 in both orders, the grid forms, and refused calls, which leave the lent cells.
-use crate::print::levels;
-use crate::print::line;
-use crate::print::test;
+// The examples of `min_max1d`, `min_max` and `filter_judge`: T4, T5 in both orders, the grid forms, and refused calls, which leave the lent cells.
 use border::BorderMode;
+use print::levels;
+use print::line;
+use print::test;
 
 pub fn one_axis() {
     let cells = [2i64, 1, 4, 3, 5];
     let shape = [5usize];
     let mut out = [0i64; 5];
     line(
-        min_max::minimum_filter1d(&cells, &shape, 3, 0, BorderMode::Reflect, 0, &mut out) as usize,
+        min_max1d::minimum_filter1d(
+            &cells,
+            &shape,
+            3,
+            0,
+            BorderMode::Reflect,
+            0,
+            &mut out,
+        ) as usize,
     );
     levels(&out);
     line(
-        min_max::maximum_filter1d(&cells, &shape, 3, 0, BorderMode::Reflect, 0, &mut out) as usize,
+        min_max1d::maximum_filter1d(
+            &cells,
+            &shape,
+            3,
+            0,
+            BorderMode::Reflect,
+            0,
+            &mut out,
+        ) as usize,
     );
     levels(&out);
 }
@@ -23,11 +39,27 @@ pub fn t4() {
     let shape = [4usize];
     let mut out = [0i64; 4];
     line(
-        min_max::minimum_filter1d(&cells, &shape, 3, 0, BorderMode::Reflect, 0, &mut out) as usize,
+        min_max1d::minimum_filter1d(
+            &cells,
+            &shape,
+            3,
+            0,
+            BorderMode::Reflect,
+            0,
+            &mut out,
+        ) as usize,
     );
     levels(&out);
     line(
-        min_max::maximum_filter1d(&cells, &shape, 3, 0, BorderMode::Reflect, 0, &mut out) as usize,
+        min_max1d::maximum_filter1d(
+            &cells,
+            &shape,
+            3,
+            0,
+            BorderMode::Reflect,
+            0,
+            &mut out,
+        ) as usize,
     );
     levels(&out);
 }
@@ -38,12 +70,30 @@ pub fn limits() {
     let shape = [3usize];
     let mut out = [9i64; 3];
     line(
-        min_max::minimum_filter1d(&cells, &shape, 4, 0, BorderMode::Nearest, 2, &mut out) as usize,
+        min_max1d::minimum_filter1d(
+            &cells,
+            &shape,
+            4,
+            0,
+            BorderMode::Nearest,
+            2,
+            &mut out,
+        ) as usize,
     );
-    line(min_max::maximum_filter1d(&cells, &shape, 7, 0, BorderMode::Mirror, 0, &mut out) as usize);
+    line(
+        min_max1d::maximum_filter1d(&cells, &shape, 7, 0, BorderMode::Mirror, 0, &mut out) as usize,
+    );
     levels(&out);
     line(
-        min_max::minimum_filter1d(&cells, &shape, 1, 0, BorderMode::Mirror, 99, &mut out) as usize,
+        min_max1d::minimum_filter1d(
+            &cells,
+            &shape,
+            1,
+            0,
+            BorderMode::Mirror,
+            99,
+            &mut out,
+        ) as usize,
     );
     levels(&out);
 }
@@ -55,7 +105,7 @@ pub fn both_orders() {
     let mut first = [0i64; 4];
     let mut out = [0i64; 4];
     line(
-        min_max::minimum_filter1d(
+        min_max1d::minimum_filter1d(
             &cells,
             &shape,
             2,
@@ -66,7 +116,7 @@ pub fn both_orders() {
         ) as usize,
     );
     line(
-        min_max::minimum_filter1d(
+        min_max1d::minimum_filter1d(
             &first,
             &shape,
             2,
@@ -78,7 +128,7 @@ pub fn both_orders() {
     );
     levels(&out);
     line(
-        min_max::minimum_filter1d(
+        min_max1d::minimum_filter1d(
             &cells,
             &shape,
             2,
@@ -89,7 +139,7 @@ pub fn both_orders() {
         ) as usize,
     );
     line(
-        min_max::minimum_filter1d(
+        min_max1d::minimum_filter1d(
             &first,
             &shape,
             2,

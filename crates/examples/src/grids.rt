@@ -1,8 +1,8 @@
 // The examples of `pad`: T1, T10, a square under each statistic, rims that stay, and refused calls, which leave the lent cells.
-use crate::print::levels;
-use crate::print::line;
 use border::PadMode;
 use pad_judge::Pair;
+use print::levels;
+use print::line;
 
 // Three pairs of which the first counts, or each.
 fn pairs(left: usize, right: usize) -> [Pair; 3] {

@@ -1,16 +1,12 @@
-// The numeric examples of the public comments, run and printed; `stdout` beside src/ has what they must be.
+// The numeric examples of the public comments, run and printed; `stdout` beside src/ has what they must be. Here are the ground floor, padding and
+// minimum and maximum; `examples_correlation` has the others.
 // The theorems of worked rows and the rule on the order of axes are called here too, so that no crate can drop its own unnoticed.
 mod arrays;
 mod averages;
 mod borders;
-mod correlations;
 mod extremes;
 mod filters;
 mod grids;
-mod kernels;
-mod padded;
-mod print;
-mod weighing;
 
 fn rows() {
     numbers::rows();
@@ -18,24 +14,17 @@ fn rows() {
     lanes::rows();
     border::rows();
     origin::rows();
-    kernel3d::rows();
-    symmetry::rows();
-    pad_line::rows();
-    pad_line_f64::rows();
     minlist::rows();
     statistics::rows();
     pad_axis::rows();
     pad_judge::rows();
+    pad_grid::rows();
+    pad::rows();
     sweeps::rows();
     sweeps::order_of_axes();
     filter_judge::rows();
-    axis_filter::rows();
-    correlate::rows();
+    min_max1d::rows();
     min_max::rows();
-    pad::rows();
-    correlation::rows();
-    correlate_judge::rows();
-    correlate1d::rows();
 }
 
 fn main() {
@@ -47,13 +36,6 @@ fn main() {
     arrays::lane_examples();
     borders::modes();
     borders::origins();
-    kernels::shapes();
-    kernels::symmetries();
-    padded::pad_conditions();
-    padded::fits();
-    padded::lines();
-    padded::lines_f64();
-    padded::windows();
     extremes::rings();
     extremes::lines();
     averages::extremes();
@@ -70,11 +52,4 @@ fn main() {
     grids::squares();
     grids::rims();
     grids::refusals();
-    weighing::weights();
-    weighing::judges();
-    weighing::judges_f64();
-    correlations::t2();
-    correlations::t3();
-    correlations::limits();
-    correlations::floats();
 }

@@ -1,4 +1,2 @@
 -- Laws.
-pub mod ByLanes
-pub mod OnePass
 pub mod EveryAxis

@@ -1,6 +1,5 @@
--- Minimum and maximum filters, one-axis and grid forms. What a one-axis call is, which number it gets and what it fills stand in `sweeps`,
+-- The grid forms of the minimum and maximum filters. What a one-axis call is, which number it gets and what it fills stand in `sweeps`,
 -- which number a grid call gets in `filter_judge`; here is what the grid forms fill: every axis in rising order.
---   orderOf e                   the test of the order: ≤ for the least level, ≥ for the greatest
 --   onAxis c a                  the call c on axis a
 --   filterAnswer le c cells     every axis in rising order, each pass on what the one before it left
 --   FilterAnswers               the promise of a grid call: its number, the output, and the second grid, which an accepted call leaves all 0
@@ -9,19 +8,11 @@ use mathlib.Core.Bool.{Bool}
 use mathlib.Core.List.{List}
 use lib.IntN.{ℤ, pos}
 use lib.ListN.{length, replicate}
-use lib.Signed.{leZ}
-use Rattle.numbers.specs.Order.{atLeast}
 use Rattle.numbers.specs.Refusal.{Answers}
 use Rattle.lanes.specs.Axes.{overAxes}
 use Rattle.sweeps.specs.Call.{Call}
 use Rattle.sweeps.specs.Run.{answerOf}
 use Rattle.filter_judge.specs.Judge.{filterJudged}
-use Rattle.min_max.specs.declared.Extreme.{Extreme}
-use Rattle.min_max.specs.declared.Extreme.the-variants.{Least, Greatest}
-
-abbrev pub orderOf : Extreme → ℤ → ℤ → Bool
-orderOf Least = leZ
-orderOf Greatest = atLeast
 
 abbrev pub onAxis : Call → ℕ → Call
 onAxis c a = record { shape = c .shape; size = c .size; axis = a; border = c .border; origin = c .origin; out = c .out }

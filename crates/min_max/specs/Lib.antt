@@ -1,4 +1,3 @@
--- The calls of the minimum and maximum filters.
-pub mod Lane
+-- The grid forms of the minimum and maximum filters.
 pub mod Filters
 pub mod Rows

@@ -5,10 +5,10 @@ ghost use lib.Signed.{leZ};
 ghost use Rattle.numbers.specs.Order.{atLeast};
 ghost use Rattle.numbers.specs.Refusal.{refusalOf};
 ghost use Rattle.filter_judge.specs.Judge.{callOf, filterJudged};
-ghost use Rattle.min_max.specs.Filters.{orderOf, filterAnswer, FilterAnswers};
-use crate::Extreme;
-use crate::one_axis;
+ghost use Rattle.min_max1d.specs.Lane.{orderOf};
+ghost use Rattle.min_max.specs.Filters.{filterAnswer, FilterAnswers};
 use border::BorderMode;
+use min_max1d::Extreme;
 
 // Fills out with the answer of an accepted grid call; second holds what a pass between leaves.
 fn passes(
@@ -26,17 +26,17 @@ fn passes(
 {
     let axes = shape.len();
     if axes == 1 {
-        one_axis::pass(extreme, data, shape, size, 0, mode, origin, out);
+        min_max1d::pass(extreme, data, shape, size, 0, mode, origin, out);
         return;
     }
     if axes == 2 {
-        one_axis::pass(extreme, data, shape, size, 0, mode, origin, second);
-        one_axis::pass(extreme, second, shape, size, 1, mode, origin, out);
+        min_max1d::pass(extreme, data, shape, size, 0, mode, origin, second);
+        min_max1d::pass(extreme, second, shape, size, 1, mode, origin, out);
         return;
     }
-    one_axis::pass(extreme, data, shape, size, 0, mode, origin, out);
-    one_axis::pass(extreme, out, shape, size, 1, mode, origin, second);
-    one_axis::pass(extreme, second, shape, size, 2, mode, origin, out);
+    min_max1d::pass(extreme, data, shape, size, 0, mode, origin, out);
+    min_max1d::pass(extreme, out, shape, size, 1, mode, origin, second);
+    min_max1d::pass(extreme, second, shape, size, 2, mode, origin, out);
 }
 
 // Judges a grid call, and fills out where it is accepted; second then holds zeros.

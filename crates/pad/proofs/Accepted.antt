@@ -13,7 +13,7 @@ use Rattle.numbers.specs.Lists.{tabulate, anyOf}
 use Rattle.numbers.specs.Refusal.{refusalOf}
 use Rattle.numbers.proofs.Any.{any-none, every-at}
 use Rattle.numbers.proofs.Refusal.{judged-all}
-use Rattle.numbers.proofs.Tabulate.{length-tabulate, getD-tabulate, tabulate-agree}
+use Rattle.numbers.proofs.Tabulate.{length-tabulate, getD-tabulate}
 use Rattle.numbers.proofs.Tests.{or-false}
 use Rattle.array.specs.Conditions.{badShape, badLength, badLevel}
 use Rattle.array.specs.Grid.{cellCount, lengthOf}
@@ -25,7 +25,7 @@ use Rattle.pad_judge.specs.Conditions.{badConstant, badCount, overPad, paddedCo
 use Rattle.pad_judge.specs.Pads.{pairOf, leftsOf, rightsOf, paddedShape}
 use Rattle.pad_judge.specs.declared.pads.Pair.{Pair}
 use Rattle.pad_judge.proofs.Pairs.{axis-at, padded-length, padded-short}
-use Rattle.pad.specs.Frame.{Framed, Filling}
+use Rattle.pad_grid.specs.Frame.{Framed, Filling}
 
 -- what each condition of an accepted call says
 pub record Passed (mode : PadMode) (ns : List ℕ) (pads : List Pair) (count : ℕ) (cells : List ℤ) (out : ℕ) : Type 0 where
@@ -102,20 +102,3 @@ module _ {mode : PadMode} {ns : List ℕ} {pads : List Pair} {count : ℕ} {cell
 
   pub lent-set : {p : List ℕ} → p ≡ paddedShape ns (leftsOf ns pads count) (rightsOf ns pads count) → out ≡ cellCount p
   lent-set f = P .lent ∙ ap cellCount (sym f)
-
--- ---- the pads and padded lengths axis by axis, as they are set
-abbrev pub leftAt : List Pair → ℕ → ℕ → ℕ
-leftAt pads count a = pairOf pads count a .left
-
-abbrev pub paddedLengthAt : List ℕ → List Pair → ℕ → ℕ → ℕ
-paddedLengthAt ns pads count a = pairOf pads count a .left + lengthOf ns a + pairOf pads count a .right
-
-pub padded-table : (ns : List ℕ) (pads : List Pair) (count : ℕ) → tabulate (paddedLengthAt ns pads count) 0 (length ns) ≡ paddedShape ns (leftsOf ns pads count) (rightsOf ns pads count)
-padded-table ns pads count =
-    tabulate-agree (paddedLengthAt ns pads count) (λ a. getD (leftsOf ns pads count) a 0 + lengthOf ns a + getD (rightsOf ns pads count) a 0) 0 (length ns) (λ a h. at (0 + a) (less a h))
-  where
-    less : (a : ℕ) → a < length ns → 0 + a < length ns
-    less a h = omega arith
-
-    at : (a : ℕ) → a < length ns → paddedLengthAt ns pads count a ≡ getD (leftsOf ns pads count) a 0 + lengthOf ns a + getD (rightsOf ns pads count) a 0
-    at a h = sym (λ j. getD-tabulate (λ k. pairOf pads count k .left) (length ns) a 0 h j + lengthOf ns a + getD-tabulate (λ k. pairOf pads count k .right) (length ns) a 0 h j)

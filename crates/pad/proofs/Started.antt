@@ -20,7 +20,7 @@ use Rattle.pad_line.proofs.Padded.{constant-before, constant-after}
 use Rattle.pad_judge.specs.Levels.{levelTo, ownCells, paddedLevel, paddedGrid, paddedOver}
 use Rattle.pad_judge.specs.Pads.{inMiddle, allFrom, middleFrom, paddedShape}
 use Rattle.pad_judge.proofs.Levels.{level-middle}
-use Rattle.pad.specs.Filled.{laidOver, started}
+use Rattle.pad.specs.Laid.{laidOver, started}
 
 -- a run's last member
 all-last : (t : ℕ → Bool) (a n : ℕ) → allFrom t a (suc n) ≡ allFrom t a n && t (a + n)

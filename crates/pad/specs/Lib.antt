@@ -1,4 +1,3 @@
--- What the workers of `pad` and `pad_to` suppose and leave.
-pub mod Frame
-pub mod Filled
+-- What the workers of `pad` and `pad_to` leave.
+pub mod Laid
 pub mod Rows

@@ -1,20 +1,13 @@
 -- Worked rows of this crate's definitions. Each holds by computing.
 --   PaddedRows        the rows
-use Prim.Native.Nat.{ℕ}
 use mathlib.Core.Path.{_≡_}
-use mathlib.Core.List.{List, [], _∷_, map}
-use lib.IntN.{ℤ, pos}
+use mathlib.Core.List.{[], _∷_}
+use lib.IntN.{pos}
 use Rattle.numbers.specs.Rows.{wholes}
 use Rattle.border.specs.declared.PadMode.the-variants.{Constant, Edge}
-use Rattle.pad.specs.Frame.{targetOf, rowLength, rowSet, middleSet}
-use Rattle.pad.specs.Filled.{laidOver, started}
+use Rattle.pad.specs.Laid.{laidOver, started}
 
 pub record PaddedRows : Type 0 where
-  -- the rows 1 2 3 / 4 5 6 in a grid of 4 by 5, one row and two columns from its start
-  pub row : rowLength (2 ∷ 3 ∷ []) ≡ 3
-  pub targets : map (targetOf (2 ∷ 3 ∷ []) (1 ∷ 2 ∷ []) (4 ∷ 5 ∷ [])) (0 ∷ 1 ∷ 2 ∷ 3 ∷ 4 ∷ 5 ∷ []) ≡ 7 ∷ 8 ∷ 9 ∷ 12 ∷ 13 ∷ 14 ∷ []
-  pub row-set : rowSet (wholes (1 ∷ 2 ∷ 3 ∷ 4 ∷ [])) 1 2 3 (wholes (9 ∷ 9 ∷ 9 ∷ 9 ∷ 9 ∷ 9 ∷ [])) ≡ wholes (9 ∷ 9 ∷ 9 ∷ 2 ∷ 3 ∷ 9 ∷ [])
-  pub middle : middleSet (2 ∷ 1 ∷ []) (1 ∷ 0 ∷ []) (3 ∷ 2 ∷ []) (wholes (1 ∷ 2 ∷ [])) (wholes (9 ∷ 8 ∷ 7 ∷ 6 ∷ 5 ∷ 4 ∷ [])) ≡ wholes (9 ∷ 8 ∷ 1 ∷ 6 ∷ 2 ∷ 4 ∷ [])
   -- under Constant the rim keeps what it held, under Edge it is filled; `pad` starts with the constant, or with what was lent
   pub over-constant : laidOver (Constant (pos 7)) (2 ∷ []) (1 ∷ []) (4 ∷ []) (wholes (1 ∷ 2 ∷ [])) (wholes (9 ∷ 9 ∷ 9 ∷ 8 ∷ [])) ≡ wholes (9 ∷ 1 ∷ 2 ∷ 8 ∷ [])
   pub over-edge : laidOver Edge (2 ∷ []) (1 ∷ []) (4 ∷ []) (wholes (1 ∷ 2 ∷ [])) (wholes (9 ∷ 9 ∷ 9 ∷ 8 ∷ [])) ≡ wholes (1 ∷ 1 ∷ 2 ∷ 2 ∷ [])

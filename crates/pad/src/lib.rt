@@ -1,10 +1,7 @@
-// Padding of grids: `pad` fills the rim, `pad_to` under Constant keeps what was lent there.
+// Padding of grids: `pad` fills the rim, `pad_to` under Constant keeps what was lent there. The workers on padded grids stand in `pad_grid`.
 ghost use Rattle.pad.specs.Rows.{PaddedRows};
 
 mod calls;
-mod frame;
-mod middle;
-mod rims;
 
 pub use calls::pad;
 pub use calls::pad_to;

@@ -2,11 +2,8 @@
 -- Assumes nothing.
 use mathlib.Core.Path.{refl}
 use Rattle.numbers.specs.Lists.{tabulate}
-use Rattle.numbers.specs.Windows.{windowOf}
 use Rattle.array.specs.Grid.{placeOf, coordinate}
 use Rattle.border.specs.Border.{cellFor, extendedLane}
-use Rattle.pad_line.specs.Line.{paddedAt, paddedLine}
-use Rattle.minlist.specs.Firsts.{firsts}
 use Rattle.sweeps.specs.Call.{firstIn}
 use Rattle.sweeps.specs.Run.{answerOf}
 use Rattle.min_max.specs.Filters.{filterAnswer}
@@ -14,16 +11,8 @@ use Rattle.min_max.proofs.rows.Statement.{statement}
 use Rattle.min_max.proofs.rows.Tie as tie
 
 returns : tie.Need-returns
-unfolding tabulate windowOf placeOf coordinate cellFor extendedLane paddedAt paddedLine firsts firstIn answerOf filterAnswer
+unfolding tabulate placeOf coordinate cellFor extendedLane firstIn answerOf filterAnswer
 returns c = record {
-  filters = refl;
-  orders = refl;
-  t4-minimum = refl;
-  t4-maximum = refl;
-  before = refl;
-  after = refl;
-  line-both = refl;
-  line-before = refl;
   t5-minimum = refl;
   t5-maximum = refl;
   third-axis = refl;

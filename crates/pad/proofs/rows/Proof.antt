@@ -6,18 +6,13 @@ use Rattle.array.specs.Grid.{placeOf, coordinate}
 use Rattle.border.specs.Border.{cellFor, extendedLane}
 use Rattle.pad_line.specs.Line.{paddedAt}
 use Rattle.pad_judge.specs.Levels.{levelTo}
-use Rattle.pad.specs.Frame.{rowSet, middleSet}
-use Rattle.pad.specs.Filled.{laidOver}
+use Rattle.pad.specs.Laid.{laidOver}
 use Rattle.pad.proofs.rows.Statement.{statement}
 use Rattle.pad.proofs.rows.Tie as tie
 
 returns : tie.Need-returns
-unfolding tabulate placeOf coordinate cellFor extendedLane paddedAt levelTo rowSet middleSet laidOver
+unfolding tabulate placeOf coordinate cellFor extendedLane paddedAt levelTo laidOver
 returns c = record {
-  row = refl;
-  targets = refl;
-  row-set = refl;
-  middle = refl;
   over-constant = refl;
   over-edge = refl;
   starts = refl;

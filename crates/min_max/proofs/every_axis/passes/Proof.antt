@@ -12,7 +12,8 @@ use lib.ListN.{length}
 use Rattle.numbers.specs.Refusal.{refusalOf}
 use Rattle.array.proofs.Shapes.{shape-accepted}
 use Rattle.filter_judge.specs.Judge.{callOf, filterJudged}
-use Rattle.min_max.specs.Filters.{orderOf, filterAnswer}
+use Rattle.min_max1d.specs.Lane.{orderOf}
+use Rattle.min_max.specs.Filters.{filterAnswer}
 use Rattle.min_max.proofs.EveryAxis.{Filtered, filtered, between-input, pass-accepted, between-pass, one-pass, two-passes, three-passes}
 use Rattle.min_max.proofs.every_axis.passes.Statement.{statement}
 use Rattle.min_max.proofs.every_axis.passes.Tie as tie

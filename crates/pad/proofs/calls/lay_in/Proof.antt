@@ -4,7 +4,7 @@ use mathlib.Core.Path.{_∙_}
 use lib.ListN.{length}
 use denote.Ref.{now}
 use Rattle.pad_judge.specs.Pads.{leftsOf, rightsOf}
-use Rattle.pad.specs.Filled.{laidOver}
+use Rattle.pad.specs.Laid.{laidOver}
 use Rattle.pad.proofs.Accepted.{passed, filling-set, lent-set}
 use Rattle.pad.proofs.Started.{laid-padded}
 use borrow.Author.Needs.{needs}

@@ -2,7 +2,7 @@
 -- Assumes nothing.
 use mathlib.Core.Path.{sym, _∙_}
 use denote.Ref.{now}
-use Rattle.pad.proofs.Fills.{filled-middle, laid-middle, laid-filled}
+use Rattle.pad.proofs.LaidOver.{filled-middle, laid-middle, laid-filled}
 use borrow.Author.Needs.{needs}
 use Rattle.pad.proofs.calls.lay_over.Statement.{statement}
 use Rattle.pad.proofs.calls.lay_over.Tie as tie

@@ -1,0 +1,53 @@
+// The examples of `pad_line` and `pad_line_f64`.
+use border::BorderMode;
+use border::BorderModeF64;
+use print::levels;
+use print::line;
+use print::test;
+
+// Pads of three cells.
+pub fn pad_conditions() {
+    test(pad_line::bad_pad(BorderMode::Mirror, 3, 2));
+    test(pad_line::bad_pad(BorderMode::Mirror, 3, 3));
+    test(pad_line::bad_pad(BorderMode::Reflect, 3, 3));
+    test(pad_line::bad_pad(BorderMode::Reflect, 3, 4));
+    test(pad_line::bad_pad(BorderMode::Wrap, 3, 3));
+    test(pad_line::bad_pad(BorderMode::Wrap, 3, 4));
+    test(pad_line::bad_pad(BorderMode::Nearest, 3, 18446744073709551615));
+    test(pad_line::bad_pad(BorderMode::Constant(0), 3, 18446744073709551615));
+    test(pad_line_f64::bad_pad_f64(BorderModeF64::Mirror, 3, 2));
+    test(pad_line_f64::bad_pad_f64(BorderModeF64::Mirror, 3, 3));
+}
+
+// Lanes of three cells of a grid of 6, with pads 2 and 2.
+pub fn fits() {
+    test(pad_line::lane_fits(6, 1, 1, 3, 2, 2, 7));
+    test(pad_line::lane_fits(6, 1, 1, 3, 2, 2, 6));
+    test(pad_line::lane_fits(6, 1, 2, 3, 2, 2, 7));
+}
+
+// Lane 1 of the rows 4 5 6 / 1 2 3; the second call is refused and leaves the line as it was.
+pub fn lines() {
+    let grid = [4i64, 5, 6, 1, 2, 3];
+    let mut padded = [9i64; 8];
+    pad_line::pad_lane(&grid, 1, 1, 3, BorderMode::Mirror, 2, 2, &mut padded);
+    levels(&padded);
+    pad_line::pad_lane(&grid, 1, 1, 3, BorderMode::Mirror, 3, 2, &mut padded);
+    levels(&padded);
+}
+
+pub fn lines_f64() {
+    let grid = [4.0f64, 5.0, 6.0, 1.0, 2.0, 3.0];
+    let mut padded = [9.0f64; 8];
+    pad_line_f64::pad_lane_f64(&grid, 1, 1, 3, BorderModeF64::Mirror, 2, 2, &mut padded);
+    test(padded[0] == 3.0);
+    test(padded[6] == 1.0);
+    test(padded[7] == 9.0);
+}
+
+pub fn windows() {
+    levels(pad_line::window(&[7, 1, 2, 3, 7], 1, 2));
+    levels(pad_line::window(&[7, 1, 2, 3, 7], 4, 2));
+    line(pad_line_f64::window_f64(&[7.0, 1.0, 2.0, 3.0, 7.0], 1, 2).len());
+    line(pad_line_f64::window_f64(&[7.0, 1.0, 2.0, 3.0, 7.0], 4, 2).len());
+}

@@ -1,0 +1,29 @@
+-- `min_max1d::rows` meets its contract: every row holds by computing.
+-- Assumes nothing.
+use mathlib.Core.Path.{refl}
+use Rattle.numbers.specs.Lists.{tabulate}
+use Rattle.numbers.specs.Windows.{windowOf}
+use Rattle.array.specs.Grid.{placeOf, coordinate}
+use Rattle.border.specs.Border.{cellFor, extendedLane}
+use Rattle.pad_line.specs.Line.{paddedAt, paddedLine}
+use Rattle.minlist.specs.Firsts.{firsts}
+use Rattle.sweeps.specs.Call.{firstIn}
+use Rattle.sweeps.specs.Run.{answerOf}
+use Rattle.min_max1d.proofs.rows.Statement.{statement}
+use Rattle.min_max1d.proofs.rows.Tie as tie
+
+returns : tie.Need-returns
+unfolding tabulate windowOf placeOf coordinate cellFor extendedLane paddedAt paddedLine firsts firstIn answerOf
+returns c = record {
+  filters = refl;
+  orders = refl;
+  t4-minimum = refl;
+  t4-maximum = refl;
+  before = refl;
+  after = refl;
+  line-both = refl;
+  line-before = refl;
+}
+
+pub rows-spec : {M : Type 1} → statement M
+rows-spec = tie.close (tie.spec returns)

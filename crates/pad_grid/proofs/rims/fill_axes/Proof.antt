@@ -1,0 +1,55 @@
+-- `pad_grid::rims::fill_axes` meets its contract: what one axis leaves is where the next starts.
+-- Assumes nothing.
+use mathlib.Core.Path.{_≡_, _∙_}
+use Prim.Native.Nat.{_-_, _≤_}
+use native.Mathlib.Omega.{arith}
+use lib.ListN.{length}
+use Rattle.array.specs.Grid.{cellCount}
+use Rattle.pad_grid.specs.Filled.{Fills}
+use Rattle.pad_grid.proofs.Fills.{fills-then, fills-last}
+use borrow.Author.Needs.{needs}
+use Rattle.pad_grid.proofs.rims.fill_axes.Statement.{statement}
+use Rattle.pad_grid.proofs.rims.fill_axes.Tie as tie
+
+abbrev Inv-loop : tie.InvT-loop
+Inv-loop mode shape lefts padded out₀ axis₀ out axis = (axis ≤ length shape) × (length out ≡ cellCount padded) × Fills mode shape lefts padded 0 axis out₀ out
+
+abbrev μ-loop : tie.MeasureT-loop
+μ-loop mode shape lefts padded out₀ axis₀ out axis = length shape - axis
+
+loop-holds : tie.Need-loop-holds Inv-loop μ-loop
+loop-holds c = (search needs, c .before .before .before .pre .1, λ cells A. A)
+
+fill-axis-requires : tie.Need-fill-axis-requires Inv-loop μ-loop
+fill-axis-requires c κs = search needs
+
+add-axis : tie.Need-add-axis Inv-loop μ-loop
+add-axis c = search needs
+
+loop-less : tie.Need-loop-less Inv-loop μ-loop
+loop-less c = search needs
+
+loop-again : tie.Need-loop-again Inv-loop μ-loop
+loop-again c =
+    let L = c .before .before .before .before .loop in
+    (omega arith, c .before .fill-axis .kept .1 .1 .1 .1 .1 .0 ∙ L .inv .1, fills-then (L .inv .2) (c .before .fill-axis .ensures))
+
+same-length : tie.Need-same-length Inv-loop μ-loop
+same-length c = search needs
+
+returns : tie.Need-returns Inv-loop μ-loop
+returns c = let L = c .before .loop in fills-last (omega (arith, L .inv .0)) (L .inv .2)
+
+pub fill-axes-spec : {M : Type 1} → statement M
+fill-axes-spec =
+    tie.close
+    (tie.spec
+    Inv-loop
+    μ-loop
+    loop-holds
+    fill-axis-requires
+    add-axis
+    loop-less
+    loop-again
+    same-length
+    returns)

@@ -1,0 +1,4 @@
+-- What the workers of padded grids suppose and leave.
+pub mod Frame
+pub mod Filled
+pub mod Rows
