@@ -9,8 +9,9 @@ use lib.ListN.{length}
 use Rattle.numbers.specs.Lists.{anyOf}
 use Rattle.numbers.specs.Refusal.{Judged, refusalOf}
 use Rattle.numbers.proofs.Refusal.{judged-all, chain-stops, chain-goes, chain-ends}
-use Rattle.array.specs.Conditions.{gridJudged}
+use Rattle.array.specs.Conditions.{badLevel, gridJudged}
 use Rattle.border.specs.Border.{Border}
+use Rattle.border.specs.Modes.{badConstantBy}
 use Rattle.pad_line.specs.Line.{badPad}
 use Rattle.filter_judge.specs.Judge.{badReach}
 use Rattle.gradient_judge.specs.Judge.{passesJudged, badGradientSums, GradientNumber}
@@ -33,14 +34,11 @@ module _ (b : Border ℤ) (ns : List ℕ) (axis : ℕ) (cells : List ℤ) (out s
   unfolding grid
   number-refused h smooth S = chain-stops grid (passesJudged b ns axis ++ ((badGradientSums smooth b ns axis cells, 12) ∷ [])) (tt, (tt, (tt, tt))) e h
 
-  pub number-passed : {r : ℕ} → g ≡ 0 → r ≡ refusalOf (passesJudged b ns axis) → GradientNumber b ns axis cells out second r
+  pub number-passed : {r : ℕ} → g ≡ 0 → r ≡ refusalOf (passesJudged b ns axis) → (r ≡ 0 → badConstantBy badLevel b ≡ false) → GradientNumber b ns axis cells out second r
   unfolding grid
-  number-passed {r} z h smooth S =
+  number-passed {r} z h constant smooth S =
       chain-goes grid (passesJudged b ns axis ++ ((badGradientSums smooth b ns axis cells, 12) ∷ [])) (tt, (tt, (tt, tt))) e z
       (chain-ends (passesJudged b ns axis) (badGradientSums smooth b ns axis cells) 12 (tt, (tt, (tt, tt))) h none)
     where
       none : r ≡ 0 → badGradientSums smooth b ns axis cells ≡ false
-      none y =
-          let J = judged-all grid (tt, (tt, (tt, tt))) (sym e ∙ z) in
-          let P = judged-all (passesJudged b ns axis) (tt, (tt, (tt, tt))) (sym h ∙ y) in
-          no-gradient-sums b S ns axis cells (J .0) (J .1 .1 .0) (P .1 .0)
+      none y = let J = judged-all grid (tt, (tt, (tt, tt))) (sym e ∙ z) in no-gradient-sums b S ns axis cells (J .0) (J .1 .1 .0) (constant y)
