@@ -1,4 +1,4 @@
--- The size of a correlation's answer along an axis, whole numbers: at most the count of weights, times the greatest level, times the greatest weight.
+-- A correlation's answer along an axis, whole numbers: as many cells, of size at most the count of weights, times the greatest level, times the greatest weight.
 -- Assumes nothing.
 use Prim.Native.Nat.{ℕ, _+_, _-_, _*_, _/_, _%_, _^_, _≤_, _<_}
 use mathlib.Core.Path.{_≡_, ap}
@@ -7,7 +7,7 @@ use mathlib.Core.List.{List, map}
 use native.Mathlib.Omega.{arith}
 use lib.Dec.{eqb, eqb→eq}
 use lib.IntN.{ℤ, pos, natAbs, _+ℤ_, _-ℤ_, _*ℤ_}
-use lib.ListN.{length, getD}
+use lib.ListN.{length, getD, length-map}
 use Rattle.numbers.specs.Lists.{anyOf}
 use Rattle.numbers.specs.Ranges.{beyond}
 use Rattle.numbers.proofs.Any.{none-any, every-imp, every-map}
@@ -16,6 +16,7 @@ use Rattle.numbers.proofs.Tabulate.{every-table}
 use Rattle.numbers.proofs.Tests.{cond-ind}
 use Rattle.array.specs.Grid.{lengthOf, strideOf}
 use Rattle.lanes.specs.Lanes.{laneOf, laneBase, lane, laneAt, alongAxis}
+use Rattle.lanes.proofs.AlongAxis.{length-along}
 use Rattle.border.specs.Border.{Border, constant, along}
 use Rattle.pad_line.specs.Line.{paddedLine}
 use Rattle.pad_line.proofs.Sizes.{SizedBorder, line-sized}
@@ -82,3 +83,9 @@ module _ (p q : ℕ) (b : Border ℤ) (w : List ℤ) (c : SizedBorder p b) (k : 
 
       line : List ℤ → List ℤ
       line s = correlatedLine wholeOps NonSymmetric b left right w s
+
+-- as many cells as there were
+pub length-answer : (b : Border ℤ) (o : ℤ) (w : List ℤ) (ns : List ℕ) (a : ℕ) (cells : List ℤ) → length (correlate1dZ b o w ns a cells) ≡ length cells
+unfolding correlatedBy
+length-answer b o w ns a cells =
+    cond-ind (eqb (length w) 1) (map (λ x. x *ℤ getD w 0 (pos 0)) cells) _ (λ l. length l ≡ length cells) (λ t. length-map cells _) (λ t. length-along (pos 0) _ ns a cells)

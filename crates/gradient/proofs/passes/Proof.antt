@@ -1,87 +1,102 @@
+-- `gradient::passes` meets its contract: every pass can be weighed, and the passes are those of the answer.
+-- Assumes nothing.
+use Prim.Native.Nat.{ℕ, _≤_, _<_}
+use mathlib.Core.Path.{_≡_, refl, _∙_}
+use native.Mathlib.Omega.{arith}
+use denote.Ref.{now}
+use lib.ListN.{length}
+use Rattle.array.proofs.Shapes.{shape-accepted}
+use Rattle.border.specs.Modes.{borderOf}
+use Rattle.gradient_judge.specs.Judge.{ThreeSmall}
+use Rattle.gradient.proofs.EachPass.{Accepted, Between, accepted, between-input, weighs-pass, between-pass, first-in, last-in, one-pass, two-passes, three-passes}
 use borrow.Author.Needs.{needs}
 use Rattle.gradient.proofs.passes.Statement.{statement}
 use Rattle.gradient.proofs.passes.Tie as tie
-use Rattle.gradient.proofs.passes.Reads as reads
-use Rattle.gradient.proofs.passes.Lts as lts
-use Rattle.correlate1d.proofs.weigh.Reads as weigh-reads
-use Rattle.gradient.proofs.first_other.Reads as first-other-reads
-use Rattle.gradient.proofs.last_other.Reads as last-other-reads
 
--- src/lib.rt:49:41
+taken : (s : tie.Start) → let a = s .args in Accepted (borderOf (a .mode)) (now (a .shape)) (a .axis) (now (a .«data»)) (length (now (a .out))) (length (now (a .second)))
+taken s = let a = s .args in accepted (now (a .smooth)) (borderOf (a .mode)) (now (a .shape)) (a .axis) (now (a .«data»)) (length (now (a .out))) (length (now (a .second))) (s .pre .1)
+
+-- more than two axes are three
+three : (c : tie.Else2) → length (now (c .before .before .before .before .args .shape)) ≡ 3
+three c =
+    let s = c .before .before .before .before in
+    let A = shape-accepted (now (s .args .shape)) (taken s .shape) in
+    at (length (now (s .args .shape))) (A .some) (A .few) (c .before .before .if1 .left) (c .if2 .left)
+  where
+    at : (n : ℕ) → 0 < n → n ≤ 3 → (n ≡ 1 → ⊥) → (n ≡ 2 → ⊥) → n ≡ 3
+    at n h f p q = omega arith
+
 slice-aggregate-weigh : tie.Need-slice-aggregate-weigh
 slice-aggregate-weigh c = search needs
 
--- src/lib.rt:49:9
 weigh-requires : tie.Need-weigh-requires
-weigh-requires c κs = ?
+weigh-requires c κs = let s = c .before .before .before .before in weighs-pass (taken s) (record { three = refl; small = refl }) (between-input (taken s)) (omega arith) (taken s .output) (taken s .along)
 
--- src/lib.rt:50:9
 same-length : tie.Need-same-length
 same-length c = search needs
 
--- src/lib.rt:50:9
 returns : tie.Need-returns
-returns c = ?
+returns c = let s = c .before .before .before .before .before .before in one-pass (now (s .args .smooth)) (borderOf (s .args .mode)) (now (s .args .shape)) (now (s .args .«data»)) (taken s .along) (c .before .weigh .ensures) (c .before .before .before .before .if1 .taken)
 
--- src/lib.rt:52:9
 first-other-requires : tie.Need-first-other-requires
 first-other-requires c κs = search needs
 
--- src/lib.rt:54:41
 slice-aggregate-weigh-2 : tie.Need-slice-aggregate-weigh-2
 slice-aggregate-weigh-2 c = search needs
 
--- src/lib.rt:54:9
 weigh-requires-2 : tie.Need-weigh-requires-2
-weigh-requires-2 c κs = ?
+weigh-requires-2 c κs = let s = c .before .before .before .before .before .before in weighs-pass (taken s) (record { three = refl; small = refl }) (between-input (taken s)) (omega arith) (taken s .between) (taken s .along)
 
--- src/lib.rt:55:9
 weigh-requires-3 : tie.Need-weigh-requires-3
-weigh-requires-3 c κs = ?
+weigh-requires-3 c κs =
+    let s = c .before .before .before .before .before .before .before .before .before .before in
+    weighs-pass (taken s) (s .pre .0) (between-pass (taken s) (record { three = refl; small = refl }) (between-input (taken s)) _ (c .before .before .before .weigh2 .ensures)) (omega arith) (taken s .output)
+    (omega (arith, c .before .before .before .before .before .before .before .first-other .ensures, first-in (s .args .axis) (length (now (s .args .shape))) (omega (arith, c .before .before .before .before .before .before .if2 .taken))))
 
--- src/lib.rt:56:9
 same-length-2 : tie.Need-same-length-2
 same-length-2 c = search needs
 
--- src/lib.rt:56:9
 same-length-3 : tie.Need-same-length-3
 same-length-3 c = search needs
 
--- src/lib.rt:56:9
 returns-2 : tie.Need-returns-2
-returns-2 c = ?
+returns-2 c =
+    let s = c .before .before .before .before .before .before .before .before .before .before .before .before in
+    two-passes (now (s .args .smooth)) (borderOf (s .args .mode)) (now (s .args .shape)) (now (s .args .«data»)) (taken s .along) (c .before .before .before .before .before .weigh2 .ensures) (c .before .before .before .before .before .before .before .before .before .first-other .ensures) (c .before .weigh3 .ensures) (c .before .before .before .before .before .before .before .before .if2 .taken)
 
--- src/lib.rt:58:9
 last-other-requires : tie.Need-last-other-requires
 last-other-requires c κs = search needs
 
--- src/lib.rt:59:37
 slice-aggregate-weigh-3 : tie.Need-slice-aggregate-weigh-3
 slice-aggregate-weigh-3 c = search needs
 
--- src/lib.rt:59:5
 weigh-requires-4 : tie.Need-weigh-requires-4
-weigh-requires-4 c κs = ?
+weigh-requires-4 c κs = let s = c .before .before .before .before .before .before .before in weighs-pass (taken s) (record { three = refl; small = refl }) (between-input (taken s)) (omega arith) (taken s .output) (taken s .along)
 
--- src/lib.rt:60:5
 weigh-requires-5 : tie.Need-weigh-requires-5
-weigh-requires-5 c κs = ?
+weigh-requires-5 c κs =
+    let s = c .before .before .before .before .before .before .before .before .before .before .before in
+    weighs-pass (taken s) (s .pre .0) (between-pass (taken s) (record { three = refl; small = refl }) (between-input (taken s)) _ (c .before .before .before .weigh4 .ensures)) (omega arith) (taken s .between)
+    (omega (arith, c .before .before .before .before .before .before .before .before .first-other .ensures, first-in (s .args .axis) (length (now (s .args .shape))) (omega (arith, three (c .before .before .before .before .before .before .before)))))
 
--- src/lib.rt:61:5
 weigh-requires-6 : tie.Need-weigh-requires-6
-weigh-requires-6 c κs = ?
+weigh-requires-6 c κs =
+    let s = c .before .before .before .before .before .before .before .before .before .before .before .before .before .before .before in
+    let B = between-pass (taken s) (record { three = refl; small = refl }) (between-input (taken s)) _ (c .before .before .before .before .before .before .before .weigh4 .ensures) in
+    weighs-pass (taken s) (s .pre .0) (between-pass (taken s) (s .pre .0) B _ (c .before .before .before .weigh5 .ensures)) (omega arith) (c .before .before .before .before .before .before .before .weigh4 .kept .1 .1 .1 .1 .1 .1 .0 ∙ taken s .output)
+    (omega (arith, c .before .before .before .before .before .before .before .before .before .before .last-other .ensures, last-in (s .args .axis) (length (now (s .args .shape))) (omega (arith, three (c .before .before .before .before .before .before .before .before .before .before .before)))))
 
--- src/lib.rt:34:1
 same-length-4 : tie.Need-same-length-4
 same-length-4 c = search needs
 
--- src/lib.rt:34:1
 same-length-5 : tie.Need-same-length-5
 same-length-5 c = search needs
 
--- src/lib.rt:34:1
 returns-3 : tie.Need-returns-3
-returns-3 c = ?
+returns-3 c =
+    let s = c .before .before .before .before .before .before .before .before .before .before .before .before .before .before .before .before .before in
+    three-passes (now (s .args .smooth)) (borderOf (s .args .mode)) (now (s .args .shape)) (now (s .args .«data»)) (taken s .along) (c .before .before .before .before .before .before .before .before .before .weigh4 .ensures) (c .before .before .before .before .before .before .before .before .before .before .before .before .before .before .first-other .ensures) (c .before .before .before .before .before .weigh5 .ensures)
+    (three (c .before .before .before .before .before .before .before .before .before .before .before .before .before)) (c .before .before .before .before .before .before .before .before .before .before .before .before .last-other .ensures) (c .before .weigh6 .ensures)
 
 pub passes-spec : {M : Type 1} → statement M
 passes-spec =
