@@ -28,9 +28,6 @@ use Rattle.gradient_judge.specs.Judge.{ThreeSmall, badGradientSums}
 abbrev level : ℕ
 level = 2147483647
 
-pub difference-small : ThreeSmall difference
-difference-small = record { three = refl; small = refl }
-
 -- ---- one pass
 module _ (b : Border ℤ) {w : List ℤ} (S : ThreeSmall w) (ns : List ℕ) where
   pub pass-sized : (p : ℕ) (a : ℕ) (g : List ℤ) → SizedBorder p b → Sized p g → Sized (6 * p) (correlate1dZ b (pos 0) w ns a g)
