@@ -3,7 +3,7 @@
 use mathlib.Core.Path.{_≡_, refl, sym, ap, subst, _∙_}
 use mathlib.Core.Bool.{Bool, true, false}
 use mathlib.Core.List.{List, map, reverse}
-use Prim.Native.Nat.{ℕ, _^_}
+use Prim.Native.Nat.{ℕ, _^_, _≤_}
 use native.Mathlib.Omega.{arith}
 use lib.IntN.{ℤ, pos, _*ℤ_}
 use mir.Syntax.{w64}
@@ -11,8 +11,9 @@ use mir.ValLaws.{toZ-ofZ}
 use lib.ListN.{length, getD}
 use Rattle.numbers.specs.Lists.{anyOf}
 use Rattle.numbers.proofs.Any.{any-none, none-any, every-at, every-imp, every-reverse}
-use Rattle.numbers.proofs.Size.{size-inside, size-le, inside-sized, fits-size}
+use Rattle.numbers.proofs.Size.{Size, Sized, size-inside, size-le, inside-sized, fits-size}
 use Rattle.array.specs.Conditions.{badLevel}
+use Rattle.array.proofs.Judged.{levels-sized}
 use Rattle.border.specs.Border.{Border, constant, along}
 use Rattle.border.specs.Modes.{badConstantBy}
 use Rattle.correlate_line.proofs.Computed.{read}
@@ -20,17 +21,17 @@ use Rattle.correlate_judge.specs.Judge.{badWeight, appliedOrigin, appliedWeight
 use Rattle.correlate1d.proofs.Passed.{Passed, placed-accepted}
 use Rattle.correlate1d.specs.Weighs.{tooLarge, Scales, Weighs}
 
--- ---- a level within the limits of condition 3 is small
+-- ---- a level within the limits of condition 3 is small, and one of no greater size than 2^38
 small-level : (z : ℤ) → badLevel z ≡ false → tooLarge z ≡ false
 unfolding badLevel
 small-level z e = inside-sized (2 ^ 38) z (size-le (size-inside 2147483647 z e) (omega arith))
 
-small-constant : (b : Border ℤ) → badConstantBy badLevel b ≡ false → badConstantBy tooLarge b ≡ false
+pub small-constant : (b : Border ℤ) → badConstantBy badLevel b ≡ false → badConstantBy tooLarge b ≡ false
 small-constant (constant c) e = small-level c e
 small-constant (along m) e = refl
 
-small-levels : (cells : List ℤ) → anyOf badLevel cells ≡ false → anyOf tooLarge cells ≡ false
-small-levels cells e = none-any tooLarge cells (every-imp _ _ cells small-level (any-none badLevel cells e))
+pub small-sized : {p : ℕ} (cells : List ℤ) → Sized p cells → p ≤ 2 ^ 38 → anyOf tooLarge cells ≡ false
+small-sized {p} cells h l = none-any tooLarge cells (every-imp (λ x. Size x p) _ cells (λ x s. inside-sized (2 ^ 38) x (size-le s l)) h)
 
 module _ {turned : Bool} {b : Border ℤ} {o : ℤ} {w : List ℤ} {ns : List ℕ} {a : ℕ} {cells : List ℤ} (out : List ℤ) (P : Passed badLevel badWeight turned b o w ns a cells (length out)) where
   pub scales-accepted : Scales cells (getD w 0 (pos 0)) out
@@ -57,5 +58,5 @@ module _ {turned : Bool} {b : Border ℤ} {o : ℤ} {w : List ℤ} {ns : List �
       placed = placed-accepted out P more;
       weights = applied-weights turned;
       level = small-constant b (P .level);
-      levels = small-levels cells (P .levels);
+      levels = small-sized cells (levels-sized cells (P .levels)) (omega arith);
     }

@@ -1,90 +1,40 @@
 -- No sum of accepted levels and weights leaves 64 bits: condition 12 never holds where 3, 5, 6 and 9 do not.
 -- Assumes nothing.
-use Prim.Native.Nat.{ℕ, _+_, _-_, _*_, _/_, _%_, _≤_}
+use Prim.Native.Nat.{ℕ, _*_, _≤_}
 use mathlib.Core.Path.{_≡_}
 use mathlib.Core.Bool.{Bool, true, false}
-use mathlib.Core.List.{List, map, reverse}
+use mathlib.Core.List.{List, reverse}
 use native.Mathlib.Nat.{mul-le-mul, le-refl}
 use native.Mathlib.Omega.{arith}
 use borrow.Author.Tests.{ltb-false}
-use lib.Dec.{eqb, ltb}
-use lib.IntN.{ℤ, pos, natAbs, _+ℤ_, _-ℤ_, _*ℤ_}
-use lib.ListN.{length, getD, length-reverse}
+use lib.Dec.{ltb}
+use lib.IntN.{ℤ}
+use lib.ListN.{length, length-reverse}
 use Rattle.numbers.specs.Lists.{anyOf}
 use Rattle.numbers.specs.Ranges.{outside, beyond}
-use Rattle.numbers.proofs.Any.{none-any, every-imp, every-map, every-reverse}
-use Rattle.numbers.proofs.Size.{Size, Sized, size-mul, size-le, member-sized, tested-sized, beyond-sized}
-use Rattle.numbers.proofs.Tabulate.{every-table}
-use Rattle.numbers.proofs.Tests.{cond-ind, or-false}
+use Rattle.numbers.proofs.Any.{every-reverse}
+use Rattle.numbers.proofs.Size.{Size, Sized, tested-sized}
+use Rattle.numbers.proofs.Tests.{or-false}
 use Rattle.array.specs.Conditions.{badLevel}
-use Rattle.array.specs.Grid.{lengthOf, strideOf}
 use Rattle.array.proofs.Judged.{levels-sized}
-use Rattle.lanes.specs.Lanes.{laneOf, laneBase, lane, laneAt, alongAxis}
 use Rattle.border.specs.Border.{Border}
 use Rattle.border.specs.Modes.{badConstantBy}
-use Rattle.pad_line.specs.Line.{paddedLine}
-use Rattle.pad_line.proofs.Sizes.{SizedBorder, constant-sized, line-sized}
-use Rattle.symmetry.specs.declared.SymmetryState.the-variants.{NonSymmetric}
-use Rattle.correlation.specs.Weighed.{wholeOps, weighedAt}
-use Rattle.correlation.specs.Correlated.{correlatedLine, correlatedBy, correlate1dZ}
-use Rattle.correlation.proofs.Sizes.{size-plain}
+use Rattle.pad_line.proofs.Sizes.{SizedBorder, constant-sized}
+use Rattle.correlation.specs.Correlated.{correlate1dZ}
+use Rattle.correlation.proofs.Bounds.{answer-sized, within-sized}
 use Rattle.correlate_judge.specs.Judge.{badWeight, badSums}
 
--- the greatest size of a level, of a weight, of a sum
+-- the greatest size of a level and of a weight
 abbrev level : ℕ
 level = 2147483647
 
 abbrev weight : ℕ
 weight = 65535
 
-abbrev sum : ℕ
-sum = 65 * (level * weight)
-
--- of every lane of an axis
-along-sized : (f : List ℤ → List ℤ) → ((s : List ℤ) → Sized level s → Sized sum (f s)) → (ns : List ℕ) (a : ℕ) (cells : List ℤ) → Sized level cells → Sized sum (alongAxis (pos 0) f ns a cells)
-unfolding alongAxis laneAt
-along-sized f g ns a cells h =
-    every-table (λ x. Size x sum) (λ k. getD (f (row k)) (k / strideOf ns a % lengthOf ns a) (pos 0)) 0 (length cells) (λ k. member-sized sum (f (row k)) (g (row k) (row-sized k)) (k / strideOf ns a % lengthOf ns a))
-  where
-    row : ℕ → List ℤ
-    row k = lane (pos 0) (lengthOf ns a) (strideOf ns a) (laneOf (lengthOf ns a) (strideOf ns a) k) cells
-
-    row-sized : (k : ℕ) → Sized level (row k)
-    row-sized k =
-        every-table (λ x. Size x level) (λ i. getD cells (laneBase (lengthOf ns a) (strideOf ns a) (laneOf (lengthOf ns a) (strideOf ns a) k) + i * strideOf ns a) (pos 0)) 0 (lengthOf ns a)
-        (λ i. member-sized level cells h (laneBase (lengthOf ns a) (strideOf ns a) (laneOf (lengthOf ns a) (strideOf ns a) k) + i * strideOf ns a))
-
-module _ (b : Border ℤ) (w : List ℤ) (n : length w ≤ 65) (c : SizedBorder level b) (k : Sized weight w) where
-  -- of the windows of a lane
-  lane-sized : (left right : ℕ) (s : List ℤ) → Sized level s → Sized sum (correlatedLine wholeOps NonSymmetric b left right w s)
-  lane-sized left right s h = every-table (λ x. Size x sum) (weighedAt wholeOps NonSymmetric w line) 0 (length s) window
-    where
-      line : List ℤ
-      line = paddedLine (pos 0) b left right s
-
-      window : (i : ℕ) → Size (weighedAt wholeOps NonSymmetric w line i) sum
-      window i =
-          size-le (size-plain level weight w line (member-sized level line (line-sized level b c left right s h)) (member-sized weight w k) (length w) i)
-          (omega (arith, mul-le-mul n (le-refl (level * weight))))
-
-  answer-sized : (o : ℤ) (ns : List ℕ) (a : ℕ) (cells : List ℤ) → Sized level cells → Sized sum (correlate1dZ b o w ns a cells)
-  unfolding correlatedBy
-  answer-sized o ns a cells h =
-      cond-ind (eqb (length w) 1) (map (λ x. x *ℤ getD w 0 (pos 0)) cells) (alongAxis (pos 0) line ns a cells) (Sized sum)
-      (λ t. every-map (λ x. Size x sum) (λ x. x *ℤ getD w 0 (pos 0)) cells (every-imp (λ x. Size x level) _ cells (λ x s. size-le (size-mul s (member-sized weight w k 0)) (omega arith)) h))
-      (λ t. along-sized line (lane-sized left right) ns a cells h)
-    where
-      left : ℕ
-      left = natAbs (pos (length w / 2) +ℤ o)
-
-      right : ℕ
-      right = natAbs (pos (length w - length w / 2 - 1) -ℤ o)
-
-      line : List ℤ → List ℤ
-      line s = correlatedLine wholeOps NonSymmetric b left right w s
-
-  pub within : (o : ℤ) (ns : List ℕ) (a : ℕ) (cells : List ℤ) → Sized level cells → anyOf beyond (correlate1dZ b o w ns a cells) ≡ false
-  within o ns a cells h = none-any beyond (correlate1dZ b o w ns a cells) (every-imp (λ x. Size x sum) _ (correlate1dZ b o w ns a cells) (λ x s. beyond-sized x s (omega arith)) (answer-sized o ns a cells h))
+pub within : (b : Border ℤ) (w : List ℤ) → length w ≤ 65 → SizedBorder level b → Sized weight w
+    → (o : ℤ) (ns : List ℕ) (a : ℕ) (cells : List ℤ) → Sized level cells → anyOf beyond (correlate1dZ b o w ns a cells) ≡ false
+within b w n c k o ns a cells h =
+    within-sized (correlate1dZ b o w ns a cells) (answer-sized level weight b w c k o ns a cells h) (omega (arith, mul-le-mul n (le-refl (level * weight))))
 
 weights-sized : (w : List ℤ) → anyOf badWeight w ≡ false → Sized weight w
 unfolding badWeight

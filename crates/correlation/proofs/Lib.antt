@@ -5,3 +5,4 @@ pub mod Folded
 pub mod Classes
 pub mod Sizes
 pub mod Reversed
+pub mod Bounds

@@ -119,8 +119,9 @@ pub fn judge_call(
     judge_window(shape, size, axis, mode, origin)
 }
 
-// Condition 11 of a grid: a lane of some axis has it.
-fn bad_reach_any(mode: BorderMode, shape: &[usize], size: usize, origin: isize) -> bool
+// Condition 11 of a grid, for an accepted window: a lane of some axis has it. Refuses nothing.
+// Of the shape 9 2 Mirror fills the pads of a window of 3 with origin 0, and not of 5.
+pub fn bad_reach_any(mode: BorderMode, shape: &[usize], size: usize, origin: isize) -> bool
     requires { ⌜ windowOrigin size origin ≡ false ⌝ }
     ensures { λ r. ⌜ r ≡ (not (eqb size 1) && anyOf (badReach (borderOf mode) size origin) (now (shape .entry))) ⌝ }
 {

@@ -1,0 +1,3 @@
+-- The calls of the Prewitt and Sobel filters.
+pub mod Filters
+pub mod Rows

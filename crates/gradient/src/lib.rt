@@ -1,0 +1,130 @@
+// Prewitt and Sobel filters of whole levels (src/filters/con_corr.rs; SciPy's prewitt and sobel): the difference along an axis, smoothed
+// along every other axis.
+ghost use mathlib.Core.Path.{_≡_};
+ghost use lib.ListN.{length};
+ghost use Rattle.numbers.specs.Refusal.{refusalOf};
+ghost use Rattle.border.specs.Modes.{borderOf};
+ghost use Rattle.gradient_judge.specs.Gradient.{prewittWeights, sobelWeights, gradient};
+ghost use Rattle.gradient_judge.specs.Judge.{gradientJudged, ThreeSmall};
+ghost use Rattle.gradient.specs.Filters.{firstOther, lastOther, GradientAnswers};
+ghost use Rattle.gradient.specs.Rows.{GradientRows};
+use border::BorderMode;
+
+// The first axis beside the given one.
+fn first_other(axis: usize) -> usize
+    ensures { λ r. ⌜ r ≡ firstOther axis ⌝ }
+{
+    if axis == 0 {
+        return 1;
+    }
+    0
+}
+
+// The last axis of three beside the given one.
+fn last_other(axis: usize) -> usize
+    ensures { λ r. ⌜ r ≡ lastOther axis ⌝ }
+{
+    if axis == 2 {
+        return 1;
+    }
+    2
+}
+
+// Fills out with the answer of an accepted call; second holds what a pass between leaves.
+fn passes(
+    smooth: &[i64],
+    data: &[i64],
+    shape: &[usize],
+    axis: usize,
+    mode: BorderMode,
+    second: &mut [i64],
+    out: &mut [i64],
+)
+    requires { ⌜ ThreeSmall (now smooth) × (refusalOf (gradientJudged (now smooth) (borderOf mode) (now shape) axis (now «data») (length (now out)) (length (now second))) ≡ 0) ⌝ }
+    ensures { λ _. ⌜ now (out .exit) ≡ gradient (now (smooth .entry)) (borderOf mode) (now (shape .entry)) axis (now («data» .entry)) ⌝ }
+{
+    let difference = [-1, 0, 1];
+    let axes = shape.len();
+    if axes == 1 {
+        correlate1d::weigh(data, shape, &difference, axis, mode, 0, out);
+        return;
+    }
+    let first = first_other(axis);
+    if axes == 2 {
+        correlate1d::weigh(data, shape, &difference, axis, mode, 0, second);
+        correlate1d::weigh(second, shape, smooth, first, mode, 0, out);
+        return;
+    }
+    let last = last_other(axis);
+    correlate1d::weigh(data, shape, &difference, axis, mode, 0, out);
+    correlate1d::weigh(out, shape, smooth, first, mode, 0, second);
+    correlate1d::weigh(second, shape, smooth, last, mode, 0, out);
+}
+
+// Judges a call, and fills out where it is accepted; second then holds zeros.
+fn filter(
+    smooth: &[i64],
+    data: &[i64],
+    shape: &[usize],
+    axis: usize,
+    mode: BorderMode,
+    second: &mut [i64],
+    out: &mut [i64],
+) -> u8
+    requires { ⌜ ThreeSmall (now smooth) ⌝ }
+    ensures { λ r. ⌜ GradientAnswers (now (smooth .entry)) (borderOf mode) (now (shape .entry)) axis (now («data» .entry)) (now (second .entry)) (now (out .entry)) r (now (second .exit)) (now (out .exit)) ⌝ }
+{
+    let refusal = gradient_judge::judge_gradient(data, shape, axis, mode, out.len(), second.len());
+    if refusal != 0 {
+        return refusal;
+    }
+    passes(smooth, data, shape, axis, mode, second, out);
+    assign::fill(second, 0);
+    numbers::ACCEPTED
+}
+
+// The differences of the neighbours along an axis, by the weights -1 0 1, smoothed along every other axis by 1 1 1, in rising order;
+// SciPy's prewitt.
+//
+// * `data` - the cells of the grid, in row-major order.
+// * `shape` - the length of each axis.
+// * `axis` - the axis of the difference.
+// * `mode` - the border of every pass, against the grid that the pass before left.
+// * `second` - a second grid as long as data, for what a pass leaves to the next; an accepted call leaves zeros in it.
+// * `out` - as long as data.
+//
+// Returns 0, or the lowest number of a condition that holds: 1 (shape), 2 (a length), 3 (a level), 8 (axis), 9 (constant),
+// 11 (the border cannot fill a pad of one cell on some axis) or 12 (a sum, which never occurs). A refused call leaves both lent grids as
+// they were. The rows 1 2 / 3 4 along axis 0 under Constant(0) give 7 7 / -3 -3.
+pub fn prewitt(
+    data: &[i64],
+    shape: &[usize],
+    axis: usize,
+    mode: BorderMode,
+    second: &mut [i64],
+    out: &mut [i64],
+) -> u8
+    ensures { λ r. ⌜ GradientAnswers prewittWeights (borderOf mode) (now (shape .entry)) axis (now («data» .entry)) (now (second .entry)) (now (out .entry)) r (now (second .exit)) (now (out .exit)) ⌝ }
+{
+    filter(&[1, 1, 1], data, shape, axis, mode, second, out)
+}
+
+// As `prewitt`, smoothed by 1 2 1; SciPy's sobel.
+// The rows 1 2 / 3 4 along axis 0 under Constant(0) give 10 11 / -4 -5.
+pub fn sobel(
+    data: &[i64],
+    shape: &[usize],
+    axis: usize,
+    mode: BorderMode,
+    second: &mut [i64],
+    out: &mut [i64],
+) -> u8
+    ensures { λ r. ⌜ GradientAnswers sobelWeights (borderOf mode) (now (shape .entry)) axis (now («data» .entry)) (now (second .entry)) (now (out .entry)) r (now (second .exit)) (now (out .exit)) ⌝ }
+{
+    filter(&[1, 2, 1], data, shape, axis, mode, second, out)
+}
+
+// Worked rows of this crate's definitions: the axes beside each axis. Refuses nothing.
+pub fn rows()
+    ensures { λ _. ⌜ GradientRows ⌝ }
+{}

@@ -1,0 +1,3 @@
+-- Laws, leaves first.
+pub mod Sums
+pub mod Chain
