@@ -18,8 +18,9 @@ use Rattle.array.proofs.Shapes.{Accepted, shape-accepted}
 use Rattle.border.specs.Border.{Border, constant, along}
 use Rattle.border.specs.declared.Along.the-variants.{Nearest, Mirror, Reflect, Wrap}
 use Rattle.pad_line.specs.Line.{badPad}
+use Rattle.correlation.specs.Kernel.{sidesOf, kernelSum, kernelAnswer}
 use Rattle.correlate.specs.declared.axes.Axis.{Axis}
-use Rattle.correlate.specs.Kernel.{sidesOf, kernelSum, kernelAnswer, Kernelled}
+use Rattle.correlate.specs.Kernel.{Kernelled}
 use Rattle.correlate.specs.Axes.{axisFrom, Serves, Laid}
 use Rattle.correlate.proofs.EveryRow.{sumAt}
 use Rattle.correlate.proofs.ThreeAxes.{sumBy, count-three, sum-three, lifted, sum-lifted}

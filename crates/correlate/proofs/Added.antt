@@ -11,15 +11,14 @@ use lib.IntN.{ℤ, pos, negℤ, _+ℤ_}
 use lib.ListN.{length, getD, set}
 use Rattle.numbers.specs.Lists.{anyOf}
 use Rattle.numbers.specs.Ranges.{outsideZ}
-use Rattle.numbers.proofs.Any.{any-none, every-imp, every-getD}
-use Rattle.numbers.proofs.Size.{Size, size-zero, size-inside, size-add}
+use Rattle.numbers.proofs.Size.{Size, size-add, member-sized, tested-sized}
 use Rattle.numbers.proofs.Stored.{Stored, front-more}
 use Rattle.numbers.proofs.Tests.{cond-no}
 use Rattle.correlate_line.proofs.Computed.{read, Computed, computed-level, computed-read, computed}
 
 -- every cell of a list that a test found inside is small, and so is what stands past its end
-pub sized : (p : ℕ) (s : List ℤ) → anyOf (outsideZ (negℤ (pos p)) (pos p)) s ≡ false → (k : ℕ) → Size (getD s k (pos 0)) p
-sized p s h k = every-getD (λ x. Size x p) s (pos 0) (size-zero p) (every-imp _ _ s (λ x e. size-inside p x e) (any-none _ s h)) k
+sized : (p : ℕ) (s : List ℤ) → anyOf (outsideZ (negℤ (pos p)) (pos p)) s ≡ false → (k : ℕ) → Size (getD s k (pos 0)) p
+sized p s h k = member-sized p s (tested-sized p s h) k
 
 abbrev pub both : List ℤ → List ℤ → ℕ → ℤ
 both out₀ swept k = getD out₀ k (pos 0) +ℤ getD swept k (pos 0)

@@ -1,36 +1,26 @@
 -- How large the sums are: at most 8 by 8 by 8 terms, each a level of at most 2^31 − 1 times a weight of at most 65,535, so below 2^61.
 -- Assumes nothing.
 use mathlib.Core.Path.{_≡_, sym, ap, _∙_}
-use mathlib.Core.Bool.{Bool, true, false, cond}
+use mathlib.Core.Bool.{false}
 use mathlib.Core.List.{List, [], _∷_}
 use Prim.Native.Nat.{ℕ, _+_, _-_, _*_, _^_, _≤_}
 use native.Mathlib.Nat.{mul-le-mul}
 use native.Mathlib.Omega.{arith}
-use lib.IntN.{ℤ, pos, negℤ, natAbs}
-use lib.ListN.{length, getD}
+use lib.IntN.{ℤ, pos, negℤ}
+use lib.ListN.{length}
 use Rattle.numbers.specs.Lists.{tabulate, anyOf}
 use Rattle.numbers.specs.Ranges.{outsideZ}
-use Rattle.numbers.proofs.Size.{Size, size-zero, size-mul, size-le, size-inside, inside-sized}
+use Rattle.numbers.proofs.Size.{Size, size-zero, size-le, tested-sized, inside-sized}
 use Rattle.numbers.proofs.Tabulate.{length-tabulate}
-use Rattle.array.specs.Conditions.{badLevel}
-use Rattle.array.specs.Grid.{placeOf}
-use Rattle.border.specs.Border.{Border, constant, along, allInside, extendedGrid}
-use Rattle.border.specs.Modes.{badConstantBy}
+use Rattle.array.proofs.Judged.{levels-sized}
+use Rattle.border.specs.Border.{Border}
+use Rattle.pad_line.proofs.Sizes.{constant-sized}
 use Rattle.correlation.proofs.Sizes.{size-summed}
+use Rattle.correlation.proofs.KernelSizes.{term-sized}
 use Rattle.axis_filter.proofs.Supposed.{any-table}
 use Rattle.correlate.specs.declared.axes.Axis.{Axis}
 use Rattle.correlate.specs.Axes.{Laid}
 use Rattle.correlate.specs.ByRows.{rowSum, rowsTo}
-use Rattle.correlate.proofs.Added.{sized}
-
-level-size : (b : Border ℤ) (ns : List ℕ) (cells : List ℤ) (q : ℕ → ℤ) → badConstantBy badLevel b ≡ false → anyOf badLevel cells ≡ false → Size (extendedGrid (pos 0) b ns cells q) (2 ^ 31 - 1)
-unfolding extendedGrid badLevel
-level-size (constant c) ns cells q e h = go (allInside ns q)
-  where
-    go : (t : Bool) → Size (cond t (getD cells (placeOf ns (λ a. natAbs (q a))) (pos 0)) c) (2 ^ 31 - 1)
-    go true = sized (2 ^ 31 - 1) cells h (placeOf ns (λ a. natAbs (q a)))
-    go false = size-inside (2 ^ 31 - 1) c e
-level-size (along m) ns cells q e h = sized (2 ^ 31 - 1) cells h _
 
 -- the size of one term
 abbrev term : ℕ
@@ -40,7 +30,7 @@ module _ {b : Border ℤ} {x y z : Axis} {w cells : List ℤ} (L : Laid b x y z 
   row-size : (q i : ℕ) → Size (rowSum b x y z w cells r q i) (z .side * term)
   unfolding rowSum
   row-size q i =
-      size-le (size-summed term 0 1 (pos 0) _ (size-zero _) (λ j. size-le (size-mul (level-size b (x .len ∷ y .len ∷ z .len ∷ []) cells _ (L .level) (L .levels)) (sized 65535 w (L .weights) (q * z .side + j))) (omega arith)) (z .side))
+      size-le (size-summed term 0 1 (pos 0) _ (size-zero _) (λ j. term-sized (2 ^ 31 - 1) 65535 b (constant-sized b (L .level)) w (tested-sized 65535 w (L .weights)) (x .len ∷ y .len ∷ z .len ∷ []) cells (levels-sized cells (L .levels)) _ (q * z .side + j)) (z .side))
       (omega arith)
 
   rows-size : (q i : ℕ) → Size (rowsTo b x y z w cells r q i) ((0 + q * z .side) * term)

@@ -1,5 +1,4 @@
 -- Worked rows of this crate's definitions. Each holds by computing.
---   squared b left w    the rows 1 2 / 3 4 correlated with a kernel of side 2
 --   sourcesOf b n left right    the sources of an axis of n cells, from left places before cell 0 on
 --   byRows m            T8 taken row by row: the sums of the first m kernel rows
 --   CorrelateRows       the rows
@@ -11,12 +10,8 @@ use Rattle.numbers.specs.Lists.{tabulate}
 use Rattle.numbers.specs.Rows.{wholes, minus}
 use Rattle.border.specs.Border.{Border, constant, along}
 use Rattle.border.specs.declared.Along.the-variants.{Nearest, Mirror}
-use Rattle.correlate.specs.Kernel.{sidesOf, kernelAnswer}
 use Rattle.correlate.specs.Axes.{axisFrom, sourceFor}
 use Rattle.correlate.specs.ByRows.{rowsTo}
-
-abbrev pub squared : Border ℤ → ℕ → List ℕ → List ℤ
-squared b left w = kernelAnswer b left (sidesOf (2 ∷ 2 ∷ []) 2) (wholes w) (2 ∷ 2 ∷ []) (wholes (1 ∷ 2 ∷ 3 ∷ 4 ∷ []))
 
 abbrev pub sourcesOf : Border ℤ → ℕ → ℕ → ℕ → List ℤ
 sourcesOf b n left right = tabulate (λ k. sourceFor b n (pos k -ℤ pos left)) 0 (left + n + right)
@@ -29,13 +24,6 @@ byRows m =
     tabulate (λ k. rowsTo (along Nearest) x y z (wholes (1 ∷ 0 ∷ 0 ∷ 10 ∷ [])) (wholes (1 ∷ 2 ∷ 3 ∷ 4 ∷ [])) (k / 2) m (k % 2)) 0 4
 
 pub record CorrelateRows : Type 0 where
-  -- T8: the kernel 1 0 / 0 10 under Nearest; and with the window moved one cell on
-  pub t8 : squared (along Nearest) 1 (1 ∷ 0 ∷ 0 ∷ 10 ∷ []) ≡ wholes (11 ∷ 21 ∷ 31 ∷ 41 ∷ [])
-  pub no-left : squared (along Nearest) 0 (1 ∷ 0 ∷ 0 ∷ 10 ∷ []) ≡ wholes (41 ∷ 42 ∷ 43 ∷ 44 ∷ [])
-  -- three axes, 2 by 1 by 2 cells: the constant 10 stands wherever one coordinate is outside
-  pub three-axes : kernelAnswer (constant (pos 10)) 1 (sidesOf (2 ∷ 1 ∷ 2 ∷ []) 2) (wholes (1 ∷ 2 ∷ 3 ∷ 4 ∷ 5 ∷ 6 ∷ 7 ∷ 8 ∷ [])) (2 ∷ 1 ∷ 2 ∷ []) (wholes (1 ∷ 2 ∷ 3 ∷ 4 ∷ [])) ≡ wholes (288 ∷ 233 ∷ 268 ∷ 204 ∷ [])
-  -- one weight
-  pub one-cell : kernelAnswer (along Nearest) 0 (sidesOf (2 ∷ 2 ∷ []) 1) (wholes (7 ∷ [])) (2 ∷ 2 ∷ []) (wholes (1 ∷ 2 ∷ 3 ∷ 4 ∷ [])) ≡ wholes (7 ∷ 14 ∷ 21 ∷ 28 ∷ [])
   -- the sources of three cells under Mirror, and of two under Constant: −1 for none
   pub sources : sourcesOf (along Mirror) 3 2 2 ≡ wholes (2 ∷ 1 ∷ 0 ∷ 1 ∷ 2 ∷ 1 ∷ 0 ∷ [])
   pub no-source : sourcesOf (constant (pos 7)) 2 1 1 ≡ minus 1 ∷ pos 0 ∷ pos 1 ∷ minus 1 ∷ []

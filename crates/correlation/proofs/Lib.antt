@@ -4,4 +4,5 @@ pub mod Along
 pub mod Folded
 pub mod Classes
 pub mod Sizes
+pub mod KernelSizes
 pub mod Reversed

@@ -5,15 +5,14 @@ use Rattle.numbers.specs.Lists.{tabulate}
 use Rattle.array.specs.Grid.{placeOf, coordinate}
 use Rattle.border.specs.Border.{cellFor, allInside, extendedGrid}
 use Rattle.correlation.specs.Weighed.{summed}
-use Rattle.correlate.specs.Kernel.{kernelSum, kernelAnswer}
 use Rattle.correlate.specs.Axes.{sourceFor}
 use Rattle.correlate.specs.ByRows.{rowSum, rowsTo}
 use Rattle.correlate.proofs.rows.Statement.{statement}
 use Rattle.correlate.proofs.rows.Tie as tie
 
 returns : tie.Need-returns
-unfolding tabulate placeOf coordinate cellFor allInside extendedGrid summed kernelSum kernelAnswer sourceFor rowSum rowsTo
-returns c = record { t8 = refl; no-left = refl; three-axes = refl; one-cell = refl; sources = refl; no-source = refl; by-rows = refl }
+unfolding tabulate placeOf coordinate cellFor allInside extendedGrid summed sourceFor rowSum rowsTo
+returns c = record { sources = refl; no-source = refl; by-rows = refl }
 
 pub rows-spec : {M : Type 1} → statement M
 rows-spec = tie.close (tie.spec returns)
