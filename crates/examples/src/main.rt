@@ -30,7 +30,7 @@ fn rows() {
     sweeps::order_of_axes();
     filter_judge::rows();
     axis_filter::rows();
-    correlate::rows();
+    correlate_grid::rows();
     min_max::rows();
     pad::rows();
     correlation::rows();
