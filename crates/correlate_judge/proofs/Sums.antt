@@ -2,17 +2,17 @@
 -- Assumes nothing.
 use Prim.Native.Nat.{ℕ, _+_, _-_, _*_, _/_, _%_, _≤_}
 use mathlib.Core.Path.{_≡_}
-use mathlib.Core.Bool.{Bool, true, false}
-use mathlib.Core.List.{List, map, reverse}
+use mathlib.Core.Bool.{Bool, false}
+use mathlib.Core.List.{List, map}
 use native.Mathlib.Nat.{mul-le-mul, le-refl}
 use native.Mathlib.Omega.{arith}
 use borrow.Author.Tests.{ltb-false}
 use lib.Dec.{eqb, ltb}
 use lib.IntN.{ℤ, pos, natAbs, _+ℤ_, _-ℤ_, _*ℤ_}
-use lib.ListN.{length, getD, length-reverse}
+use lib.ListN.{length, getD}
 use Rattle.numbers.specs.Lists.{anyOf}
 use Rattle.numbers.specs.Ranges.{outside, beyond}
-use Rattle.numbers.proofs.Any.{none-any, every-imp, every-map, every-reverse}
+use Rattle.numbers.proofs.Any.{none-any, every-imp, every-map}
 use Rattle.numbers.proofs.Size.{Size, Sized, size-mul, size-le, member-sized, tested-sized, beyond-sized}
 use Rattle.numbers.proofs.Tabulate.{every-table}
 use Rattle.numbers.proofs.Tests.{cond-ind, or-false}
@@ -28,7 +28,8 @@ use Rattle.symmetry.specs.declared.SymmetryState.the-variants.{NonSymmetric}
 use Rattle.correlation.specs.Weighed.{wholeOps, weighedAt}
 use Rattle.correlation.specs.Correlated.{correlatedLine, correlatedBy, correlate1dZ}
 use Rattle.correlation.proofs.Sizes.{size-plain}
-use Rattle.correlate_judge.specs.Judge.{badWeight, badSums}
+use Rattle.correlate_judge.specs.Judge.{badWeight, appliedWeights, badSums}
+use Rattle.correlate_judge.proofs.Applied.{applied-length, applied-weights}
 
 -- the greatest size of a level, of a weight, of a sum
 abbrev level : ℕ
@@ -86,7 +87,7 @@ module _ (b : Border ℤ) (w : List ℤ) (n : length w ≤ 65) (c : SizedBorder 
   pub within : (o : ℤ) (ns : List ℕ) (a : ℕ) (cells : List ℤ) → Sized level cells → anyOf beyond (correlate1dZ b o w ns a cells) ≡ false
   within o ns a cells h = none-any beyond (correlate1dZ b o w ns a cells) (every-imp (λ x. Size x sum) _ (correlate1dZ b o w ns a cells) (λ x s. beyond-sized x s (omega arith)) (answer-sized o ns a cells h))
 
-weights-sized : (w : List ℤ) → anyOf badWeight w ≡ false → Sized weight w
+pub weights-sized : (w : List ℤ) → anyOf badWeight w ≡ false → Sized weight w
 unfolding badWeight
 weights-sized w e = tested-sized weight w e
 
@@ -96,6 +97,6 @@ count-short n e = ltb-false 65 n (or-false (ltb n 1) (ltb 65 n) e .1)
 -- condition 12 never holds
 pub no-bad-sums : (turned : Bool) (b : Border ℤ) (o : ℤ) (w : List ℤ) (ns : List ℕ) (a : ℕ) (cells : List ℤ) → anyOf badLevel cells ≡ false
     → outside 1 65 (length w) ≡ false → anyOf badWeight w ≡ false → badConstantBy badLevel b ≡ false → badSums turned b o w ns a cells ≡ false
-no-bad-sums false b o w ns a cells l n k c = within b w (count-short (length w) n) (constant-sized b c) (weights-sized w k) _ ns a cells (levels-sized cells l)
-no-bad-sums true b o w ns a cells l n k c =
-    within b (reverse w) (omega (arith, length-reverse w, count-short (length w) n)) (constant-sized b c) (every-reverse (λ x. Size x weight) w (weights-sized w k)) _ ns a cells (levels-sized cells l)
+no-bad-sums turned b o w ns a cells l n k c =
+    within b (appliedWeights turned w) (omega (arith, applied-length turned w, count-short (length w) n)) (constant-sized b c) (weights-sized (appliedWeights turned w) (applied-weights badWeight turned w k)) _ ns a cells
+    (levels-sized cells l)

@@ -1,4 +1,4 @@
--- `correlate1d::reverse` meets its contract: the buffer is filled from the front with the weights from the last on.
+-- `reversal::reverse` meets its contract: the buffer is filled from the front with the weights from the last on.
 -- Assumes nothing.
 use mathlib.Core.Path.{_≡_, sym, ap, _∙_}
 use Prim.Native.Nat.{_-_, _≤_}
@@ -12,8 +12,8 @@ use Rattle.numbers.proofs.Read.{read}
 use Rattle.numbers.proofs.Stored.{Stored, front-none, front-more, front-all}
 use Rattle.correlation.proofs.Reversed.{reverse-table}
 use borrow.Author.Needs.{needs}
-use Rattle.correlate1d.proofs.reverse.Statement.{statement}
-use Rattle.correlate1d.proofs.reverse.Tie as tie
+use Rattle.reversal.proofs.reverse.Statement.{statement}
+use Rattle.reversal.proofs.reverse.Tie as tie
 
 abbrev Inv-loop : tie.InvT-loop
 Inv-loop weights turned₀ n i₀ turned i = (i ≤ n) × (n ≡ length weights) × Stored (pos 0) (λ k. ltb k i) (λ k. getD weights (length weights - 1 - k) (pos 0)) turned₀ turned
