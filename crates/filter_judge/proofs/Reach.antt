@@ -7,7 +7,7 @@ use Prim.Native.Nat.{ℕ, _+_, _-_, _/_}
 use native.Mathlib.Omega.{arith}
 use borrow.Author.Tests.{eq-eqb, ne-eqb}
 use lib.Dec.{eqb}
-use lib.IntN.{ℤ, pos, negℤ, natAbs, _+ℤ_, _-ℤ_, +ℤ-assoc, +ℤ-comm, +ℤ-idl, +ℤ-invr}
+use lib.IntN.{ℤ, pos, natAbs, _+ℤ_, _-ℤ_}
 use lib.ListN.{drop}
 use Rattle.numbers.specs.Ranges.{outside}
 use Rattle.numbers.specs.Refusal.{Judged, refusalOf}
@@ -16,7 +16,7 @@ use Rattle.numbers.proofs.Tests.{told}
 use Rattle.border.specs.Border.{Border}
 use Rattle.origin.specs.Origin.{badOrigin, originPads}
 use Rattle.origin.proofs.Answered.{not-refused, left-is, right-is}
-use Rattle.origin.proofs.Origins.{SignedPads, axis-accepted, accepted-some}
+use Rattle.origin.proofs.Origins.{pads-sum, axis-accepted, accepted-some}
 use Rattle.origin.specs.declared.Origin.{Origin}
 use Rattle.origin.specs.declared.Origin.the-variants.{Pads, Refused}
 use Rattle.pad_line.specs.Line.{badPad}
@@ -48,15 +48,7 @@ rightOf size o = natAbs (pos (size - size / 2 - 1) -ℤ o)
 
 -- the cells of a window are its pads and the cell itself
 pub pads-size : (size : ℕ) (o : ℤ) → badOrigin size o ≡ false → leftOf size o + rightOf size o + 1 ≡ size
-pads-size size o h = omega (arith, both, accepted-some size o h)
-  where
-    regroup : (l o r : ℤ) → (l +ℤ o) +ℤ (r -ℤ o) ≡ l +ℤ r
-    regroup l o r =
-        +ℤ-assoc l o (r -ℤ o)
-        ∙ ap (λ (x : ℤ). l +ℤ x) (ap (λ (x : ℤ). o +ℤ x) (+ℤ-comm r (negℤ o)) ∙ sym (+ℤ-assoc o (negℤ o) r) ∙ ap (λ (x : ℤ). x +ℤ r) (+ℤ-invr o) ∙ +ℤ-idl r)
-
-    both : leftOf size o + rightOf size o ≡ size / 2 + (size - size / 2 - 1)
-    both = let s = axis-accepted size o h in ap natAbs ((λ j. s .left-pad j +ℤ s .right-pad j) ∙ regroup (pos (size / 2)) o (pos (size - size / 2 - 1)))
+pads-size size o h = omega (arith, pads-sum (size / 2) (size - size / 2 - 1) o (axis-accepted size o h), accepted-some size o h)
 
 -- a window of one cell reads no origin and needs no pad
 pub single-cell : (size : ℕ) (t : Bool) → size ≡ 1 → false ≡ not (eqb size 1) && t
