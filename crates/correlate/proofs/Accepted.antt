@@ -1,0 +1,129 @@
+-- An accepted call with a grid kernel: what the worker supposes holds of the weights and the origin as they are applied.
+-- Assumes nothing.
+use Prim.Native.Nat.{ℕ, _+_, _/_, _≤_, _<_}
+use mathlib.Core.Path.{_≡_, refl, sym, ap, subst, _∙_}
+use mathlib.Core.Bool.{Bool, false, _||_}
+use mathlib.Core.List.{List, [], _∷_}
+use native.Mathlib.Omega.{arith}
+use lib.IntN.{ℤ}
+use lib.ListN.{length}
+use Rattle.numbers.specs.Lists.{anyOf}
+use Rattle.numbers.specs.Refusal.{refusalOf}
+use Rattle.numbers.proofs.Any.{any-none, every-at}
+use Rattle.numbers.proofs.Refusal.{judged-all}
+use Rattle.numbers.proofs.Tests.{or-false}
+use Rattle.array.specs.Conditions.{badShape, badLevel}
+use Rattle.array.specs.Grid.{cellCount, lengthOf}
+use Rattle.array.proofs.Judged.{Judged, grid-judged}
+use Rattle.border.specs.Border.{Border}
+use Rattle.border.specs.Modes.{badConstantBy}
+use Rattle.origin.specs.Origin.{badOrigin}
+use Rattle.origin.proofs.Origins.{pads-sum, kernel-accepted}
+use Rattle.pad_line.specs.Line.{badPad}
+use Rattle.correlation.specs.Kernel.{sidesOf, sideOf, kernelLeft, kernelRight, kernelAnswer}
+use Rattle.correlate_judge.specs.Judge.{badWeight, appliedOrigin, appliedWeights}
+use Rattle.correlate_judge.proofs.Applied.{applied-length, applied-weights}
+use Rattle.correlate_judge.proofs.Changed.{applied-range}
+use Rattle.correlate_grid.specs.Kernel.{Kernelled}
+use Rattle.kernel_judge.specs.Judge.{badPads, badKernelReach, kernelJudged}
+use Rattle.kernel_judge.proofs.Equal.{Equal, kernel-equal}
+
+-- the two pads together
+kernel-pads : (side : ℕ) (o : ℤ) → badOrigin side o ≡ false → kernelLeft side o + kernelRight side o ≡ side / 2 + side / 2
+kernel-pads side o h = pads-sum (side / 2) (side / 2) o (kernel-accepted side o h)
+
+-- what the conditions say of a call that they accept
+pub record Passed (turned : Bool) (b : Border ℤ) (o : ℤ) (sides : List ℕ) (w : List ℤ) (ns : List ℕ) (cells : List ℤ) (out : ℕ) : Type 0 where
+  pub shape : badShape ns ≡ false
+  pub count : length cells ≡ cellCount ns
+  pub lent : out ≡ length cells
+  pub levels : anyOf badLevel cells ≡ false
+  pub equal : Equal ns sides (length w)
+  pub weights : anyOf badWeight w ≡ false
+  pub origin : badOrigin (sideOf sides) o ≡ false
+  pub level : badConstantBy badLevel b ≡ false
+  pub reach : badKernelReach b (sideOf sides) (appliedOrigin turned (sideOf sides) o) ns ≡ false
+
+module _ (turned : Bool) (b : Border ℤ) (o : ℤ) (sides : List ℕ) (w : List ℤ) (ns : List ℕ) (cells : List ℤ) (out : ℕ) where
+  pub passed : refusalOf (kernelJudged turned b o sides w ns cells out) ≡ 0 → Passed turned b o sides w ns cells out
+  passed z =
+      let J = judged-all (kernelJudged turned b o sides w ns cells out) (tt, (tt, (tt, (tt, (tt, (tt, (tt, (tt, (tt, tt))))))))) z in
+      let G = grid-judged badLevel ns cells (length cells ∷ out ∷ []) (simp (J .0, J .1 .0, J .1 .1 .0) refl) in record {
+        shape = J .0;
+        count = G .lent .0;
+        lent = G .lent .1 .0 ∙ sym (G .lent .0);
+        levels = J .1 .1 .0;
+        equal = kernel-equal ns sides (length w) (J .0) (J .1 .1 .1 .0);
+        weights = J .1 .1 .1 .1 .0;
+        origin = J .1 .1 .1 .1 .1 .0;
+        level = J .1 .1 .1 .1 .1 .1 .0;
+        reach = J .1 .1 .1 .1 .1 .1 .1 .0;
+      }
+
+-- ---- the worker's own words, of the weights as they are applied
+module _ {turned : Bool} {b : Border ℤ} {o : ℤ} {sides : List ℕ} {w : List ℤ} {ns : List ℕ} {cells : List ℤ} (out : List ℤ) (P : Passed turned b o sides w ns cells (length out)) where
+  abbrev side : ℕ
+  side = sideOf sides
+
+  abbrev applied : ℤ
+  applied = appliedOrigin turned side o
+
+  pub origin-applied : badOrigin side applied ≡ false
+  origin-applied = applied-range turned side o ∙ P .origin
+
+  fills : (a : ℕ) → a < length ns → (badPad b (lengthOf ns a) (kernelLeft side applied) ≡ false) × (badPad b (lengthOf ns a) (kernelRight side applied) ≡ false)
+  fills a h = or-false _ _ (every-at (λ n. badPads b (kernelLeft side applied) (kernelRight side applied) n ≡ false) ns 1 (any-none _ ns (P .reach)) a h)
+
+  pub kernelled-accepted : Kernelled b ns side (kernelLeft side applied) (kernelRight side applied) (appliedWeights turned w) cells out
+  unfolding badWeight
+  kernelled-accepted = record {
+    shape = P .shape;
+    count = P .count;
+    same = P .lent;
+    some = P .equal .some;
+    narrow = P .equal .narrow;
+    many = applied-length turned w ∙ P .equal .many ∙ ap cellCount (P .equal .same);
+    wide = omega (arith, kernel-pads side applied origin-applied);
+    pads = omega (arith, kernel-pads side applied origin-applied, P .equal .narrow);
+    fills-left = λ a h. fills a h .0;
+    fills-right = λ a h. fills a h .1;
+    weights = applied-weights badWeight turned w (P .weights);
+    level = P .level;
+    levels = P .levels;
+  }
+
+  -- the kernel's own shape for that of its first side
+  pub own-sides : (left : ℕ) (v : List ℤ) → kernelAnswer b left (sidesOf ns side) v ns cells ≡ kernelAnswer b left sides v ns cells
+  own-sides left v = ap (λ (s : List ℕ). kernelAnswer b left s v ns cells) (sym (P .equal .same))
+
+  -- what the worker supposes, as the code hands it the side, the origin and the weights
+  abbrev Suits : ℕ → ℤ → List ℤ → Type 0
+  Suits n x v = (badOrigin n x ≡ false) × Kernelled b ns n (kernelLeft n x) (kernelRight n x) v cells out
+
+  pub suits-as : {n : ℕ} {x : ℤ} {v : List ℤ} → n ≡ side → x ≡ applied → v ≡ appliedWeights turned w → Suits n x v
+  suits-as {n} {x} {v} p q r =
+      subst (λ (m : ℕ). Suits m x v) (sym p)
+      (subst (λ (y : ℤ). Suits side y v) (sym q) (subst (λ (u : List ℤ). Suits side applied u) (sym r) (origin-applied, kernelled-accepted)))
+
+-- ---- the pads as the code hands them to the worker
+module _ {b : Border ℤ} {ns : List ℕ} {side left right : ℕ} {w cells out : List ℤ} (K : Kernelled b ns side left right w cells out) where
+  pub padded-as : {l r : ℕ} → l ≡ left → r ≡ right → Kernelled b ns side l r w cells out
+  padded-as {l} {r} p q = subst (λ (x : ℕ). Kernelled b ns side x r w cells out) (sym p) (subst (λ (y : ℕ). Kernelled b ns side left y w cells out) (sym q) K)
+
+  -- pads that are exchanged suit the worker too: it is the answer that tells them apart
+  pub exchanged : Kernelled b ns side right left w cells out
+  exchanged = record {
+    shape = K .shape;
+    count = K .count;
+    same = K .same;
+    some = K .some;
+    narrow = K .narrow;
+    many = K .many;
+    wide = omega (arith, K .wide);
+    pads = omega (arith, K .pads);
+    fills-left = K .fills-right;
+    fills-right = K .fills-left;
+    weights = K .weights;
+    level = K .level;
+    levels = K .levels;
+  }

@@ -1,0 +1,2 @@
+-- Laws of accepted calls with grid kernels.
+pub mod Accepted
