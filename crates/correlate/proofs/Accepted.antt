@@ -1,119 +1,129 @@
--- What the worker supposes, on three axes: the axes serve, grid and kernel are laid on them, and their sums are the answer.
+-- An accepted call with a grid kernel: what the worker supposes holds of the weights and the origin as they are applied.
 -- Assumes nothing.
-use mathlib.Core.Path.{_≡_, refl, sym, subst, _∙_}
-use mathlib.Core.Bool.{Bool, true, false, cond}
+use Prim.Native.Nat.{ℕ, _+_, _/_, _≤_, _<_}
+use mathlib.Core.Path.{_≡_, refl, sym, ap, subst, _∙_}
+use mathlib.Core.Bool.{Bool, false, _||_}
 use mathlib.Core.List.{List, [], _∷_}
-use Prim.Native.Nat.{ℕ, _+_, _-_, _*_, _≤_, _<_}
-use native.Mathlib.Nat.{one-mul}
 use native.Mathlib.Omega.{arith}
-use borrow.Author.Tests.{leb-false}
-use lib.Dec.{leb}
 use lib.IntN.{ℤ}
 use lib.ListN.{length}
-use Rattle.numbers.specs.Lists.{tabulate}
-use Rattle.numbers.proofs.Tabulate.{tabulate-agree}
+use Rattle.numbers.specs.Lists.{anyOf}
+use Rattle.numbers.specs.Refusal.{refusalOf}
+use Rattle.numbers.proofs.Any.{any-none, every-at}
+use Rattle.numbers.proofs.Refusal.{judged-all}
+use Rattle.numbers.proofs.Tests.{or-false}
+use Rattle.array.specs.Conditions.{badShape, badLevel}
 use Rattle.array.specs.Grid.{cellCount, lengthOf}
-use Rattle.array.proofs.Places.{length-pos}
-use Rattle.array.proofs.Shapes.{Accepted, shape-accepted}
-use Rattle.border.specs.Border.{Border, constant, along}
-use Rattle.border.specs.declared.Along.the-variants.{Nearest, Mirror, Reflect, Wrap}
+use Rattle.array.proofs.Judged.{Judged, grid-judged}
+use Rattle.border.specs.Border.{Border}
+use Rattle.border.specs.Modes.{badConstantBy}
+use Rattle.origin.specs.Origin.{badOrigin}
+use Rattle.origin.proofs.Origins.{pads-sum, kernel-accepted}
 use Rattle.pad_line.specs.Line.{badPad}
-use Rattle.correlate.specs.declared.axes.Axis.{Axis}
-use Rattle.correlate.specs.Kernel.{sidesOf, kernelSum, kernelAnswer, Kernelled}
-use Rattle.correlate.specs.Axes.{axisFrom, Serves, Laid}
-use Rattle.correlate.proofs.EveryRow.{sumAt}
-use Rattle.correlate.proofs.ThreeAxes.{sumBy, count-three, sum-three, lifted, sum-lifted}
+use Rattle.correlation.specs.Kernel.{sidesOf, sideOf, kernelLeft, kernelRight, kernelAnswer}
+use Rattle.correlate_judge.specs.Judge.{badWeight, appliedOrigin, appliedWeights}
+use Rattle.correlate_judge.proofs.Applied.{applied-length, applied-weights}
+use Rattle.correlate_judge.proofs.Changed.{applied-range}
+use Rattle.correlate_grid.specs.Kernel.{Kernelled}
+use Rattle.kernel_judge.specs.Judge.{badPads, badKernelReach, kernelJudged}
+use Rattle.kernel_judge.proofs.Equal.{Equal, kernel-equal}
 
-no-pad : (b : Border ℤ) → badPad b 1 0 ≡ false
-no-pad (constant c) = refl
-no-pad (along Nearest) = refl
-no-pad (along Mirror) = refl
-no-pad (along Reflect) = refl
-no-pad (along Wrap) = refl
+-- the two pads together
+kernel-pads : (side : ℕ) (o : ℤ) → badOrigin side o ≡ false → kernelLeft side o + kernelRight side o ≡ side / 2 + side / 2
+kernel-pads side o h = pads-sum (side / 2) (side / 2) o (kernel-accepted side o h)
 
--- ---- one to three axes
-by-axes : (P : List ℕ → Type 0) → ((c : ℕ) → P (c ∷ [])) → ((b c : ℕ) → P (b ∷ c ∷ [])) → ((a b c : ℕ) → P (a ∷ b ∷ c ∷ [])) → (ns : List ℕ) → 1 ≤ length ns → length ns ≤ 3 → P ns
-by-axes P one two more [] s f = absurd (omega arith)
-by-axes P one two more (c ∷ []) s f = one c
-by-axes P one two more (b ∷ c ∷ []) s f = two b c
-by-axes P one two more (a ∷ b ∷ c ∷ []) s f = more a b c
-by-axes P one two more (a ∷ b ∷ c ∷ d ∷ ds) s f = absurd (omega arith)
+-- what the conditions say of a call that they accept
+pub record Passed (turned : Bool) (b : Border ℤ) (o : ℤ) (sides : List ℕ) (w : List ℤ) (ns : List ℕ) (cells : List ℤ) (out : ℕ) : Type 0 where
+  pub shape : badShape ns ≡ false
+  pub count : length cells ≡ cellCount ns
+  pub lent : out ≡ length cells
+  pub levels : anyOf badLevel cells ≡ false
+  pub equal : Equal ns sides (length w)
+  pub weights : anyOf badWeight w ≡ false
+  pub origin : badOrigin (sideOf sides) o ≡ false
+  pub level : badConstantBy badLevel b ≡ false
+  pub reach : badKernelReach b (sideOf sides) (appliedOrigin turned (sideOf sides) o) ns ≡ false
 
+module _ (turned : Bool) (b : Border ℤ) (o : ℤ) (sides : List ℕ) (w : List ℤ) (ns : List ℕ) (cells : List ℤ) (out : ℕ) where
+  pub passed : refusalOf (kernelJudged turned b o sides w ns cells out) ≡ 0 → Passed turned b o sides w ns cells out
+  passed z =
+      let J = judged-all (kernelJudged turned b o sides w ns cells out) (tt, (tt, (tt, (tt, (tt, (tt, (tt, (tt, (tt, tt))))))))) z in
+      let G = grid-judged badLevel ns cells (length cells ∷ out ∷ []) (simp (J .0, J .1 .0, J .1 .1 .0) refl) in record {
+        shape = J .0;
+        count = G .lent .0;
+        lent = G .lent .1 .0 ∙ sym (G .lent .0);
+        levels = J .1 .1 .0;
+        equal = kernel-equal ns sides (length w) (J .0) (J .1 .1 .1 .0);
+        weights = J .1 .1 .1 .1 .0;
+        origin = J .1 .1 .1 .1 .1 .0;
+        level = J .1 .1 .1 .1 .1 .1 .0;
+        reach = J .1 .1 .1 .1 .1 .1 .1 .0;
+      }
+
+-- ---- the worker's own words, of the weights as they are applied
+module _ {turned : Bool} {b : Border ℤ} {o : ℤ} {sides : List ℕ} {w : List ℤ} {ns : List ℕ} {cells : List ℤ} (out : List ℤ) (P : Passed turned b o sides w ns cells (length out)) where
+  abbrev side : ℕ
+  side = sideOf sides
+
+  abbrev applied : ℤ
+  applied = appliedOrigin turned side o
+
+  pub origin-applied : badOrigin side applied ≡ false
+  origin-applied = applied-range turned side o ∙ P .origin
+
+  fills : (a : ℕ) → a < length ns → (badPad b (lengthOf ns a) (kernelLeft side applied) ≡ false) × (badPad b (lengthOf ns a) (kernelRight side applied) ≡ false)
+  fills a h = or-false _ _ (every-at (λ n. badPads b (kernelLeft side applied) (kernelRight side applied) n ≡ false) ns 1 (any-none _ ns (P .reach)) a h)
+
+  pub kernelled-accepted : Kernelled b ns side (kernelLeft side applied) (kernelRight side applied) (appliedWeights turned w) cells out
+  unfolding badWeight
+  kernelled-accepted = record {
+    shape = P .shape;
+    count = P .count;
+    same = P .lent;
+    some = P .equal .some;
+    narrow = P .equal .narrow;
+    many = applied-length turned w ∙ P .equal .many ∙ ap cellCount (P .equal .same);
+    wide = omega (arith, kernel-pads side applied origin-applied);
+    pads = omega (arith, kernel-pads side applied origin-applied, P .equal .narrow);
+    fills-left = λ a h. fills a h .0;
+    fills-right = λ a h. fills a h .1;
+    weights = applied-weights badWeight turned w (P .weights);
+    level = P .level;
+    levels = P .levels;
+  }
+
+  -- the kernel's own shape for that of its first side
+  pub own-sides : (left : ℕ) (v : List ℤ) → kernelAnswer b left (sidesOf ns side) v ns cells ≡ kernelAnswer b left sides v ns cells
+  own-sides left v = ap (λ (s : List ℕ). kernelAnswer b left s v ns cells) (sym (P .equal .same))
+
+  -- what the worker supposes, as the code hands it the side, the origin and the weights
+  abbrev Suits : ℕ → ℤ → List ℤ → Type 0
+  Suits n x v = (badOrigin n x ≡ false) × Kernelled b ns n (kernelLeft n x) (kernelRight n x) v cells out
+
+  pub suits-as : {n : ℕ} {x : ℤ} {v : List ℤ} → n ≡ side → x ≡ applied → v ≡ appliedWeights turned w → Suits n x v
+  suits-as {n} {x} {v} p q r =
+      subst (λ (m : ℕ). Suits m x v) (sym p)
+      (subst (λ (y : ℤ). Suits side y v) (sym q) (subst (λ (u : List ℤ). Suits side applied u) (sym r) (origin-applied, kernelled-accepted)))
+
+-- ---- the pads as the code hands them to the worker
 module _ {b : Border ℤ} {ns : List ℕ} {side left right : ℕ} {w cells out : List ℤ} (K : Kernelled b ns side left right w cells out) where
-  accepted : Accepted ns
-  accepted = shape-accepted ns (K .shape)
+  pub padded-as : {l r : ℕ} → l ≡ left → r ≡ right → Kernelled b ns side l r w cells out
+  padded-as {l} {r} p q = subst (λ (x : ℕ). Kernelled b ns side x r w cells out) (sym p) (subst (λ (y : ℕ). Kernelled b ns side left y w cells out) (sym q) K)
 
-  abbrev axis : ℕ → Axis
-  axis back = axisFrom ns back side left right
-
-  serves : (back : ℕ) → Serves b (axis back)
-  serves back = go (leb (length ns) back) refl
-    where
-      there : back < length ns → length ns - 1 - back < length ns
-      there h = omega arith
-
-      go : (t : Bool) → leb (length ns) back ≡ t
-          → Serves b (cond t (record { len = 1; left = 0; right = 0; side = 1 }) (record { len = lengthOf ns (length ns - 1 - back); left = left; right = right; side = side }))
-      go true e = record { some = omega arith; short = omega arith; some-side = omega arith; wide = omega arith; pads = omega arith; fills-left = no-pad b; fills-right = no-pad b }
-      go false e =
-          let a = length ns - 1 - back in
-          let h = there (leb-false (length ns) back e) in
-          record { some = length-pos ns a (accepted .full); short = accepted .short a; some-side = K .some; wide = K .wide; pads = K .pads; fills-left = K .fills-left a h; fills-right = K .fills-right a h }
-
-  abbrev Counts : List ℕ → Type 0
-  Counts ms = (cellCount ms ≡ axisFrom ms 2 side left right .len * axisFrom ms 1 side left right .len * axisFrom ms 0 side left right .len)
-      × (cellCount (sidesOf ms side) ≡ axisFrom ms 2 side left right .side * axisFrom ms 1 side left right .side * axisFrom ms 0 side left right .side)
-
-  counts : Counts ns
-  counts = by-axes Counts (λ c. (omega arith, omega arith)) (λ m c. (two m c, two side side)) (λ a m c. (count-three a m c, count-three side side side)) ns (accepted .some) (accepted .few)
-    where
-      two : (m c : ℕ) → m * (c * 1) ≡ 1 * m * c
-      two m c = sym (one-mul (m * (c * 1))) ∙ count-three 1 m c
-
-  laid : Laid b (axis 2) (axis 1) (axis 0) w cells
-  laid = record {
-    planes = serves 2;
-    rows = serves 1;
-    row = serves 0;
-    count = K .count ∙ counts .0;
-    small = omega (arith, K .count, accepted .small);
-    many = K .many ∙ counts .1;
+  -- pads that are exchanged suit the worker too: it is the answer that tells them apart
+  pub exchanged : Kernelled b ns side right left w cells out
+  exchanged = record {
+    shape = K .shape;
+    count = K .count;
+    same = K .same;
+    some = K .some;
+    narrow = K .narrow;
+    many = K .many;
+    wide = omega (arith, K .wide);
+    pads = omega (arith, K .pads);
+    fills-left = K .fills-right;
+    fills-right = K .fills-left;
     weights = K .weights;
     level = K .level;
     levels = K .levels;
   }
-
-  pub laid-on : {x y z : Axis} → x ≡ axisFrom ns 2 side left right → y ≡ axisFrom ns 1 side left right → z ≡ axisFrom ns 0 side left right → Laid b x y z w cells
-  laid-on {x} {y} {z} ex ey ez =
-      subst (λ (a : Axis). Laid b a y z w cells) (sym ex)
-      (subst (λ (a : Axis). Laid b (axis 2) a z w cells) (sym ey) (subst (λ (a : Axis). Laid b (axis 2) (axis 1) a w cells) (sym ez) laid))
-
-  -- ---- the sums
-  module _ (k : ℕ) where
-    abbrev Sums : List ℕ → Type 0
-    Sums ms =
-        Laid b (axisFrom ms 2 side left right) (axisFrom ms 1 side left right) (axisFrom ms 0 side left right) w cells → length w ≡ cellCount (sidesOf ms side) → k < cellCount ms
-        → k < axisFrom ms 2 side left right .len * axisFrom ms 1 side left right .len * axisFrom ms 0 side left right .len
-        → sumBy b (λ a. left) (sidesOf ms side) w ms cells k ≡ sumAt b (axisFrom ms 2 side left right) (axisFrom ms 1 side left right) (axisFrom ms 0 side left right) w cells k
-
-    one-axis : (c : ℕ) → Sums (c ∷ [])
-    one-axis c L m h l =
-        sym (sum-lifted b (λ a. left) (side ∷ []) w (c ∷ []) cells k h m)
-        ∙ sym (sum-lifted b (lifted (λ a. left)) (1 ∷ side ∷ []) w (1 ∷ c ∷ []) cells k (omega arith) (m ∙ omega arith))
-        ∙ sum-three L (lifted (lifted (λ a. left))) refl refl refl k l
-
-    two-axes : (d c : ℕ) → Sums (d ∷ c ∷ [])
-    two-axes d c L m h l = sym (sum-lifted b (λ a. left) (side ∷ side ∷ []) w (d ∷ c ∷ []) cells k h m) ∙ sum-three L (lifted (λ a. left)) refl refl refl k l
-
-    three-axes : (e d c : ℕ) → Sums (e ∷ d ∷ c ∷ [])
-    three-axes e d c L m h l = sum-three L (λ a. left) refl refl refl k l
-
-    sum-is : k < cellCount ns → sumBy b (λ a. left) (sidesOf ns side) w ns cells k ≡ sumAt b (axis 2) (axis 1) (axis 0) w cells k
-    sum-is h = by-axes Sums one-axis two-axes three-axes ns (accepted .some) (accepted .few) laid (K .many) h (subst (λ (m : ℕ). k < m) (counts .0) h)
-
-  pub answered : {x y z : Axis} {new : List ℤ} → x ≡ axisFrom ns 2 side left right → y ≡ axisFrom ns 1 side left right → z ≡ axisFrom ns 0 side left right
-      → new ≡ tabulate (sumAt b x y z w cells) 0 (length cells) → new ≡ kernelAnswer b left (sidesOf ns side) w ns cells
-  unfolding kernelAnswer kernelSum
-  answered ex ey ez e =
-      e ∙ (λ j. tabulate (sumAt b (ex j) (ey j) (ez j) w cells) 0 (K .count j))
-      ∙ tabulate-agree _ _ 0 (cellCount ns) (λ k h. sym (sum-is (0 + k) (omega arith)))

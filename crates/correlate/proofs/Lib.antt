@@ -1,10 +1,2 @@
--- Laws of correlation with a grid kernel, leaves first.
-pub mod Added
-pub mod Lines
-pub mod Sources
-pub mod RowLine
-pub mod Turn
-pub mod SumSizes
-pub mod EveryRow
-pub mod ThreeAxes
+-- Laws of accepted calls with grid kernels.
 pub mod Accepted

@@ -1,8 +1,8 @@
 -- An accepted call on whole levels: its weights and levels are small, as the workers suppose.
 -- Assumes nothing.
 use mathlib.Core.Path.{_≡_, refl, sym, ap, subst, _∙_}
-use mathlib.Core.Bool.{Bool, true, false}
-use mathlib.Core.List.{List, map, reverse}
+use mathlib.Core.Bool.{Bool, false}
+use mathlib.Core.List.{List, map}
 use Prim.Native.Nat.{ℕ, _^_, _≤_}
 use native.Mathlib.Omega.{arith}
 use lib.IntN.{ℤ, pos, _*ℤ_}
@@ -10,7 +10,7 @@ use mir.Syntax.{w64}
 use mir.ValLaws.{toZ-ofZ}
 use lib.ListN.{length, getD}
 use Rattle.numbers.specs.Lists.{anyOf}
-use Rattle.numbers.proofs.Any.{any-none, none-any, every-at, every-imp, every-reverse}
+use Rattle.numbers.proofs.Any.{any-none, none-any, every-at, every-imp}
 use Rattle.numbers.proofs.Size.{Size, Sized, size-inside, size-le, inside-sized, fits-size}
 use Rattle.array.specs.Conditions.{badLevel}
 use Rattle.array.proofs.Judged.{levels-sized}
@@ -18,6 +18,7 @@ use Rattle.border.specs.Border.{Border, constant, along}
 use Rattle.border.specs.Modes.{badConstantBy}
 use Rattle.correlate_line.proofs.Computed.{read}
 use Rattle.correlate_judge.specs.Judge.{badWeight, appliedOrigin, appliedWeights}
+use Rattle.correlate_judge.proofs.Applied.{applied-weights}
 use Rattle.correlate1d.proofs.Passed.{Passed, placed-accepted}
 use Rattle.correlate1d.specs.Weighs.{tooLarge, Scales, Weighs}
 
@@ -49,14 +50,10 @@ module _ {turned : Bool} {b : Border ℤ} {o : ℤ} {w : List ℤ} {ns : List �
   scaled-cells e = e ∙ ap (λ (y : ℤ). map (λ x. x *ℤ y) cells) weight-read
 
   module _ (more : length w ≡ 1 → ⊥) where
-    applied-weights : (t : Bool) → anyOf badWeight (appliedWeights t w) ≡ false
-    applied-weights true = none-any badWeight (reverse w) (every-reverse _ w (any-none badWeight w (P .weights)))
-    applied-weights false = P .weights
-
     pub weighs-accepted : Weighs b ns a (appliedOrigin turned (length w) o) (appliedWeights turned w) cells out
     weighs-accepted = record {
       placed = placed-accepted out P more;
-      weights = applied-weights turned;
+      weights = applied-weights badWeight turned w (P .weights);
       level = small-constant b (P .level);
       levels = small-sized cells (levels-sized cells (P .levels)) (omega arith);
     }

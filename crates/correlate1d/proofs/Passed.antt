@@ -9,7 +9,7 @@ use borrow.Author.Tests.{ltb-true, ltb-false, not-false}
 use lib.Dec.{ltb, eqb}
 use lib.Ieee.{Float}
 use lib.IntN.{ℤ}
-use lib.ListN.{length, length-reverse}
+use lib.ListN.{length}
 use Rattle.numbers.specs.Lists.{anyOf}
 use Rattle.numbers.specs.Ranges.{outside}
 use Rattle.numbers.specs.Refusal.{refusalOf}
@@ -24,6 +24,7 @@ use Rattle.origin.specs.Origin.{badOrigin}
 use Rattle.filter_judge.specs.Judge.{windowOrigin, badReach}
 use Rattle.filter_judge.proofs.Reach.{more-cells}
 use Rattle.correlate_judge.specs.Judge.{badWeight, appliedOrigin, appliedWeights, correlateJudged, correlateJudgedF}
+use Rattle.correlate_judge.proofs.Applied.{applied-length}
 use Rattle.correlate_judge.proofs.Changed.{applied-range}
 use Rattle.correlate1d.specs.Weighs.{Placed}
 
@@ -80,20 +81,16 @@ passed-float turned b o w ns a cells out z =
 -- ---- two weights or more, as they are applied
 module _ {A : Type 0} {bad heavy : A → Bool} {turned : Bool} {b : Border A} {o : ℤ} {w : List A} {ns : List ℕ} {a : ℕ} {cells : List A} (out : List A)
     (P : Passed bad heavy turned b o w ns a cells (length out)) (more : length w ≡ 1 → ⊥) where
-  applied-length : (t : Bool) → length (appliedWeights t w) ≡ length w
-  applied-length true = length-reverse w
-  applied-length false = refl
-
   pub placed-accepted : Placed b ns a (appliedOrigin turned (length w) o) (appliedWeights turned w) cells out
   placed-accepted = record {
     shape = P .shape;
     axis = P .axis;
     count = P .count;
     same = P .lent;
-    more = omega (arith, applied-length turned, P .some, more);
-    few = omega (arith, applied-length turned, P .few);
-    origin = ap (λ (n : ℕ). badOrigin n (appliedOrigin turned (length w) o)) (applied-length turned) ∙ applied-range turned (length w) o ∙ more-cells (length w) o more (badOrigin (length w) o) ∙ P .origin;
+    more = omega (arith, applied-length turned w, P .some, more);
+    few = omega (arith, applied-length turned w, P .few);
+    origin = ap (λ (n : ℕ). badOrigin n (appliedOrigin turned (length w) o)) (applied-length turned w) ∙ applied-range turned (length w) o ∙ more-cells (length w) o more (badOrigin (length w) o) ∙ P .origin;
     reach =
-        ap (λ (n : ℕ). badReach b n (appliedOrigin turned (length w) o) (lengthOf ns a)) (applied-length turned)
+        ap (λ (n : ℕ). badReach b n (appliedOrigin turned (length w) o) (lengthOf ns a)) (applied-length turned w)
         ∙ more-cells (length w) o more (badReach b (length w) (appliedOrigin turned (length w) o) (lengthOf ns a)) ∙ P .reach;
   }

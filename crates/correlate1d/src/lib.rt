@@ -1,7 +1,7 @@
 // Correlation and convolution of whole levels along an axis (src/filters/con_corr.rs; SciPy's correlate1d and convolve1d).
 ghost use mathlib.Core.Path.{_≡_};
 ghost use mathlib.Core.Bool.{true, false};
-ghost use mathlib.Core.List.{map, reverse};
+ghost use mathlib.Core.List.{map};
 ghost use lib.IntN.{pos, _*ℤ_};
 ghost use lib.ListN.{length};
 ghost use Rattle.numbers.specs.Refusal.{refusalOf, Answers};
@@ -56,20 +56,6 @@ pub fn weigh(
     }
 }
 
-// The weights from the last to the first.
-fn reverse(weights: &[i64], turned: &mut [i64])
-    requires { ⌜ length (now turned) ≡ length (now weights) ⌝ }
-    ensures { λ _. ⌜ now (turned .exit) ≡ reverse (now (weights .entry)) ⌝ }
-{
-    let n = turned.len();
-    let mut i = 0;
-    while i < n {
-        let v = weights[n - 1 - i];
-        turned[i] = v;
-        i += 1;
-    }
-}
-
 // Fills out with the answer of an accepted correlation.
 fn correlate_cells(
     data: &[i64],
@@ -108,7 +94,7 @@ fn convolve_cells(
         scale(data, weights[0], out);
         return;
     }
-    reverse(weights, turned);
+    reversal::reverse(weights, turned);
     let applied = correlate_judge::applied_origin(weights.len(), origin, true);
     weigh(data, shape, turned, axis, mode, applied, out);
 }

@@ -2,17 +2,16 @@
 -- Assumes nothing.
 use Prim.Native.Nat.{ℕ, _*_, _≤_}
 use mathlib.Core.Path.{_≡_}
-use mathlib.Core.Bool.{Bool, true, false}
-use mathlib.Core.List.{List, reverse}
+use mathlib.Core.Bool.{Bool, false}
+use mathlib.Core.List.{List}
 use native.Mathlib.Nat.{mul-le-mul, le-refl}
 use native.Mathlib.Omega.{arith}
 use borrow.Author.Tests.{ltb-false}
 use lib.Dec.{ltb}
 use lib.IntN.{ℤ}
-use lib.ListN.{length, length-reverse}
+use lib.ListN.{length}
 use Rattle.numbers.specs.Lists.{anyOf}
 use Rattle.numbers.specs.Ranges.{outside, beyond}
-use Rattle.numbers.proofs.Any.{every-reverse}
 use Rattle.numbers.proofs.Size.{Size, Sized, tested-sized}
 use Rattle.numbers.proofs.Tests.{or-false}
 use Rattle.array.specs.Conditions.{badLevel}
@@ -22,7 +21,8 @@ use Rattle.border.specs.Modes.{badConstantBy}
 use Rattle.pad_line.proofs.Sizes.{SizedBorder, constant-sized}
 use Rattle.correlation.specs.Correlated.{correlate1dZ}
 use Rattle.correlation.proofs.Bounds.{answer-sized, within-sized}
-use Rattle.correlate_judge.specs.Judge.{badWeight, badSums}
+use Rattle.correlate_judge.specs.Judge.{badWeight, appliedWeights, badSums}
+use Rattle.correlate_judge.proofs.Applied.{applied-length, applied-weights}
 
 -- the greatest size of a level and of a weight
 abbrev level : ℕ
@@ -36,7 +36,7 @@ pub within : (b : Border ℤ) (w : List ℤ) → length w ≤ 65 → SizedBorder
 within b w n c k o ns a cells h =
     within-sized (correlate1dZ b o w ns a cells) (answer-sized level weight b w c k o ns a cells h) (omega (arith, mul-le-mul n (le-refl (level * weight))))
 
-weights-sized : (w : List ℤ) → anyOf badWeight w ≡ false → Sized weight w
+pub weights-sized : (w : List ℤ) → anyOf badWeight w ≡ false → Sized weight w
 unfolding badWeight
 weights-sized w e = tested-sized weight w e
 
@@ -46,6 +46,6 @@ count-short n e = ltb-false 65 n (or-false (ltb n 1) (ltb 65 n) e .1)
 -- condition 12 never holds
 pub no-bad-sums : (turned : Bool) (b : Border ℤ) (o : ℤ) (w : List ℤ) (ns : List ℕ) (a : ℕ) (cells : List ℤ) → anyOf badLevel cells ≡ false
     → outside 1 65 (length w) ≡ false → anyOf badWeight w ≡ false → badConstantBy badLevel b ≡ false → badSums turned b o w ns a cells ≡ false
-no-bad-sums false b o w ns a cells l n k c = within b w (count-short (length w) n) (constant-sized b c) (weights-sized w k) _ ns a cells (levels-sized cells l)
-no-bad-sums true b o w ns a cells l n k c =
-    within b (reverse w) (omega (arith, length-reverse w, count-short (length w) n)) (constant-sized b c) (every-reverse (λ x. Size x weight) w (weights-sized w k)) _ ns a cells (levels-sized cells l)
+no-bad-sums turned b o w ns a cells l n k c =
+    within b (appliedWeights turned w) (omega (arith, applied-length turned w, count-short (length w) n)) (constant-sized b c) (weights-sized (appliedWeights turned w) (applied-weights badWeight turned w k)) _ ns a cells
+    (levels-sized cells l)

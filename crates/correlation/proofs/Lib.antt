@@ -4,5 +4,6 @@ pub mod Along
 pub mod Folded
 pub mod Classes
 pub mod Sizes
+pub mod KernelSizes
 pub mod Reversed
 pub mod Bounds

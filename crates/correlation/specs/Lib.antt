@@ -1,4 +1,5 @@
 -- The weighted sum of a window, over any element.
 pub mod Weighed
 pub mod Correlated
+pub mod Kernel
 pub mod Rows

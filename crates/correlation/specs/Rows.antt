@@ -1,6 +1,7 @@
 -- Worked rows of this crate's definitions. Each holds by computing.
 --   line w s n       the plain weighted sums of whole cells
 --   three f w        f of the cells 1 2 3 with the weights w under Nearest, origin 0
+--   squared f o      f of the rows 1 2 / 3 4 with the kernel 1 0 / 0 10 under Nearest, origin o
 --   nearly           the float weights 1, 2, 1 + 2^−52
 --   CorrelationRows  the rows
 use Prim.Native.Nat.{ℕ}
@@ -16,6 +17,7 @@ use Rattle.numbers.specs.Rows.{wholes, minus}
 use Rattle.symmetry.specs.declared.SymmetryState.the-variants.{NonSymmetric, Symmetric, AntiSymmetric}
 use Rattle.correlation.specs.Weighed.{wholeOps, floatOps, weighedAt, weighedLine}
 use Rattle.correlation.specs.Correlated.{correlate1dZ, convolve1dZ, correlate1dF, convolve1dF}
+use Rattle.correlation.specs.Kernel.{sidesOf, sideOf, kernelLeft, kernelRight, correlateZ, convolveZ}
 
 abbrev pub line : List ℕ → List ℕ → ℕ → List ℤ
 line w s n = weighedLine wholeOps NonSymmetric (wholes w) (wholes s) n
@@ -28,6 +30,9 @@ none = fin false 0 (pos 0)
 
 abbrev pub three : (Border ℤ → ℤ → List ℤ → List ℕ → ℕ → List ℤ → List ℤ) → List ℕ → List ℤ
 three f w = f (along Nearest) (pos 0) (wholes w) (3 ∷ []) 0 (wholes (1 ∷ 2 ∷ 3 ∷ []))
+
+abbrev pub squared : (Border ℤ → ℤ → List ℕ → List ℤ → List ℕ → List ℤ → List ℤ) → ℤ → List ℤ
+squared f o = f (along Nearest) o (sidesOf (2 ∷ 2 ∷ []) 2) (wholes (1 ∷ 0 ∷ 0 ∷ 10 ∷ [])) (2 ∷ 2 ∷ []) (wholes (1 ∷ 2 ∷ 3 ∷ 4 ∷ []))
 
 abbrev pub nearly : List Float
 nearly = one ∷ fin false 1 (pos 1) ∷ fin false 4503599627370497 (negsuc 51) ∷ []
@@ -50,3 +55,16 @@ pub record CorrelationRows : Type 0 where
   -- a plain sum starts from 0.0, one by pairs from its middle term: of the cell −0.0 under the weight 1, 0.0 and −0.0
   pub from-zero : weighedAt floatOps NonSymmetric (one ∷ []) (fin true 0 (pos 0) ∷ []) 0 ≡ none
   pub from-middle : weighedAt floatOps Symmetric (one ∷ []) (fin true 0 (pos 0) ∷ []) 0 ≡ fin true 0 (pos 0)
+  -- the shape of a kernel, its side, and its pads: of side 2 with origins 0 and −1, of side 3 with origin 1
+  pub sides : sidesOf (4 ∷ 5 ∷ []) 2 ≡ 2 ∷ 2 ∷ []
+  pub side : sideOf (2 ∷ 3 ∷ []) ∷ sideOf [] ∷ [] ≡ 2 ∷ 1 ∷ []
+  pub left-pads : kernelLeft 2 (pos 0) ∷ kernelLeft 2 (minus 1) ∷ kernelLeft 3 (pos 1) ∷ [] ≡ 1 ∷ 0 ∷ 2 ∷ []
+  pub right-pads : kernelRight 2 (pos 0) ∷ kernelRight 2 (minus 1) ∷ kernelRight 3 (pos 1) ∷ [] ≡ 1 ∷ 2 ∷ 0 ∷ []
+  -- T8, and its convolution: each cell 10 times, and the cell below and to the right of it
+  pub t8 : squared correlateZ (pos 0) ∷ squared convolveZ (pos 0) ∷ [] ≡ wholes (11 ∷ 21 ∷ 31 ∷ 41 ∷ []) ∷ wholes (14 ∷ 24 ∷ 34 ∷ 44 ∷ []) ∷ []
+  -- the same with origin −1: no pad on the left, and one
+  pub no-left : squared correlateZ (minus 1) ∷ squared convolveZ (minus 1) ∷ [] ≡ wholes (41 ∷ 42 ∷ 43 ∷ 44 ∷ []) ∷ wholes (11 ∷ 12 ∷ 13 ∷ 14 ∷ []) ∷ []
+  -- three axes, 2 by 1 by 2 cells: the constant 10 stands wherever one coordinate is outside
+  pub three-axes : correlateZ (constant (pos 10)) (pos 0) (sidesOf (2 ∷ 1 ∷ 2 ∷ []) 2) (wholes (1 ∷ 2 ∷ 3 ∷ 4 ∷ 5 ∷ 6 ∷ 7 ∷ 8 ∷ [])) (2 ∷ 1 ∷ 2 ∷ []) (wholes (1 ∷ 2 ∷ 3 ∷ 4 ∷ [])) ≡ wholes (288 ∷ 233 ∷ 268 ∷ 204 ∷ [])
+  -- one weight
+  pub one-cell : correlateZ (along Nearest) (pos 0) (sidesOf (2 ∷ 2 ∷ []) 1) (wholes (7 ∷ [])) (2 ∷ 2 ∷ []) (wholes (1 ∷ 2 ∷ 3 ∷ 4 ∷ [])) ≡ wholes (7 ∷ 14 ∷ 21 ∷ 28 ∷ [])

@@ -1,9 +1,11 @@
-// The numeric examples of the public comments, run and printed; `stdout` beside src/ has what they must be. Here are correlation and what it rests on:
-// kernels, symmetry, padded lines and windows; `examples` has the others.
+// The numeric examples of the public comments, run and printed; `stdout` beside src/ has what they must be. Here are correlation, the gradients and what they
+// rest on: kernels, symmetry, padded lines and windows; `examples` has the others.
 // The theorems of worked rows are called here too, so that no crate can drop its own unnoticed.
 mod correlations;
+mod gradients;
 mod kernels;
 mod padded;
+mod planes;
 mod weighing;
 
 fn rows() {
@@ -15,7 +17,10 @@ fn rows() {
     correlation::rows();
     correlate_judge::rows();
     correlate1d::rows();
-    correlate::rows();
+    correlate_grid::rows();
+    kernel_judge::rows();
+    gradient_judge::rows();
+    gradient::rows();
 }
 
 fn main() {
@@ -34,4 +39,9 @@ fn main() {
     correlations::t3();
     correlations::limits();
     correlations::floats();
+    planes::judges();
+    planes::t8();
+    planes::refusals();
+    gradients::t7();
+    gradients::refusals();
 }

@@ -7,15 +7,16 @@ use Prim.Native.Nat.{ℕ, _+_, _-_, _/_}
 use native.Mathlib.Omega.{arith}
 use borrow.Author.Tests.{eq-eqb, ne-eqb}
 use lib.Dec.{eqb}
-use lib.IntN.{ℤ, pos, negℤ, natAbs, _+ℤ_, _-ℤ_, +ℤ-assoc, +ℤ-comm, +ℤ-idl, +ℤ-invr}
+use lib.IntN.{ℤ, pos, natAbs, _+ℤ_, _-ℤ_}
 use lib.ListN.{drop}
 use Rattle.numbers.specs.Ranges.{outside}
 use Rattle.numbers.specs.Refusal.{Judged, refusalOf}
 use Rattle.numbers.proofs.Refusal.{judged-all, chain-stops}
-use Rattle.numbers.proofs.Tests.{cond-no, told}
+use Rattle.numbers.proofs.Tests.{told}
 use Rattle.border.specs.Border.{Border}
-use Rattle.origin.specs.Origin.{badOrigin, originPads, refusalOfOrigin}
-use Rattle.origin.proofs.Origins.{SignedPads, axis-accepted, accepted-some}
+use Rattle.origin.specs.Origin.{badOrigin, originPads}
+use Rattle.origin.proofs.Answered.{not-refused, left-is, right-is}
+use Rattle.origin.proofs.Origins.{pads-sum, axis-accepted, accepted-some}
 use Rattle.origin.specs.declared.Origin.{Origin}
 use Rattle.origin.specs.declared.Origin.the-variants.{Pads, Refused}
 use Rattle.pad_line.specs.Line.{badPad}
@@ -47,15 +48,7 @@ rightOf size o = natAbs (pos (size - size / 2 - 1) -ℤ o)
 
 -- the cells of a window are its pads and the cell itself
 pub pads-size : (size : ℕ) (o : ℤ) → badOrigin size o ≡ false → leftOf size o + rightOf size o + 1 ≡ size
-pads-size size o h = omega (arith, both, accepted-some size o h)
-  where
-    regroup : (l o r : ℤ) → (l +ℤ o) +ℤ (r -ℤ o) ≡ l +ℤ r
-    regroup l o r =
-        +ℤ-assoc l o (r -ℤ o)
-        ∙ ap (λ (x : ℤ). l +ℤ x) (ap (λ (x : ℤ). o +ℤ x) (+ℤ-comm r (negℤ o)) ∙ sym (+ℤ-assoc o (negℤ o) r) ∙ ap (λ (x : ℤ). x +ℤ r) (+ℤ-invr o) ∙ +ℤ-idl r)
-
-    both : leftOf size o + rightOf size o ≡ size / 2 + (size - size / 2 - 1)
-    both = let s = axis-accepted size o h in ap natAbs ((λ j. s .left-pad j +ℤ s .right-pad j) ∙ regroup (pos (size / 2)) o (pos (size - size / 2 - 1)))
+pads-size size o h = omega (arith, pads-sum (size / 2) (size - size / 2 - 1) o (axis-accepted size o h), accepted-some size o h)
 
 -- a window of one cell reads no origin and needs no pad
 pub single-cell : (size : ℕ) (t : Bool) → size ≡ 1 → false ≡ not (eqb size 1) && t
@@ -69,29 +62,16 @@ module _ (size : ℕ) (o : ℤ) (more : size ≡ 1 → ⊥) where
   origin-accepted h = more-cells (badOrigin size o) ∙ h
 
   module _ (h : windowOrigin size o ≡ false) {r : Origin} (e : r ≡ originPads size (size / 2) (size - size / 2 - 1) o) where
-    given : r ≡ Pads (leftOf size o) (rightOf size o)
-    given = e ∙ cond-no (badOrigin size o) Refused (Pads (leftOf size o) (rightOf size o)) (origin-accepted h)
-
     pub origin-refused : r ≡ Refused → ⊥
-    origin-refused q = clash (ap refusalOfOrigin (sym q ∙ given))
-      where
-        clash : _≡_ {A = ℕ} 7 0 → ⊥
-        clash z = omega arith
+    origin-refused q = not-refused size (size / 2) (size - size / 2 - 1) o (origin-accepted h) e q
 
     pub record PadsAre (l g : ℕ) : Type 0 where
       pub left : l ≡ leftOf size o
       pub right : g ≡ rightOf size o
 
     pub pads-are : {l g : ℕ} → r ≡ Pads l g → PadsAre l g
-    pads-are {l} {g} q = let p = sym q ∙ given in record { left = ap first p; right = ap last p }
-      where
-        first : Origin → ℕ
-        first (Pads x y) = x
-        first Refused = 0
-
-        last : Origin → ℕ
-        last (Pads x y) = y
-        last Refused = 0
+    pads-are q =
+        record { left = left-is size (size / 2) (size - size / 2 - 1) o (origin-accepted h) e q; right = right-is size (size / 2) (size - size / 2 - 1) o (origin-accepted h) e q }
 
     module _ (b : Border ℤ) (n : ℕ) {l g : ℕ} (P : PadsAre l g) where
       reach-is : badPad b n l || badPad b n g ≡ not (eqb size 1) && badReach b size o n

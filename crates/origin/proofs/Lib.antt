@@ -1,2 +1,3 @@
 -- Laws of origins that belong to no one function, leaves first.
 pub mod Origins
+pub mod Answered

@@ -6,7 +6,7 @@ use native.Mathlib.Nat.{le-refl}
 use native.Mathlib.Omega.{arith}
 use borrow.Author.Tests.{le-ltb, ltb-false, le-leb, leb-false}
 use lib.Dec.{ltb, leb}
-use lib.IntN.{ℤ, pos, negsuc, negℤ, natAbs, _+ℤ_, _-ℤ_}
+use lib.IntN.{ℤ, pos, negsuc, negℤ, natAbs, _+ℤ_, _-ℤ_, +ℤ-assoc, +ℤ-comm, +ℤ-idl, +ℤ-invr}
 use lib.Signed.{ltZ, shrZ}
 use Rattle.numbers.proofs.IntSum.{minus-pos}
 use Rattle.origin.specs.declared.Origin.the-variants.{Pads}
@@ -82,6 +82,15 @@ right-accepted len right (negsuc k) h e = refl
 pub record SignedPads (left right : ℕ) (o : ℤ) : Type 0 where
   pub left-pad : pos (natAbs (pos left +ℤ o)) ≡ pos left +ℤ o
   pub right-pad : pos (natAbs (pos right -ℤ o)) ≡ pos right -ℤ o
+
+-- together they are the pads of origin 0
+pub pads-sum : (left right : ℕ) (o : ℤ) → SignedPads left right o → natAbs (pos left +ℤ o) + natAbs (pos right -ℤ o) ≡ left + right
+pads-sum left right o s = ap natAbs ((λ j. s .left-pad j +ℤ s .right-pad j) ∙ regroup (pos left) o (pos right))
+  where
+    regroup : (l o r : ℤ) → (l +ℤ o) +ℤ (r -ℤ o) ≡ l +ℤ r
+    regroup l o r =
+        +ℤ-assoc l o (r -ℤ o)
+        ∙ ap (λ (x : ℤ). l +ℤ x) (ap (λ (x : ℤ). o +ℤ x) (+ℤ-comm r (negℤ o)) ∙ sym (+ℤ-assoc o (negℤ o) r) ∙ ap (λ (x : ℤ). x +ℤ r) (+ℤ-invr o) ∙ +ℤ-idl r)
 
 pub axis-accepted : (len : ℕ) (o : ℤ) → badOrigin len o ≡ false → SignedPads (len / 2) (len - len / 2 - 1) o
 axis-accepted len o e = record { left-pad = left-accepted len (len / 2) o (le-refl (len / 2)) e; right-pad = right-accepted len (len - len / 2 - 1) o (omega arith) e }

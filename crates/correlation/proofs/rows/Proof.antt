@@ -3,17 +3,19 @@
 use mathlib.Core.Path.{refl}
 use lib.Ieee.{add, sub, mul, lt}
 use Rattle.numbers.specs.Lists.{tabulate}
+use Rattle.array.specs.Grid.{placeOf, coordinate}
 use Rattle.lanes.specs.Lanes.{laneAt, alongAxis}
-use Rattle.border.specs.Border.{cellFor, extendedLane}
+use Rattle.border.specs.Border.{cellFor, extendedLane, allInside, extendedGrid}
 use Rattle.pad_line.specs.Line.{paddedAt, paddedLine}
 use Rattle.symmetry.specs.Class.{someDiffers, exceeds}
 use Rattle.correlation.specs.Weighed.{summed}
 use Rattle.correlation.specs.Correlated.{correlatedBy}
+use Rattle.correlation.specs.Kernel.{kernelSum, kernelAnswer}
 use Rattle.correlation.proofs.rows.Statement.{statement}
 use Rattle.correlation.proofs.rows.Tie as tie
 
 returns : tie.Need-returns
-unfolding tabulate summed add mul alongAxis laneAt paddedAt paddedLine extendedLane cellFor correlatedBy someDiffers exceeds sub lt
+unfolding tabulate summed add mul alongAxis laneAt paddedAt paddedLine extendedLane cellFor correlatedBy someDiffers exceeds sub lt placeOf coordinate allInside extendedGrid kernelSum kernelAnswer
 returns c = record {
   padded = refl;
   symmetric = refl;
@@ -25,6 +27,14 @@ returns c = record {
   near = refl;
   from-zero = refl;
   from-middle = refl;
+  sides = refl;
+  side = refl;
+  left-pads = refl;
+  right-pads = refl;
+  t8 = refl;
+  no-left = refl;
+  three-axes = refl;
+  one-cell = refl;
 }
 
 pub rows-spec : {M : Type 1} → statement M

@@ -1,0 +1,81 @@
+-- `correlate_grid::row::add_row` meets its contract: cell by cell, and no sum leaves 64 bits.
+-- Assumes nothing.
+use mathlib.Core.Path.{_≡_, refl}
+use Prim.Native.Nat.{_-_, _≤_}
+use native.Mathlib.Omega.{arith}
+use denote.Ref.{now}
+use lib.Dec.{ltb}
+use lib.IntN.{pos}
+use lib.ListN.{length}
+use Rattle.numbers.proofs.Stored.{Stored, front-none, front-all}
+use Rattle.correlate_grid.proofs.Added.{both, added-sum, added-more}
+use borrow.Author.Needs.{needs}
+use Rattle.correlate_grid.proofs.row.add_row.Statement.{statement}
+use Rattle.correlate_grid.proofs.row.add_row.Tie as tie
+
+abbrev Inv-loop : tie.InvT-loop
+Inv-loop swept out₀ n i₀ out i = (i ≤ n) × (n ≡ length out₀) × Stored (pos 0) (λ k. ltb k i) (both out₀ swept) out₀ out
+
+abbrev μ-loop : tie.MeasureT-loop
+μ-loop swept out₀ n i₀ out i = n - i
+
+loop-holds : tie.Need-loop-holds Inv-loop μ-loop
+loop-holds c = (search needs, refl, front-none (pos 0) _ _)
+
+mul-out : tie.Need-mul-out Inv-loop μ-loop
+mul-out c = search needs
+
+slice-copy-out-out : tie.Need-slice-copy-out-out Inv-loop μ-loop
+slice-copy-out-out c = search needs
+
+mul-out-2 : tie.Need-mul-out-2 Inv-loop μ-loop
+mul-out-2 c = search needs
+
+shared-slice-copy-out-out : tie.Need-shared-slice-copy-out-out Inv-loop μ-loop
+shared-slice-copy-out-out c = search needs
+
+add-out : tie.Need-add-out Inv-loop μ-loop
+add-out c = let s = c .before .before .before .before in added-sum (now (s .args .swept)) (now (s .args .out)) (s .pre .1) (s .pre .2) (omega arith) (c .before .before .before .loop .inv .2) .fits
+
+mul-t13 : tie.Need-mul-t13 Inv-loop μ-loop
+mul-t13 c = search needs
+
+slice-set-from-out : tie.Need-slice-set-from-out Inv-loop μ-loop
+slice-set-from-out c = search needs
+
+add-i : tie.Need-add-i Inv-loop μ-loop
+add-i c = search needs
+
+loop-less : tie.Need-loop-less Inv-loop μ-loop
+loop-less c = search needs
+
+loop-again : tie.Need-loop-again Inv-loop μ-loop
+loop-again c = let s = c .before .before .before .before in
+    let l = c .before .before .before .loop in
+    (search needs, l .inv .1, added-more (now (s .args .swept)) (now (s .args .out)) (s .pre .1) (s .pre .2) (omega arith) (l .inv .2))
+
+same-length : tie.Need-same-length Inv-loop μ-loop
+same-length c = c .before .loop .inv .2 .kept
+
+returns : tie.Need-returns Inv-loop μ-loop
+returns c = front-all (pos 0) _ (omega arith) (c .before .loop .inv .2)
+
+pub add-row-spec : {M : Type 1} → statement M
+add-row-spec =
+    tie.close
+    (tie.spec
+    Inv-loop
+    μ-loop
+    loop-holds
+    mul-out
+    slice-copy-out-out
+    mul-out-2
+    shared-slice-copy-out-out
+    add-out
+    mul-t13
+    slice-set-from-out
+    add-i
+    loop-less
+    loop-again
+    same-length
+    returns)

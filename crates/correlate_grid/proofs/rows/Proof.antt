@@ -1,0 +1,18 @@
+-- `correlate_grid::rows` meets its contract: every row holds by computing.
+-- Assumes nothing.
+use mathlib.Core.Path.{refl}
+use Rattle.numbers.specs.Lists.{tabulate}
+use Rattle.array.specs.Grid.{placeOf, coordinate}
+use Rattle.border.specs.Border.{cellFor, allInside, extendedGrid}
+use Rattle.correlation.specs.Weighed.{summed}
+use Rattle.correlate_grid.specs.Axes.{sourceFor}
+use Rattle.correlate_grid.specs.ByRows.{rowSum, rowsTo}
+use Rattle.correlate_grid.proofs.rows.Statement.{statement}
+use Rattle.correlate_grid.proofs.rows.Tie as tie
+
+returns : tie.Need-returns
+unfolding tabulate placeOf coordinate cellFor allInside extendedGrid summed sourceFor rowSum rowsTo
+returns c = record { sources = refl; no-source = refl; by-rows = refl }
+
+pub rows-spec : {M : Type 1} → statement M
+rows-spec = tie.close (tie.spec returns)

@@ -1,0 +1,36 @@
+// Correlation of a whole grid with a grid kernel, row by row: no padded copy of the grid.
+ghost use mathlib.Core.Path.{_≡_};
+ghost use Rattle.border.specs.Modes.{borderOf};
+ghost use Rattle.correlation.specs.Kernel.{sidesOf, kernelAnswer};
+ghost use Rattle.correlate_grid.specs.Kernel.{Kernelled};
+ghost use Rattle.correlate_grid.specs.Rows.{CorrelateGridRows};
+use border::BorderMode;
+
+mod axes;
+mod cells;
+mod row;
+
+// Fills out with the correlation of data with a kernel of as many axes, all of `side` cells: left and right are the pads of every axis.
+pub fn correlate_cells(
+    data: &[i64],
+    shape: &[usize],
+    weights: &[i64],
+    side: usize,
+    mode: BorderMode,
+    left: usize,
+    right: usize,
+    out: &mut [i64],
+)
+    requires { ⌜ Kernelled (borderOf mode) (now shape) side left right (now weights) (now «data») (now out) ⌝ }
+    ensures { λ _. ⌜ now (out .exit) ≡ kernelAnswer (borderOf mode) left (sidesOf (now (shape .entry)) side) (now (weights .entry)) (now (shape .entry)) (now («data» .entry)) ⌝ }
+{
+    let planes = axes::axis_from(shape, 2, side, left, right);
+    let rows = axes::axis_from(shape, 1, side, left, right);
+    let cells = axes::axis_from(shape, 0, side, left, right);
+    cells::correlate_three(data, weights, mode, planes, rows, cells, out);
+}
+
+// Worked rows of this crate's definitions. Refuses nothing.
+pub fn rows()
+    ensures { λ _. ⌜ CorrelateGridRows ⌝ }
+{}

@@ -1,0 +1,3 @@
+-- Laws, leaves first.
+pub mod Equal
+pub mod Chain

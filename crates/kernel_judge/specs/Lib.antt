@@ -1,0 +1,3 @@
+-- The conditions of correlation and convolution with grid kernels.
+pub mod Judge
+pub mod Rows

@@ -1,0 +1,1 @@
+-- No law of its own: a list reversed as a table is `correlation`'s.
