@@ -12,13 +12,13 @@ use Rattle.pad_grid.proofs.rims.fill_axes.Statement.{statement}
 use Rattle.pad_grid.proofs.rims.fill_axes.Tie as tie
 
 abbrev Inv-loop : tie.InvT-loop
-Inv-loop mode shape lefts padded out₀ axis₀ out axis = (axis ≤ length shape) × (length out ≡ cellCount padded) × Fills mode shape lefts padded 0 axis out₀ out
+Inv-loop mode shape lefts padded out₀ axis₀ out axis = Fills mode shape lefts padded 0 axis out₀ out × (axis ≤ length shape) × (length out ≡ cellCount padded)
 
 abbrev μ-loop : tie.MeasureT-loop
 μ-loop mode shape lefts padded out₀ axis₀ out axis = length shape - axis
 
 loop-holds : tie.Need-loop-holds Inv-loop μ-loop
-loop-holds c = (search needs, c .before .before .before .pre .1, λ cells A. A)
+loop-holds c = (λ cells A. A, search needs, c .before .before .before .pre .1)
 
 fill-axis-requires : tie.Need-fill-axis-requires Inv-loop μ-loop
 fill-axis-requires c κs = search needs
@@ -32,13 +32,13 @@ loop-less c = search needs
 loop-again : tie.Need-loop-again Inv-loop μ-loop
 loop-again c =
     let L = c .before .before .before .before .loop in
-    (omega arith, c .before .fill-axis .kept .1 .1 .1 .1 .1 .0 ∙ L .inv .1, fills-then (L .inv .2) (c .before .fill-axis .ensures))
+    (fills-then (L .inv .0) (c .before .fill-axis .ensures), omega arith, c .before .fill-axis .kept .1 .1 .1 .1 .1 .0 ∙ L .inv .2)
 
 same-length : tie.Need-same-length Inv-loop μ-loop
 same-length c = search needs
 
 returns : tie.Need-returns Inv-loop μ-loop
-returns c = let L = c .before .loop in fills-last (omega (arith, L .inv .0)) (L .inv .2)
+returns c = let L = c .before .loop in fills-last (omega (arith, L .inv .1)) (L .inv .0)
 
 pub fill-axes-spec : {M : Type 1} → statement M
 fill-axes-spec =
