@@ -1,0 +1,6 @@
+-- Laws of the median, leaves first.
+pub mod Totals
+pub mod Adding
+pub mod Reach
+pub mod Voted
+pub mod ThreeAxes

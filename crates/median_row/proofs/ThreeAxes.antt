@@ -1,0 +1,2 @@
+-- Votes.
+-- Assumes nothing.
