@@ -48,3 +48,13 @@ module _ {mask : List Bool} {n last : ℕ} (R : Reaches mask n last) where
 
       pub part-added : added (λ z. one (getD (take (r * n + n - r * n) (drop (r * n) mask)) z false)) c ≡ added (λ z. one (getD mask (r * n + z) false)) c
       part-added = added-agree _ _ c same
+
+-- ---- planes of rows
+module _ {mask : List Bool} {n rows last : ℕ} (R : Reaches mask n (last * rows)) where
+  pub planes-few : 1 ≤ rows → last ≤ 8192
+  planes-few h = omega (arith, mul-le-mul (le-refl last) h, rows-few R)
+
+  pub plane-reaches : (x to : ℕ) → x < last → to ≤ rows → Reaches mask n (x * rows + to)
+  plane-reaches x to h t =
+      let e : x * rows + to ≤ last * rows = omega (arith, row-end rows h) in
+      record { some = R .some; small = R .small; reach = omega (arith, mul-le-mul e (le-refl n), R .reach) }

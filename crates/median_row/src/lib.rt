@@ -4,9 +4,8 @@ ghost use mathlib.Core.Bool.{false};
 ghost use mathlib.Core.List.{[], _∷_};
 ghost use Prim.Native.Nat.{_+_, _-_, _*_, _≤_, _<_, min};
 ghost use lib.ListN.{length, getD};
-ghost use Rattle.array.specs.Grid.{coordinate};
-ghost use Rattle.median_row.specs.Around.{one, medianAt, medianAnswer};
-ghost use Rattle.median_row.specs.ByRows.{spanOf, planeCount, columnCount, Reaches, Room, added, votedAt, Counted, setRow, Laid};
+ghost use Rattle.median_row.specs.Around.{one, medianAnswer};
+ghost use Rattle.median_row.specs.ByRows.{spanOf, planeCount, columnCount, Reaches, Room, added, votedAt, Counted, setRow, medianOf, Laid, Blank};
 ghost use Rattle.median_row.specs.Rows.{MedianRows};
 
 // The coordinates from `from` to `to`, `to` not included.
@@ -98,24 +97,33 @@ fn vote_row(counts: &[u8], m: u8, a: usize, out: &mut [bool])
     out[b + i] = at_end < counts[i] + counts[i + 1];
 }
 
-// Sets row r of out to its medians.
+// Sets row r of out to its medians; counts is a buffer of zeros, as long as a row.
 fn median_row(
     mask: &[bool],
     planes: usize,
     rows: usize,
-    n: usize,
     r: usize,
+    counts: &mut [u8],
     out: &mut [bool],
 )
-    requires { ⌜ Laid planes rows n (now mask) × (r < planes * rows) × (length (now out) ≡ length (now mask)) ⌝ }
-    ensures { λ _. ⌜ now (out .exit) ≡ setRow (r * n) n (λ k. medianAt (planes ∷ rows ∷ n ∷ []) (now (mask .entry)) (coordinate (planes ∷ rows ∷ n ∷ []) k)) (now (out .entry)) ⌝ }
+    requires { ⌜ Laid planes rows (length (now counts)) (now mask) × (r < planes * rows) × (length (now out) ≡ length (now mask)) × Blank (now counts) ⌝ }
+    ensures { λ _. ⌜ now (out .exit) ≡ setRow (r * length (now (counts .entry))) (length (now (counts .entry))) (medianOf planes rows (length (now (counts .entry))) (now (mask .entry))) (now (out .entry)) ⌝ }
 {
     let xs = around(planes, r / rows);
     let ys = around(rows, r % rows);
-    let mut counts = [0; 1024];
-    add_planes(mask, rows, xs, ys, &mut counts[..n]);
+    add_planes(mask, rows, xs, ys, counts);
     let m = (xs.to - xs.from) * (ys.to - ys.from);
-    vote_row(&counts[..n], m as u8, r * n, out);
+    let a = r * counts.len();
+    vote_row(counts, m as u8, a, out);
+}
+
+// The same, with a buffer of its own.
+fn set_row(mask: &[bool], planes: usize, rows: usize, n: usize, r: usize, out: &mut [bool])
+    requires { ⌜ Laid planes rows n (now mask) × (r < planes * rows) × (length (now out) ≡ length (now mask)) ⌝ }
+    ensures { λ _. ⌜ now (out .exit) ≡ setRow (r * n) n (medianOf planes rows n (now (mask .entry))) (now (out .entry)) ⌝ }
+{
+    let mut counts = [0; 1024];
+    median_row(mask, planes, rows, r, &mut counts[..n], out);
 }
 
 // Sets every row of out to its medians.
@@ -126,7 +134,7 @@ pub fn median_rows(mask: &[bool], planes: usize, rows: usize, n: usize, out: &mu
     let count = planes * rows;
     let mut r = 0;
     while r < count {
-        median_row(mask, planes, rows, n, r, out);
+        set_row(mask, planes, rows, n, r, out);
         r += 1;
     }
 }

@@ -89,9 +89,12 @@ loop-again : tie.Need-loop-again Inv-loop μ-loop
 loop-again c =
     let s = c .before .before .before .before .before .before .before in
     let l = c .before .before .before .before .loop in
-    let q : l .i + 1 ≡ s .args .a + 1 + l .i - s .args .a = omega arith in
-    (omega arith, l .inv .1, votes-more _ _ _ _ (omega (arith, l .inv .1, s .pre .0 .two)) (l .inv .2)
-    (voted-inside (now (s .args .counts)) (s .args .m) (l .i) (omega arith) ∙ ap (votedAt (now (s .args .counts)) (s .args .m)) q))
+    let q : l .i + 1 ≡ s .args .a + 1 + l .i - s .args .a = omega arith in (
+      omega arith,
+      l .inv .1,
+      votes-more _ _ _ _ (omega (arith, l .inv .1, s .pre .0 .two)) (l .inv .2)
+          (voted-inside (now (s .args .counts)) (s .args .m) (l .i) (omega arith) ∙ ap (votedAt (now (s .args .counts)) (s .args .m)) q),
+    )
 
 shared-slice-read-out-6 : tie.Need-shared-slice-read-out-6 Inv-loop μ-loop
 shared-slice-read-out-6 c = search needs
