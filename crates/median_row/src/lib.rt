@@ -6,7 +6,7 @@ ghost use Prim.Native.Nat.{_+_, _-_, _*_, _≤_, _<_, min};
 ghost use lib.ListN.{length, getD};
 ghost use Rattle.median_row.specs.Around.{one, medianAnswer};
 ghost use Rattle.median_row.specs.ByRows.{spanOf, planeCount, columnCount, Reaches, Room, added, votedAt, Counted, setRow, medianOf, Laid, Blank};
-ghost use Rattle.median_row.specs.Rows.{MedianRows};
+ghost use Rattle.median_row.specs.Rows.{MedianRowRows};
 
 // The coordinates from `from` to `to`, `to` not included.
 pub struct Span {
@@ -141,5 +141,5 @@ pub fn median_rows(mask: &[bool], planes: usize, rows: usize, n: usize, out: &mu
 
 // Worked rows of this crate's definitions. Refuses nothing.
 pub fn rows()
-    ensures { λ _. ⌜ MedianRows ⌝ }
+    ensures { λ _. ⌜ MedianRowRows ⌝ }
 {}
