@@ -1,46 +1,50 @@
+-- `median::bad_single` meets its contract: no axis before the one that the loop has reached has one cell.
+-- Assumes nothing.
+use mathlib.Core.Path.{_≡_, refl, sym}
+use Prim.Native.Nat.{_≤_, _-_}
+use borrow.Author.Tests.{eq-eqb, ne-eqb}
+use denote.Ref.{now}
+use lib.Dec.{eqb}
+use lib.ListN.{length, drop}
+use Rattle.numbers.proofs.Any.{any-hit, any-miss, any-end}
+use Rattle.median.specs.Judge.{badSingle}
 use borrow.Author.Needs.{needs}
 use Rattle.median.proofs.bad_single.Statement.{statement}
 use Rattle.median.proofs.bad_single.Tie as tie
-use Rattle.median.proofs.bad_single.Reads as reads
-use Rattle.median.proofs.bad_single.Lts as lts
 
 abbrev Inv-loop : tie.InvT-loop
-Inv-loop shape i₀ i = ?
+Inv-loop shape i₀ i = (i ≤ length shape) × (badSingle shape ≡ badSingle (drop i shape))
 
 abbrev μ-loop : tie.MeasureT-loop
-μ-loop shape i₀ i = ?
+μ-loop shape i₀ i = length shape - i
 
--- src/lib.rt:24:5
 loop-holds : tie.Need-loop-holds Inv-loop μ-loop
-loop-holds c = search needs
+loop-holds c = (search needs, refl)
 
--- src/lib.rt:25:12
 mul-if1 : tie.Need-mul-if1 Inv-loop μ-loop
 mul-if1 c = search needs
 
--- src/lib.rt:25:12
 shared-slice-read-if1 : tie.Need-shared-slice-read-if1 Inv-loop μ-loop
 shared-slice-read-if1 c = search needs
 
--- src/lib.rt:26:13
 returns : tie.Need-returns Inv-loop μ-loop
-returns c = search needs
+returns c =
+    let l = c .before .before .before .loop in
+    sym (any-hit (λ n. eqb n 1) 0 (l .i) (now (c .before .before .before .before .args .shape)) (search needs) (l .inv .1) (eq-eqb _ 1 (c .if1 .taken)))
 
--- src/lib.rt:28:9
 add-i : tie.Need-add-i Inv-loop μ-loop
 add-i c = search needs
 
--- src/lib.rt:24:5
 loop-less : tie.Need-loop-less Inv-loop μ-loop
 loop-less c = search needs
 
--- src/lib.rt:24:5
 loop-again : tie.Need-loop-again Inv-loop μ-loop
-loop-again c = search needs
+loop-again c =
+    let l = c .before .before .before .loop in
+    (search needs, any-miss (λ n. eqb n 1) 0 (l .i) (now (c .before .before .before .before .args .shape)) (search needs) (l .inv .1) (ne-eqb _ 1 (c .if1 .left)))
 
--- src/lib.rt:20:1
 returns-2 : tie.Need-returns-2 Inv-loop μ-loop
-returns-2 c = search needs
+returns-2 c = let l = c .before .loop in sym (any-end (λ n. eqb n 1) (l .i) (now (c .before .before .args .shape)) (search needs) (l .inv .1))
 
 pub bad-single-spec : {M : Type 1} → statement M
 bad-single-spec =
