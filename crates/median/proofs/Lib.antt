@@ -1,0 +1,2 @@
+-- Laws of the median's judge.
+pub mod Accepted

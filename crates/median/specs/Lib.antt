@@ -1,0 +1,3 @@
+-- The judge of the median.
+pub mod Judge
+pub mod Rows
