@@ -9,6 +9,7 @@ mod filters;
 mod grids;
 mod kernels;
 mod padded;
+mod planes;
 mod print;
 mod weighing;
 
@@ -35,6 +36,7 @@ fn rows() {
     pad::rows();
     correlation::rows();
     correlate_judge::rows();
+    kernel_judge::rows();
     correlate1d::rows();
 }
 
@@ -77,4 +79,7 @@ fn main() {
     correlations::t3();
     correlations::limits();
     correlations::floats();
+    planes::judges();
+    planes::t8();
+    planes::refusals();
 }
