@@ -6,6 +6,7 @@ mod borders;
 mod correlations;
 mod extremes;
 mod filters;
+mod gradients;
 mod grids;
 mod kernels;
 mod padded;
@@ -36,6 +37,8 @@ fn rows() {
     correlation::rows();
     correlate_judge::rows();
     correlate1d::rows();
+    gradient_judge::rows();
+    gradient::rows();
 }
 
 fn main() {
@@ -77,4 +80,6 @@ fn main() {
     correlations::t3();
     correlations::limits();
     correlations::floats();
+    gradients::t7();
+    gradients::refusals();
 }
