@@ -6,6 +6,7 @@ mod averages;
 mod borders;
 mod extremes;
 mod filters;
+mod gradients;
 mod grids;
 
 fn rows() {

@@ -1,6 +1,5 @@
 -- Worked rows of this crate's definitions. Each holds by computing.
 --   GradientRows   the rows
-use Prim.Native.Nat.{ℕ}
 use mathlib.Core.Path.{_≡_}
 use mathlib.Core.List.{[], _∷_, map}
 use Rattle.gradient.specs.Filters.{firstOther, lastOther}

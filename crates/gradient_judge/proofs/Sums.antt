@@ -1,6 +1,6 @@
 -- No sum of a pass over accepted levels leaves 64 bits: condition 12 never holds where 1, 3 and 9 do not. Each pass multiplies the greatest size by at most 6.
 -- Assumes nothing.
-use Prim.Native.Nat.{ℕ, zero, suc, _+_, _*_, _^_, _≤_, _<_}
+use Prim.Native.Nat.{ℕ, zero, suc, _+_, _*_, _^_, _<_}
 use mathlib.Core.Path.{_≡_, refl, ap}
 use mathlib.Core.Bool.{Bool, false}
 use mathlib.Core.List.{List}

@@ -1,7 +1,7 @@
 -- Worked rows of this crate's definitions: T7 and each number at its limits. Each holds by computing.
 --   square              the rows 1 2 / 3 4
 --   onSquare w b a      the gradient of these along axis a, smoothed by w
---   box                 2 by 1 by 2 cells, 1 2 3 4
+--   box w b a           the same of 2 by 1 by 2 cells, 1 2 3 4
 --   numberOn b a        the number of a Sobel call on the square along axis a
 --   GradientJudgeRows   the rows
 use Prim.Native.Nat.{ℕ, _-_, _^_}

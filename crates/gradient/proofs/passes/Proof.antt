@@ -7,8 +7,7 @@ use denote.Ref.{now}
 use lib.ListN.{length}
 use Rattle.array.proofs.Shapes.{shape-accepted}
 use Rattle.border.specs.Modes.{borderOf}
-use Rattle.gradient_judge.specs.Judge.{ThreeSmall}
-use Rattle.gradient.proofs.EachPass.{Accepted, Between, accepted, between-input, weighs-pass, between-pass, first-in, last-in, one-pass, two-passes, three-passes}
+use Rattle.gradient.proofs.EachPass.{Accepted, accepted, between-input, weighs-pass, between-pass, first-in, last-in, one-pass, two-passes, three-passes}
 use borrow.Author.Needs.{needs}
 use Rattle.gradient.proofs.passes.Statement.{statement}
 use Rattle.gradient.proofs.passes.Tie as tie
