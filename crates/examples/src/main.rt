@@ -6,7 +6,6 @@ mod averages;
 mod borders;
 mod extremes;
 mod filters;
-mod gradients;
 mod grids;
 
 fn rows() {
