@@ -1,6 +1,6 @@
 -- No sum of accepted levels and weights leaves 64 bits: condition 12 never holds where 3, 5, 6 and 9 do not.
 -- Assumes nothing.
-use Prim.Native.Nat.{ℕ, _+_, _-_, _*_, _/_, _%_, _≤_}
+use Prim.Native.Nat.{ℕ, _-_, _*_, _/_, _≤_}
 use mathlib.Core.Path.{_≡_}
 use mathlib.Core.Bool.{Bool, true, false}
 use mathlib.Core.List.{List, map, reverse}
@@ -13,13 +13,13 @@ use lib.ListN.{length, getD, length-reverse}
 use Rattle.numbers.specs.Lists.{anyOf}
 use Rattle.numbers.specs.Ranges.{outside, beyond}
 use Rattle.numbers.proofs.Any.{none-any, every-imp, every-map, every-reverse}
-use Rattle.numbers.proofs.Size.{Size, Sized, size-mul, size-le, member-sized, tested-sized, beyond-sized}
+use Rattle.numbers.proofs.Size.{Size, Sized, size-zero, size-mul, size-le, member-sized, tested-sized, beyond-sized}
 use Rattle.numbers.proofs.Tabulate.{every-table}
 use Rattle.numbers.proofs.Tests.{cond-ind, or-false}
 use Rattle.array.specs.Conditions.{badLevel}
-use Rattle.array.specs.Grid.{lengthOf, strideOf}
 use Rattle.array.proofs.Judged.{levels-sized}
-use Rattle.lanes.specs.Lanes.{laneOf, laneBase, lane, laneAt, alongAxis}
+use Rattle.lanes.specs.Lanes.{alongAxis}
+use Rattle.lanes.proofs.Passes.{every-along}
 use Rattle.border.specs.Border.{Border}
 use Rattle.border.specs.Modes.{badConstantBy}
 use Rattle.pad_line.specs.Line.{paddedLine}
@@ -40,20 +40,6 @@ weight = 65535
 abbrev sum : ℕ
 sum = 65 * (level * weight)
 
--- of every lane of an axis
-along-sized : (f : List ℤ → List ℤ) → ((s : List ℤ) → Sized level s → Sized sum (f s)) → (ns : List ℕ) (a : ℕ) (cells : List ℤ) → Sized level cells → Sized sum (alongAxis (pos 0) f ns a cells)
-unfolding alongAxis laneAt
-along-sized f g ns a cells h =
-    every-table (λ x. Size x sum) (λ k. getD (f (row k)) (k / strideOf ns a % lengthOf ns a) (pos 0)) 0 (length cells) (λ k. member-sized sum (f (row k)) (g (row k) (row-sized k)) (k / strideOf ns a % lengthOf ns a))
-  where
-    row : ℕ → List ℤ
-    row k = lane (pos 0) (lengthOf ns a) (strideOf ns a) (laneOf (lengthOf ns a) (strideOf ns a) k) cells
-
-    row-sized : (k : ℕ) → Sized level (row k)
-    row-sized k =
-        every-table (λ x. Size x level) (λ i. getD cells (laneBase (lengthOf ns a) (strideOf ns a) (laneOf (lengthOf ns a) (strideOf ns a) k) + i * strideOf ns a) (pos 0)) 0 (lengthOf ns a)
-        (λ i. member-sized level cells h (laneBase (lengthOf ns a) (strideOf ns a) (laneOf (lengthOf ns a) (strideOf ns a) k) + i * strideOf ns a))
-
 module _ (b : Border ℤ) (w : List ℤ) (n : length w ≤ 65) (c : SizedBorder level b) (k : Sized weight w) where
   -- of the windows of a lane
   lane-sized : (left right : ℕ) (s : List ℤ) → Sized level s → Sized sum (correlatedLine wholeOps NonSymmetric b left right w s)
@@ -72,7 +58,7 @@ module _ (b : Border ℤ) (w : List ℤ) (n : length w ≤ 65) (c : SizedBorder 
   answer-sized o ns a cells h =
       cond-ind (eqb (length w) 1) (map (λ x. x *ℤ getD w 0 (pos 0)) cells) (alongAxis (pos 0) line ns a cells) (Sized sum)
       (λ t. every-map (λ x. Size x sum) (λ x. x *ℤ getD w 0 (pos 0)) cells (every-imp (λ x. Size x level) _ cells (λ x s. size-le (size-mul s (member-sized weight w k 0)) (omega arith)) h))
-      (λ t. along-sized line (lane-sized left right) ns a cells h)
+      (λ t. every-along (pos 0) (λ x. Size x level) (λ x. Size x sum) line (size-zero level) (size-zero sum) (lane-sized left right) ns a cells h)
     where
       left : ℕ
       left = natAbs (pos (length w / 2) +ℤ o)

@@ -1,4 +1,5 @@
--- The running sum of a window: one cell enters, one leaves, and every sum on the way fits 64 bits, since a window has at most 65 cells.
+-- The running sum of a window: one cell enters, one leaves, and every sum on the way fits 64 bits, since a window has at most 65 cells. A mean is no larger
+-- than the levels.
 -- Assumes nothing.
 use Prim.Native.Nat.{ℕ, suc, _+_, _-_, _*_, _^_, _≤_, _<_}
 use mathlib.Core.Path.{_≡_, sym, ap, subst, _∙_}
@@ -12,7 +13,8 @@ use lib.ListN.{length, getD}
 use mir.Syntax.{w64}
 use mir.Val.{SFits}
 use Rattle.numbers.specs.Lists.{anyOf}
-use Rattle.numbers.proofs.Size.{Size, size-zero, size-add, size-neg, size-le, member-sized, fits-size}
+use Rattle.numbers.proofs.Quotient.{size-quot}
+use Rattle.numbers.proofs.Size.{Size, Sized, size-zero, size-add, size-neg, size-le, member-sized, fits-size}
 use Rattle.array.specs.Conditions.{badLevel}
 use Rattle.array.proofs.Judged.{levels-sized}
 use Rattle.correlation.specs.Weighed.{summed}
@@ -43,21 +45,31 @@ module _ (s : List ℤ) (k i : ℕ) where
   pub sum-leaves : windowSum s (k + 1) i -ℤ getD s i (pos 0) ≡ windowSum s k (i + 1)
   sum-leaves = ap (λ (x : ℤ). x -ℤ getD s i (pos 0)) sum-front ∙ +ℤ-negℤ-cancel (windowSum s k (i + 1)) (getD s i (pos 0))
 
+-- ---- the size of a sum of k levels, and of the mean of a window
+module _ (p : ℕ) (s : List ℤ) (h : Sized p s) where
+  pub sum-size : (k i : ℕ) → Size (windowSum s k i) (k * p)
+  sum-size k i =
+      subst (λ x. Size (windowSum s k i) (x * p)) count
+      (size-summed p 0 1 (pos 0) (λ j. getD s (i + j) (pos 0)) (size-zero _) (λ j. size-le (member-sized p s h (i + j)) (omega arith)) k)
+    where
+      count : 0 + k * 1 ≡ k
+      count = omega arith
+
+  pub mean-size : (size i : ℕ) → Size (cut (windowSum s size i) size) p
+  mean-size size i = size-quot size (sum-size size i)
+
 -- ---- on the machine
 module _ (s : List ℤ) (levels : anyOf badLevel s ≡ false) where
-  cell-size : (k : ℕ) → Size (getD s k (pos 0)) 2147483647
-  cell-size k = member-sized 2147483647 s (levels-sized s levels) k
+  sized : Sized 2147483647 s
+  sized = levels-sized s levels
 
   cell : (k : ℕ) → Computed (getD s k (pos 0)) (getD s k (pos 0))
-  cell k = computed-level (cell-size k) (omega arith)
-
-  pub sum-size : (k i : ℕ) → Size (windowSum s k i) (k * 2147483647)
-  sum-size k i = size-le (size-summed 2147483647 0 1 (pos 0) (λ j. getD s (i + j) (pos 0)) (size-zero _) (λ j. size-le (cell-size (i + j)) (omega arith)) k) (omega arith)
+  cell k = computed-level (member-sized 2147483647 s sized k) (omega arith)
 
   -- a sum as it is held, and the cell at place m: whichever it is, their sum fits
   module _ {t : ℤ} (k i : ℕ) (few : k ≤ 64) (held : t ≡ windowSum s k i) where
     pub sum-computed : (m : ℕ) → Computed (t +ℤ read (getD s m (pos 0))) (windowSum s k i +ℤ getD s m (pos 0))
-    sum-computed m = record { fits = subst (SFits w64) (sym is) (fits-size (size-add (sum-size k i) (cell-size m)) (omega arith)); is = is }
+    sum-computed m = record { fits = subst (SFits w64) (sym is) (fits-size (size-add (sum-size 2147483647 s sized k i) (member-sized 2147483647 s sized m)) (omega arith)); is = is }
       where
         is : t +ℤ read (getD s m (pos 0)) ≡ windowSum s k i +ℤ getD s m (pos 0)
         is = (λ j. held j +ℤ computed-read (cell m) j)
@@ -69,7 +81,7 @@ module _ (s : List ℤ) (levels : anyOf badLevel s ≡ false) where
     -- the cell that leaves: whichever it is, the difference fits
     pub left-computed : (m n : ℕ)
         → Computed (read (t +ℤ read (getD s m (pos 0))) -ℤ read (getD s n (pos 0))) (windowSum s k i +ℤ getD s m (pos 0) -ℤ getD s n (pos 0))
-    left-computed m n = computed _-ℤ_ (sum-computed m) (cell n) (size-add (size-add (sum-size k i) (cell-size m)) (size-neg (cell-size n))) (omega arith)
+    left-computed m n = computed _-ℤ_ (sum-computed m) (cell n) (size-add (size-add (sum-size 2147483647 s sized k i) (member-sized 2147483647 s sized m)) (size-neg (member-sized 2147483647 s sized n))) (omega arith)
 
     pub left-read : read (read (t +ℤ read (getD s (i + k) (pos 0))) -ℤ read (getD s i (pos 0))) ≡ windowSum s k (i + 1)
     left-read = computed-read (left-computed (i + k) i) ∙ ap (λ (x : ℤ). x -ℤ getD s i (pos 0)) (sum-enters s k i) ∙ sum-leaves s k i
