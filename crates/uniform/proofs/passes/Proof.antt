@@ -40,7 +40,7 @@ pass-requires-2 c κs = let F = accepted (c .before .before .before .before) in 
 pass-requires-3 : tie.Need-pass-requires-3
 pass-requires-3 c κs =
     let F = accepted (c .before .before .before .before .before .before .before .before) in
-    pass-accepted F (between-pass F 0 (between-input F) (c .before .before .before .pass2 .ensures)) (F .output) (omega (arith, c .before .before .before .before .before .if2 .taken))
+    pass-accepted F (between-pass F _ (between-input F) (c .before .before .before .pass2 .ensures)) (F .output) (omega (arith, c .before .before .before .before .before .if2 .taken))
 
 same-length-2 : tie.Need-same-length-2
 same-length-2 c = search needs
@@ -59,13 +59,13 @@ pass-requires-4 c κs = let F = accepted (c .before .before .before .before) in 
 pass-requires-5 : tie.Need-pass-requires-5
 pass-requires-5 c κs =
     let F = accepted (c .before .before .before .before .before .before .before .before) in
-    pass-accepted F (between-pass F 0 (between-input F) (c .before .before .before .pass4 .ensures)) (F .between) (omega (arith, three (c .before .before .before .before .before)))
+    pass-accepted F (between-pass F _ (between-input F) (c .before .before .before .pass4 .ensures)) (F .between) (omega (arith, three (c .before .before .before .before .before)))
 
 pass-requires-6 : tie.Need-pass-requires-6
 pass-requires-6 c κs =
     let F = accepted (c .before .before .before .before .before .before .before .before .before .before .before .before) in
     let p = c .before .before .before .before .before .before .before .pass4 in
-    pass-accepted F (between-pass F 1 (between-pass F 0 (between-input F) (p .ensures)) (c .before .before .before .pass5 .ensures)) (p .kept .1 .1 .1 .1 .1 .0 ∙ F .output) (omega (arith, three (c .before .before .before .before .before .before .before .before .before)))
+    pass-accepted F (between-pass F _ (between-pass F _ (between-input F) (p .ensures)) (c .before .before .before .pass5 .ensures)) (p .kept .1 .1 .1 .1 .1 .0 ∙ F .output) (omega (arith, three (c .before .before .before .before .before .before .before .before .before)))
 
 same-length-4 : tie.Need-same-length-4
 same-length-4 c = search needs
