@@ -10,7 +10,6 @@ use Rattle.numbers.specs.Ranges.{outside}
 use Rattle.numbers.proofs.Tests.{or-false}
 use Rattle.border.specs.Border.{Border, constant, along}
 use Rattle.border.specs.declared.Along.the-variants.{Nearest, Mirror, Reflect, Wrap}
-use Rattle.origin.specs.Origin.{badOrigin}
 use Rattle.origin.proofs.Origins.{origin-on}
 use Rattle.pad_line.specs.Line.{badPad}
 use Rattle.filter_judge.specs.Judge.{windowOrigin, badReach}

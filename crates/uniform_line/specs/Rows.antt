@@ -1,8 +1,8 @@
 -- Worked rows of this crate's definitions. Each holds by computing.
 --   UniformLineRows   the rows
 use mathlib.Core.Path.{_≡_}
-use mathlib.Core.List.{List, [], _∷_, map}
-use lib.IntN.{ℤ, pos}
+use mathlib.Core.List.{[], _∷_}
+use lib.IntN.{pos}
 use Rattle.numbers.specs.Rows.{wholes, minus}
 use Rattle.uniform_line.specs.Mean.{windowSum, cut, means}
 

@@ -3,7 +3,6 @@
 use mathlib.Core.Path.{_∙_}
 use Rattle.border.specs.Modes.{borderOf}
 use Rattle.uniform_judge.proofs.Window.{origin-in, reach-plain}
-use borrow.Author.Needs.{needs}
 use Rattle.uniform_judge.proofs.bad_window.Statement.{statement}
 use Rattle.uniform_judge.proofs.bad_window.Tie as tie
 

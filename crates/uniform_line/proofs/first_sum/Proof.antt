@@ -1,7 +1,7 @@
 -- `uniform_line::first_sum` meets its contract. The loop's invariant: `sum` is the sum of the first `j` cells. The measure is what is left of the count.
 -- Assumes nothing.
 use mathlib.Core.Path.{_≡_, refl, sym, ap, _∙_}
-use Prim.Native.Nat.{_+_, _-_, _≤_}
+use Prim.Native.Nat.{_-_, _≤_}
 use native.Mathlib.Nat.{zero-add}
 use native.Mathlib.Omega.{arith}
 use denote.Ref.{now}
