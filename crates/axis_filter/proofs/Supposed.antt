@@ -11,16 +11,18 @@ use Rattle.numbers.specs.Lists.{tabulate, anyOf}
 use Rattle.numbers.specs.Ranges.{outsideZ}
 use Rattle.numbers.proofs.Tabulate.{length-tabulate}
 use Rattle.numbers.proofs.Tests.{or-false, or-no}
+use Rattle.array.specs.Conditions.{badLevel}
 use Rattle.lanes.specs.Lanes.{lane, laneAt}
 use Rattle.border.specs.Border.{Border, constant, along, cellFor, inside, extendedLane}
 use Rattle.border.specs.Modes.{badConstantBy}
 use Rattle.pad_line.specs.Line.{paddedAt, paddedLine}
 use Rattle.minlist.specs.Firsts.{firsts, Served}
 use Rattle.correlate_line.specs.Sizes.{Weighable}
+use Rattle.uniform_line.specs.Mean.{Averaged}
 use Rattle.axis_filter.specs.Lane.{Room}
-use Rattle.axis_filter.specs.Filter.{filtered, ServedLine, Supposed}
+use Rattle.axis_filter.specs.Filter.{filtered, ServedLine, Averaging, Supposed}
 use Rattle.axis_filter.specs.declared.LineFilter.{LineFilter}
-use Rattle.axis_filter.specs.declared.LineFilter.the-variants.{Least, Greatest, Weighed}
+use Rattle.axis_filter.specs.declared.LineFilter.the-variants.{Least, Greatest, Weighed, Mean}
 use Rattle.axis_filter.proofs.OneLane.{line-room, length-line}
 
 pub length-filtered : (f : LineFilter) (w : List ℤ) (size : ℕ) (p : List ℤ) (k : ℕ) → length (filtered f w size p k) ≡ k
@@ -28,6 +30,7 @@ unfolding firsts
 length-filtered Least w size p k = length-tabulate _ 0 k
 length-filtered Greatest w size p k = length-tabulate _ 0 k
 length-filtered (Weighed class) w size p k = length-tabulate _ 0 k
+length-filtered Mean w size p k = length-tabulate _ 0 k
 
 -- ---- a test that fails of every cell of a list, and of what stands past its end, fails of the padded lane
 module _ {A : Type 0} (t : A → Bool) where
@@ -78,7 +81,13 @@ module _ {b : Border ℤ} {s l left right : ℕ} {g line₀ swept₀ out₀ : Li
         cells = any-padded (outsideZ (negℤ (pos (2 ^ 38))) (pos (2 ^ 38))) (pos 0) b left right (length swept₀) s l g refl c e;
       }
 
+  averaged : Averaging (left + right + 1) b g → Averaged (paddedLine (pos 0) b left right (lane (pos 0) (length swept₀) s l g)) (left + right + 1) (length swept₀)
+  unfolding badLevel
+  averaged S =
+      record { some = omega arith; few = S .few; long = omega (arith, length-line (pos 0) R); levels = any-padded badLevel (pos 0) b left right (length swept₀) s l g refl (S .level) (S .levels) }
+
   pub line-served : (f : LineFilter) (w : List ℤ) → Supposed f w (left + right + 1) b g → ServedLine f w (left + right + 1) (paddedLine (pos 0) b left right (lane (pos 0) (length swept₀) s l g)) (length swept₀)
   line-served Least w S = served S
   line-served Greatest w S = served S
   line-served (Weighed class) w S = (weighable w (S .many) (S .weights) (S .level) (S .cells-in), S .class-is)
+  line-served Mean w S = averaged S

@@ -1,11 +1,12 @@
 -- The line filters of whole levels.
 --   filtered f w size p n    what the filter f gives for the first n cells of the padded line p: the least or the greatest level of each
---                            window of size cells, or the weighted sum of each window
+--                            window of size cells, the weighted sum of each window, or its mean
 --   ServedLine f w size p n  what it supposes of the line and the weights w
 --   Weighing class w size b cells   the class is that of the weights, the weights are as many as the window's cells and within
 --                            −65,535..65,535, and the cells and the border's constant are within −2^38..2^38: no sum leaves 64 bits
---   Supposed f w size b cells       what it supposes of a call: a window of more than one cell, or Weighing
-use Prim.Native.Nat.{ℕ, _^_, _<_}
+--   Averaging size b cells   the window has at most 65 cells, and the cells and the border's constant are levels that condition 3 accepts
+--   Supposed f w size b cells       what it supposes of a call: a window of more than one cell, Weighing, or Averaging
+use Prim.Native.Nat.{ℕ, _^_, _≤_, _<_}
 use mathlib.Core.Path.{_≡_}
 use mathlib.Core.Bool.{Bool, false}
 use mathlib.Core.List.{List}
@@ -15,6 +16,7 @@ use lib.Signed.{leZ}
 use Rattle.numbers.specs.Lists.{anyOf}
 use Rattle.numbers.specs.Order.{atLeast}
 use Rattle.numbers.specs.Ranges.{outsideZ}
+use Rattle.array.specs.Conditions.{badLevel}
 use Rattle.border.specs.Border.{Border}
 use Rattle.border.specs.Modes.{badConstantBy}
 use Rattle.minlist.specs.Firsts.{firsts, Served}
@@ -23,18 +25,21 @@ use Rattle.symmetry.specs.declared.SymmetryState.{SymmetryState}
 use Rattle.symmetry.specs.declared.SymmetryState.the-variants.{NonSymmetric}
 use Rattle.correlation.specs.Weighed.{wholeOps, weighedLine}
 use Rattle.correlate_line.specs.Sizes.{Weighable}
+use Rattle.uniform_line.specs.Mean.{means, Averaged}
 use Rattle.axis_filter.specs.declared.LineFilter.{LineFilter}
-use Rattle.axis_filter.specs.declared.LineFilter.the-variants.{Least, Greatest, Weighed}
+use Rattle.axis_filter.specs.declared.LineFilter.the-variants.{Least, Greatest, Weighed, Mean}
 
 abbrev pub filtered : LineFilter → List ℤ → ℕ → List ℤ → ℕ → List ℤ
 filtered Least w size p n = firsts leZ p size n
 filtered Greatest w size p n = firsts atLeast p size n
 filtered (Weighed class) w size p n = weighedLine wholeOps NonSymmetric w p n
+filtered Mean w size p n = means p size n
 
 abbrev pub ServedLine : LineFilter → List ℤ → ℕ → List ℤ → ℕ → Type 0
 ServedLine Least w size p n = Served (length p) size n
 ServedLine Greatest w size p n = Served (length p) size n
 ServedLine (Weighed class) w size p n = Weighable w p n × (class ≡ classZ w)
+ServedLine Mean w size p n = Averaged p size n
 
 pub record Weighing (class : SymmetryState) (w : List ℤ) (size : ℕ) (b : Border ℤ) (cells : List ℤ) : Type 0 where
   pub class-is : class ≡ classZ w
@@ -43,7 +48,13 @@ pub record Weighing (class : SymmetryState) (w : List ℤ) (size : ℕ) (b : Bor
   pub level : badConstantBy (outsideZ (negℤ (pos (2 ^ 38))) (pos (2 ^ 38))) b ≡ false
   pub cells-in : anyOf (outsideZ (negℤ (pos (2 ^ 38))) (pos (2 ^ 38))) cells ≡ false
 
+pub record Averaging (size : ℕ) (b : Border ℤ) (cells : List ℤ) : Type 0 where
+  pub few : size ≤ 65
+  pub level : badConstantBy badLevel b ≡ false
+  pub levels : anyOf badLevel cells ≡ false
+
 abbrev pub Supposed : LineFilter → List ℤ → ℕ → Border ℤ → List ℤ → Type 0
 Supposed Least w size b cells = 1 < size
 Supposed Greatest w size b cells = 1 < size
 Supposed (Weighed class) w size b cells = Weighing class w size b cells
+Supposed Mean w size b cells = Averaging size b cells

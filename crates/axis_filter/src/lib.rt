@@ -12,14 +12,15 @@ ghost use Rattle.axis_filter.specs.Rows.{AxisFilterRows};
 use border::BorderMode;
 use symmetry::SymmetryState;
 
-// What is taken of each window: its least or its greatest level, or its weighted sum with the class of the weights.
+// What is taken of each window: its least or its greatest level, its weighted sum with the class of the weights, or its mean.
 pub enum LineFilter {
     Least,
     Greatest,
     Weighed(SymmetryState),
+    Mean,
 }
 
-// The filter on a padded line. Least and Greatest read no weights.
+// The filter on a padded line. Only Weighed reads weights.
 fn filter_line(filter: LineFilter, weights: &[i64], size: usize, line: &[i64], out: &mut [i64])
     requires { ⌜ ServedLine filter (now weights) size (now line) (length (now out)) ⌝ }
     ensures { λ _. ⌜ now (out .exit) ≡ filtered filter (now (weights .entry)) size (now (line .entry)) (length (now (out .entry))) ⌝ }
@@ -28,6 +29,7 @@ fn filter_line(filter: LineFilter, weights: &[i64], size: usize, line: &[i64], o
         LineFilter::Least => minimum_line::minimum_line(line, size, out),
         LineFilter::Greatest => maximum_line::maximum_line(line, size, out),
         LineFilter::Weighed(class) => correlate_line::correlate_line(weights, class, line, out),
+        LineFilter::Mean => uniform_line::uniform_line(line, size, out),
     }
 }
 

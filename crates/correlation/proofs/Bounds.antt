@@ -1,6 +1,6 @@
 -- A correlation's answer along an axis, whole numbers: as many cells, of size at most the count of weights, times the greatest level, times the greatest weight.
 -- Assumes nothing.
-use Prim.Native.Nat.{ℕ, _+_, _-_, _*_, _/_, _%_, _^_, _≤_, _<_}
+use Prim.Native.Nat.{ℕ, _-_, _*_, _/_, _^_, _≤_, _<_}
 use mathlib.Core.Path.{_≡_, ap}
 use mathlib.Core.Bool.{false}
 use mathlib.Core.List.{List, map}
@@ -11,12 +11,12 @@ use lib.ListN.{length, getD, length-map}
 use Rattle.numbers.specs.Lists.{anyOf}
 use Rattle.numbers.specs.Ranges.{beyond}
 use Rattle.numbers.proofs.Any.{none-any, every-imp, every-map}
-use Rattle.numbers.proofs.Size.{Size, Sized, size-mul, size-le, member-sized, beyond-sized}
+use Rattle.numbers.proofs.Size.{Size, Sized, size-zero, size-mul, size-le, member-sized, beyond-sized}
 use Rattle.numbers.proofs.Tabulate.{every-table}
 use Rattle.numbers.proofs.Tests.{cond-ind}
-use Rattle.array.specs.Grid.{lengthOf, strideOf}
-use Rattle.lanes.specs.Lanes.{laneOf, laneBase, lane, laneAt, alongAxis}
+use Rattle.lanes.specs.Lanes.{alongAxis}
 use Rattle.lanes.proofs.AlongAxis.{length-along}
+use Rattle.lanes.proofs.Passes.{every-along}
 use Rattle.border.specs.Border.{Border, constant, along}
 use Rattle.pad_line.specs.Line.{paddedLine}
 use Rattle.pad_line.proofs.Sizes.{SizedBorder, line-sized}
@@ -36,20 +36,6 @@ border-le (along m) h e = tt
 -- no number of a list leaves 64 bits
 pub within-sized : {p : ℕ} (l : List ℤ) → Sized p l → p < 2 ^ 63 → anyOf beyond l ≡ false
 within-sized {p} l h e = none-any beyond l (every-imp (λ x. Size x p) _ l (λ x s. beyond-sized x s e) h)
-
--- ---- every lane of an axis
-along-sized : (p r : ℕ) (f : List ℤ → List ℤ) → ((s : List ℤ) → Sized p s → Sized r (f s)) → (ns : List ℕ) (a : ℕ) (cells : List ℤ) → Sized p cells → Sized r (alongAxis (pos 0) f ns a cells)
-unfolding alongAxis laneAt
-along-sized p r f g ns a cells h =
-    every-table (λ x. Size x r) (λ k. getD (f (row k)) (k / strideOf ns a % lengthOf ns a) (pos 0)) 0 (length cells) (λ k. member-sized r (f (row k)) (g (row k) (row-sized k)) (k / strideOf ns a % lengthOf ns a))
-  where
-    row : ℕ → List ℤ
-    row k = lane (pos 0) (lengthOf ns a) (strideOf ns a) (laneOf (lengthOf ns a) (strideOf ns a) k) cells
-
-    row-sized : (k : ℕ) → Sized p (row k)
-    row-sized k =
-        every-table (λ x. Size x p) (λ i. getD cells (laneBase (lengthOf ns a) (strideOf ns a) (laneOf (lengthOf ns a) (strideOf ns a) k) + i * strideOf ns a) (pos 0)) 0 (lengthOf ns a)
-        (λ i. member-sized p cells h (laneBase (lengthOf ns a) (strideOf ns a) (laneOf (lengthOf ns a) (strideOf ns a) k) + i * strideOf ns a))
 
 -- ---- levels and a constant of size at most p, weights of size at most q
 module _ (p q : ℕ) (b : Border ℤ) (w : List ℤ) (c : SizedBorder p b) (k : Sized q w) where
@@ -73,7 +59,7 @@ module _ (p q : ℕ) (b : Border ℤ) (w : List ℤ) (c : SizedBorder p b) (k : 
       cond-ind (eqb (length w) 1) (map (λ x. x *ℤ getD w 0 (pos 0)) cells) (alongAxis (pos 0) line ns a cells) (Sized sum)
       (λ t. every-map (λ x. Size x sum) (λ x. x *ℤ getD w 0 (pos 0)) cells
       (every-imp (λ x. Size x p) _ cells (λ x s. size-le (size-mul s (member-sized q w k 0)) (omega (arith, ap (λ n. n * (p * q)) (eqb→eq (length w) 1 t)))) h))
-      (λ t. along-sized p sum line (lane-sized left right) ns a cells h)
+      (λ t. every-along (pos 0) (λ x. Size x p) (λ x. Size x sum) line size-zero size-zero (lane-sized left right) ns a cells h)
     where
       left : ℕ
       left = natAbs (pos (length w / 2) +ℤ o)

@@ -9,7 +9,7 @@ use Rattle.correlation.specs.Weighed.{summed}
 use Rattle.correlation.proofs.Summed.{summed-front, summed-agree}
 
 -- a summand of the start, taken out
-start-moved : (a b : ℤ) (f : ℕ → ℤ) (n : ℕ) → summed _+ℤ_ (a +ℤ b) f n ≡ summed _+ℤ_ a f n +ℤ b
+pub start-moved : (a b : ℤ) (f : ℕ → ℤ) (n : ℕ) → summed _+ℤ_ (a +ℤ b) f n ≡ summed _+ℤ_ a f n +ℤ b
 unfolding summed
 start-moved a b f zero = refl
 start-moved a b f (suc n) = ap (λ (x : ℤ). x +ℤ f n) (start-moved a b f n) ∙ +ℤ-right-comm (summed _+ℤ_ a f n) b (f n)

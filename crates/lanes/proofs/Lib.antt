@@ -3,3 +3,4 @@ pub mod Cells
 pub mod FirstPlace
 pub mod Stores
 pub mod AlongAxis
+pub mod Passes

@@ -18,7 +18,7 @@ use Rattle.array.specs.Grid.{lengthOf}
 use Rattle.array.proofs.Shapes.{length-judged}
 use Rattle.border.specs.declared.BorderMode.{BorderMode}
 use Rattle.border.specs.Modes.{borderOf, badConstantBy}
-use Rattle.lanes.specs.Axes.{overAxes}
+use Rattle.lanes.proofs.Passes as passes
 use Rattle.sweeps.specs.Call.{firstIn, numberOf}
 use Rattle.sweeps.specs.Run.{answerOf}
 use Rattle.sweeps.proofs.Passed.{length-answer, answer-in}
@@ -90,20 +90,19 @@ module _ (le : ℤ → ℤ → Bool) (cells : List ℤ) (ns : List ℕ) (size : 
   step : ℕ → List ℤ → List ℤ
   step a g = answerOf le g (callOf ns size a m o out)
 
-  whole : (n : ℕ) → length ns ≡ n → overAxes step 0 n cells ≡ filterAnswer le (callOf ns size 0 m o out) cells
-  unfolding filterAnswer step
-  whole n e = sym (ap (λ x. overAxes step 0 x cells) e)
-
-  made : {x g g′ : List ℤ} (a : ℕ) (h : List ℤ) → g ≡ g′ → x ≡ answerOf le g (callOf ns size a m o h) → x ≡ step a g′
+  made : {x : List ℤ} (g : List ℤ) (a : ℕ) (h : List ℤ) → x ≡ answerOf le g (callOf ns size a m o h) → x ≡ step a g
   unfolding step
-  made {x} {g} {g′} a h p e = e ∙ answer-held le g ns size a m o h out ∙ ap (step a) p
+  made g a h e = e ∙ answer-held le g ns size a m o h out
 
   pub one-pass : {x : List ℤ} (h : List ℤ) → length ns ≡ 1 → x ≡ answerOf le cells (callOf ns size 0 m o h) → x ≡ filterAnswer le (callOf ns size 0 m o out) cells
-  one-pass h n e = made 0 h refl e ∙ whole 1 n
+  unfolding filterAnswer step
+  one-pass h n e = passes.one-pass step cells n (made cells 0 h e)
 
   pub two-passes : {x y : List ℤ} (h k : List ℤ) → length ns ≡ 2 → x ≡ answerOf le cells (callOf ns size 0 m o h) → y ≡ answerOf le x (callOf ns size 1 m o k) → y ≡ filterAnswer le (callOf ns size 0 m o out) cells
-  two-passes h k n e f = made 1 k (made 0 h refl e) f ∙ whole 2 n
+  unfolding filterAnswer step
+  two-passes {x} h k n e f = passes.two-passes step cells n (made cells 0 h e) (made x 1 k f)
 
   pub three-passes : {x y z : List ℤ} (h k l : List ℤ) → length ns ≡ 3 → x ≡ answerOf le cells (callOf ns size 0 m o h) → y ≡ answerOf le x (callOf ns size 1 m o k) → z ≡ answerOf le y (callOf ns size 2 m o l)
       → z ≡ filterAnswer le (callOf ns size 0 m o out) cells
-  three-passes h k l n e f g = made 2 l (made 1 k (made 0 h refl e) f) g ∙ whole 3 n
+  unfolding filterAnswer step
+  three-passes {x} {y} h k l n e f g = passes.three-passes step cells n (made cells 0 h e) (made x 1 k f) (made y 2 l g)

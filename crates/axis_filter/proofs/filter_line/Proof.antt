@@ -27,6 +27,12 @@ enum-known-filter c = search needs
 correlate-line-requires : tie.Need-correlate-line-requires
 correlate-line-requires c κs = rw (c .before .before .filter .given .1) at (c .before .before .before .before .pre)
 
+enum-told-3 : tie.Need-enum-told-3
+enum-told-3 c = search needs
+
+uniform-line-requires : tie.Need-uniform-line-requires
+uniform-line-requires c κs = rw (c .before .enum-told3 .given .1) at (c .before .before .before .pre)
+
 same-length : tie.Need-same-length
 same-length c = search needs
 
@@ -51,6 +57,12 @@ same-length-3 c = search needs
 returns-3 : tie.Need-returns-3
 returns-3 c = rw (c .before .before .before .before .filter .given .1) (c .before .correlate-line .ensures)
 
+same-length-4 : tie.Need-same-length-4
+same-length-4 c = search needs
+
+returns-4 : tie.Need-returns-4
+returns-4 c = rw (c .before .before .before .enum-told3 .given .1) (c .before .uniform-line .ensures)
+
 pub filter-line-spec : {M : Type 1} → statement M
 filter-line-spec =
     tie.close
@@ -61,9 +73,13 @@ filter-line-spec =
     maximum-line-requires
     enum-known-filter
     correlate-line-requires
+    enum-told-3
+    uniform-line-requires
     same-length
     returns
     same-length-2
     returns-2
     same-length-3
-    returns-3)
+    returns-3
+    same-length-4
+    returns-4)

@@ -1,0 +1,144 @@
+-- An accepted call: each of its passes is accepted, and leaves a grid that the next pass accepts.
+-- Assumes nothing.
+use mathlib.Core.Path.{_≡_, ap, subst, _∙_}
+use mathlib.Core.Bool.{false}
+use mathlib.Core.List.{List, [], _∷_}
+use Prim.Native.Nat.{ℕ, _+_, _-_, _/_, _≤_, _<_}
+use native.Mathlib.Nat.{add-zero}
+use native.Mathlib.Omega.{arith}
+use borrow.Author.Tests.{ltb-true, not-false}
+use lib.Dec.{ltb}
+use lib.IntN.{ℤ, pos}
+use lib.ListN.{length}
+use Rattle.numbers.specs.Lists.{anyOf}
+use Rattle.numbers.specs.Ranges.{outside}
+use Rattle.numbers.specs.Refusal.{refusalOf}
+use Rattle.numbers.proofs.Any.{any-none, every-at}
+use Rattle.numbers.proofs.Refusal.{judged-all}
+use Rattle.numbers.proofs.Tests.{or-false}
+use Rattle.array.specs.Conditions.{badShape, badLength, badLevel}
+use Rattle.array.specs.Grid.{cellCount, lengthOf}
+use Rattle.array.proofs.Shapes.{shape-accepted, count-accepted, length-judged}
+use Rattle.lanes.specs.Lanes.{alongAxis}
+use Rattle.lanes.proofs.AlongAxis.{length-along}
+use Rattle.border.specs.Border.{Border}
+use Rattle.border.specs.Modes.{badConstantBy}
+use Rattle.pad_line.specs.Line.{badPad}
+use Rattle.filter_judge.specs.Judge.{badReach}
+use Rattle.uniform_line.specs.Mean.{means}
+use Rattle.axis_filter.specs.Filter.{Averaging}
+use Rattle.axis_filter.specs.Lane.{Sweep}
+use Rattle.uniform_judge.specs.Uniform.{paddedFor, uniform1d}
+use Rattle.uniform_judge.specs.Judge.{halfOver, badGridReach, uniform1dJudged, uniformJudged}
+use Rattle.uniform_judge.proofs.Sums.{levels-kept}
+use Rattle.uniform_judge.proofs.Window.{size-some, size-few}
+use Rattle.uniform.specs.Pass.{Pass}
+
+-- ---- what the line filter supposes of a pass
+module _ {b : Border ℤ} {size : ℕ} {ns : List ℕ} {a : ℕ} {cells out : List ℤ} (P : Pass b size ns a cells out) where
+  -- the window is its pads and the cell itself
+  pub pads-size : size / 2 + (size - size / 2 - 1) + 1 ≡ size
+  pads-size = omega (arith, size-some size (P .window))
+
+  pub pass-sweep : Sweep b ns a (size / 2) (size - size / 2 - 1) cells out
+  pass-sweep =
+      let r = or-false (badPad b (lengthOf ns a) (size / 2 + 0)) (badPad b (lengthOf ns a) (size - size / 2 - 1 + 0)) (P .reach) in
+      record {
+        shape = P .shape;
+        axis = P .axis;
+        count = P .count;
+        same = omega (arith, P .same, P .count);
+        fills-left = subst (λ x. badPad b (lengthOf ns a) x ≡ false) (add-zero (size / 2)) (r .0);
+        fills-right = subst (λ x. badPad b (lengthOf ns a) x ≡ false) (add-zero (size - size / 2 - 1)) (r .1);
+        narrow = omega (arith, size-few size (P .window));
+      }
+
+  pub pass-averaging : Averaging (size / 2 + (size - size / 2 - 1) + 1) b cells
+  pass-averaging = record { few = omega (arith, size-few size (P .window)); level = P .level; levels = P .levels }
+
+  -- the answer, by the length of the window as the filter has it
+  abbrev filled : ℕ → List ℤ
+  filled m = alongAxis (pos 0) (λ s. means (paddedFor b size s) m (length s)) ns a cells
+
+  pub pass-filled : {left : List ℤ} → left ≡ filled (size / 2 + (size - size / 2 - 1) + 1) → left ≡ uniform1d b size ns a cells
+  pass-filled e = e ∙ ap filled pads-size
+
+-- ---- the one-axis form
+module _ {b : Border ℤ} {size : ℕ} {ns : List ℕ} {a : ℕ} {cells : List ℤ} (out : List ℤ) where
+  pub along-accepted : refusalOf (uniform1dJudged b size ns a cells (length out)) ≡ 0 → Pass b size ns a cells out
+  along-accepted e =
+      let p = judged-all (uniform1dJudged b size ns a cells (length out)) (tt, (tt, (tt, (tt, (tt, (tt, (tt, (tt, tt)))))))) e in
+      let q = any-none (badLength ns) (length cells ∷ length out ∷ []) (p .1 .0) in
+      record {
+        shape = p .0;
+        axis = ltb-true a (length ns) (not-false (ltb a (length ns)) (p .1 .1 .1 .1 .0));
+        count = length-judged ns (length cells) (q .0) ∙ count-accepted ns (p .0);
+        same = length-judged ns (length out) (q .1 .0) ∙ count-accepted ns (p .0);
+        levels = p .1 .1 .0;
+        window = p .1 .1 .1 .0;
+        level = p .1 .1 .1 .1 .1 .0;
+        reach = p .1 .1 .1 .1 .1 .1 .0;
+      }
+
+-- ---- the grid form
+-- what an accepted call has passed
+pub record Filtered (b : Border ℤ) (size : ℕ) (ns : List ℕ) (cells out second : List ℤ) : Type 0 where
+  pub shape : badShape ns ≡ false
+  pub input : length cells ≡ cellCount ns
+  pub output : length out ≡ cellCount ns
+  pub between : length second ≡ cellCount ns
+  pub levels : anyOf badLevel cells ≡ false
+  pub window : outside 1 65 size ≡ false
+  pub level : badConstantBy badLevel b ≡ false
+  pub reach : anyOf (badGridReach b size) ns ≡ false
+
+pub filtered : {b : Border ℤ} {size : ℕ} {ns : List ℕ} {cells : List ℤ} (out second : List ℤ) → refusalOf (uniformJudged b size ns cells (length out) (length second)) ≡ 0
+    → Filtered b size ns cells out second
+filtered {b} {size} {ns} {cells} out second e =
+    let p = judged-all (uniformJudged b size ns cells (length out) (length second)) (tt, (tt, (tt, (tt, (tt, (tt, (tt, tt))))))) e in
+    let q = any-none (badLength ns) (length cells ∷ length out ∷ length second ∷ []) (p .1 .0) in
+    record {
+      shape = p .0;
+      input = length-judged ns (length cells) (q .0) ∙ count-accepted ns (p .0);
+      output = length-judged ns (length out) (q .1 .0) ∙ count-accepted ns (p .0);
+      between = length-judged ns (length second) (q .1 .1 .0) ∙ count-accepted ns (p .0);
+      levels = p .1 .1 .0;
+      window = p .1 .1 .1 .0;
+      level = p .1 .1 .1 .1 .0;
+      reach = p .1 .1 .1 .1 .1 .0;
+    }
+
+-- a grid between two passes
+pub record Between (ns : List ℕ) (g : List ℤ) : Type 0 where
+  pub count : length g ≡ cellCount ns
+  pub range : anyOf badLevel g ≡ false
+
+module _ {b : Border ℤ} {size : ℕ} {ns : List ℕ} {cells out second : List ℤ} (F : Filtered b size ns cells out second) where
+  pub between-input : Between ns cells
+  between-input = record { count = F .input; range = F .levels }
+
+  -- a pass along any axis is accepted
+  pub pass-accepted : {g held : List ℤ} {a : ℕ} → Between ns g → length held ≡ cellCount ns → a < length ns → Pass b size ns a g held
+  pass-accepted {a = a} B e h = record {
+    shape = F .shape;
+    axis = h;
+    count = B .count;
+    same = e;
+    levels = B .range;
+    window = F .window;
+    level = F .level;
+    reach = or-false (badReach b size (pos 0) (lengthOf ns a)) (halfOver size (lengthOf ns a)) (every-at (λ n. badGridReach b size n ≡ false) ns 1 (any-none (badGridReach b size) ns (F .reach)) a h) .0;
+  }
+
+  pub between-pass : {g new : List ℤ} (a : ℕ) → Between ns g → new ≡ uniform1d b size ns a g → Between ns new
+  between-pass {g} a B e = record {
+    count = ap length e ∙ length-along (pos 0) (λ s. means (paddedFor b size s) size (length s)) ns a g ∙ B .count;
+    range = ap (anyOf badLevel) e ∙ levels-kept b size ns g (B .range) (F .level) a;
+  }
+
+  -- an accepted grid has one, two or three axes
+  pub three-axes : (length ns ≡ 1 → ⊥) → (length ns ≡ 2 → ⊥) → length ns ≡ 3
+  three-axes p q = let A = shape-accepted ns (F .shape) in at (length ns) (A .some) (A .few) p q
+    where
+      at : (n : ℕ) → 0 < n → n ≤ 3 → (n ≡ 1 → ⊥) → (n ≡ 2 → ⊥) → n ≡ 3
+      at n h f p q = omega arith

@@ -1,0 +1,2 @@
+-- Laws of accepted calls.
+pub mod Accepted

@@ -1,0 +1,37 @@
+-- `uniform::pass` meets its contract: a window of size cells is its pads and the cell itself.
+-- Assumes nothing.
+use native.Mathlib.Omega.{arith}
+use Rattle.uniform_judge.proofs.Window.{size-some}
+use Rattle.uniform.proofs.Accepted.{pass-sweep, pass-averaging, pass-filled}
+use borrow.Author.Needs.{needs}
+use Rattle.uniform.proofs.pass.Statement.{statement}
+use Rattle.uniform.proofs.pass.Tie as tie
+
+sub-right : tie.Need-sub-right
+sub-right c = search needs
+
+sub-right-2 : tie.Need-sub-right-2
+sub-right-2 c = omega (arith, size-some (c .before .args .size) (c .before .pre .window))
+
+slice-aggregate-filter-axis : tie.Need-slice-aggregate-filter-axis
+slice-aggregate-filter-axis c = search needs
+
+filter-axis-requires : tie.Need-filter-axis-requires
+filter-axis-requires c κs = (pass-sweep (c .before .before .before .pre), pass-averaging (c .before .before .before .pre))
+
+same-length : tie.Need-same-length
+same-length c = search needs
+
+returns : tie.Need-returns
+returns c = pass-filled (c .before .before .before .before .before .pre) (c .before .filter-axis .ensures)
+
+pub pass-spec : {M : Type 1} → statement M
+pass-spec =
+    tie.close
+    (tie.spec
+    sub-right
+    sub-right-2
+    slice-aggregate-filter-axis
+    filter-axis-requires
+    same-length
+    returns)

@@ -1,0 +1,50 @@
+-- `uniform::uniform_filter` meets its contract: refused by the judge's number, or the passes' answer, and the second grid cleared.
+-- Assumes nothing.
+use mathlib.Core.Path.{ap, _∙_}
+use Prim.Native.Nat.{ℕ}
+use lib.IntN.{pos}
+use lib.ListN.{replicate}
+use Rattle.numbers.proofs.Refusal.{answers-refused, answers-accepted}
+use borrow.Author.Needs.{needs}
+use Rattle.uniform.proofs.uniform_filter.Statement.{statement}
+use Rattle.uniform.proofs.uniform_filter.Tie as tie
+
+judge-uniform-requires : tie.Need-judge-uniform-requires
+judge-uniform-requires c κs = search needs
+
+returns : tie.Need-returns
+returns c = record { filled = answers-refused _ _ _ _ (c .before .judge-uniform .ensures) (c .if1 .taken); cleared = answers-refused _ _ _ _ (c .before .judge-uniform .ensures) (c .if1 .taken) }
+
+passes-requires : tie.Need-passes-requires
+passes-requires c κs = search needs
+
+fill-requires : tie.Need-fill-requires
+fill-requires c κs = search needs
+
+same-length : tie.Need-same-length
+same-length c = search needs
+
+same-length-2 : tie.Need-same-length-2
+same-length-2 c = search needs
+
+returns-2 : tie.Need-returns-2
+returns-2 c =
+    let j = c .before .before .before .before .before .before .before .before .before .judge-uniform .ensures in
+    let z = c .before .before .before .before .before .before .before .before .if1 .left in
+    let p = c .before .before .before .before .before .passes in
+    record {
+      filled = answers-accepted _ _ _ _ j z (p .ensures);
+      cleared = answers-accepted _ _ _ _ j z (c .before .fill .ensures ∙ ap (λ (n : ℕ). replicate n (pos 0)) (p .kept .1 .1 .1 .1 .0));
+    }
+
+pub uniform-filter-spec : {M : Type 1} → statement M
+uniform-filter-spec =
+    tie.close
+    (tie.spec
+    judge-uniform-requires
+    returns
+    passes-requires
+    fill-requires
+    same-length
+    same-length-2
+    returns-2)

@@ -1,0 +1,128 @@
+// Uniform filters along one axis and along every axis (src/filters/uniform.rs; SciPy's uniform_filter1d and uniform_filter): the mean of each window, cut
+// toward zero.
+ghost use mathlib.Core.Path.{_≡_};
+ghost use lib.ListN.{length};
+ghost use Rattle.numbers.specs.Refusal.{refusalOf, Answers};
+ghost use Rattle.border.specs.Modes.{borderOf};
+ghost use Rattle.uniform_judge.specs.Uniform.{uniform1d, uniform as uniformOf};
+ghost use Rattle.uniform_judge.specs.Judge.{uniform1dJudged, uniformJudged};
+ghost use Rattle.uniform.specs.Pass.{Pass};
+ghost use Rattle.uniform.specs.Answers.{UniformAnswers};
+ghost use Rattle.uniform.specs.Rows.{UniformRows};
+use axis_filter::LineFilter;
+use border::BorderMode;
+
+// Fills out with the means along the axis.
+fn pass(data: &[i64], shape: &[usize], size: usize, axis: usize, mode: BorderMode, out: &mut [i64])
+    requires { ⌜ Pass (borderOf mode) size (now shape) axis (now «data») (now out) ⌝ }
+    ensures { λ _. ⌜ now (out .exit) ≡ uniform1d (borderOf mode) size (now (shape .entry)) axis (now («data» .entry)) ⌝ }
+{
+    let left = size / 2;
+    let right = size - left - 1;
+    axis_filter::filter_axis(
+        LineFilter::Mean,
+        &data[..0],
+        mode,
+        data,
+        shape,
+        axis,
+        left,
+        right,
+        out,
+    );
+}
+
+// Fills out with the answer of an accepted grid call; second holds what a pass between leaves.
+fn passes(
+    data: &[i64],
+    shape: &[usize],
+    size: usize,
+    mode: BorderMode,
+    second: &mut [i64],
+    out: &mut [i64],
+)
+    requires { ⌜ refusalOf (uniformJudged (borderOf mode) size (now shape) (now «data») (length (now out)) (length (now second))) ≡ 0 ⌝ }
+    ensures { λ _. ⌜ now (out .exit) ≡ uniformOf (borderOf mode) size (now (shape .entry)) (now («data» .entry)) ⌝ }
+{
+    let axes = shape.len();
+    if axes == 1 {
+        pass(data, shape, size, 0, mode, out);
+        return;
+    }
+    if axes == 2 {
+        pass(data, shape, size, 0, mode, second);
+        pass(second, shape, size, 1, mode, out);
+        return;
+    }
+    pass(data, shape, size, 0, mode, out);
+    pass(out, shape, size, 1, mode, second);
+    pass(second, shape, size, 2, mode, out);
+}
+
+// Fills each cell of out with the mean of its window along one axis, cut toward zero; SciPy's uniform_filter1d.
+//
+// * `data` - the cells of the grid, in row-major order.
+// * `shape` - the length of each axis.
+// * `size` - the length of the window; that of cell i starts at i - size / 2.
+// * `axis` - the axis along which the windows lie.
+// * `mode` - the border.
+// * `out` - as long as data; kept as it was where the call is refused.
+//
+// Returns 0, or the lowest number of a condition that holds: 1 (shape), 2 (a length), 3 (a level), 5 (size), 8 (axis), 9 (constant), 11 (the border
+// cannot fill a pad) or 12 (a sum outside 64 bits, which never occurs).
+// -1 -2 -4 with size 3 along axis 0 under Constant(0) gives -1 -2 -2.
+pub fn uniform_filter1d(
+    data: &[i64],
+    shape: &[usize],
+    size: usize,
+    axis: usize,
+    mode: BorderMode,
+    out: &mut [i64],
+) -> u8
+    ensures { λ r. ⌜ Answers (uniform1dJudged (borderOf mode) size (now (shape .entry)) axis (now («data» .entry)) (length (now (out .entry))))
+        (uniform1d (borderOf mode) size (now (shape .entry)) axis (now («data» .entry))) (now (out .entry)) r (now (out .exit)) ⌝ }
+{
+    let refusal = uniform_judge::judge_uniform1d(data, shape, size, axis, mode, out.len());
+    if refusal != 0 {
+        return refusal;
+    }
+    pass(data, shape, size, axis, mode, out);
+    numbers::ACCEPTED
+}
+
+// Fills each cell of out with the means along every axis, in rising order, each pass cut toward zero; SciPy's uniform_filter.
+//
+// * `data` - the cells of the grid, in row-major order.
+// * `shape` - the length of each axis.
+// * `size` - the length of the window on every axis.
+// * `mode` - the border, the same in every pass.
+// * `second` - a second grid as long as data, for what a pass leaves to the next; an accepted call leaves zeros in it.
+// * `out` - as long as data.
+//
+// Returns 0, or the lowest number of a condition that holds: 1 (shape), 2 (a length), 3 (a level), 5 (size), 9 (constant), 11 (the border cannot fill
+// a pad of some axis, or under every border half the size is over the length of some axis) or 12 (a sum outside 64 bits, which never occurs).
+// A refused call leaves both lent grids as they were.
+// The rows 1 2 / 3 -6 with size 2 under Nearest give 1 1 / 2 0.
+pub fn uniform_filter(
+    data: &[i64],
+    shape: &[usize],
+    size: usize,
+    mode: BorderMode,
+    second: &mut [i64],
+    out: &mut [i64],
+) -> u8
+    ensures { λ r. ⌜ UniformAnswers (borderOf mode) size (now (shape .entry)) (now («data» .entry)) (now (second .entry)) (now (out .entry)) r (now (second .exit)) (now (out .exit)) ⌝ }
+{
+    let refusal = uniform_judge::judge_uniform(data, shape, size, mode, out.len(), second.len());
+    if refusal != 0 {
+        return refusal;
+    }
+    passes(data, shape, size, mode, second, out);
+    assign::fill(second, 0);
+    numbers::ACCEPTED
+}
+
+// Worked rows of what the calls answer: T6, an even window, two axes, and a refused call. Refuses nothing.
+pub fn rows()
+    ensures { λ _. ⌜ UniformRows ⌝ }
+{}

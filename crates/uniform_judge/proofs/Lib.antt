@@ -1,0 +1,4 @@
+-- Laws, leaves first.
+pub mod Window
+pub mod Sums
+pub mod Chain

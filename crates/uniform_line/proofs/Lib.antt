@@ -1,0 +1,2 @@
+-- Laws of the running sum.
+pub mod Sliding

@@ -1,0 +1,52 @@
+// The means of the windows of a line, by a running sum: the cell that enters is added, the cell that leaves is taken away, so that a cell costs the same
+// however long the window is.
+ghost use mathlib.Core.Path.{_≡_};
+ghost use Prim.Native.Nat.{_+_, _≤_, _<_};
+ghost use lib.ListN.{length};
+ghost use Rattle.uniform_line.specs.Mean.{windowSum, cut, means, Averaged};
+ghost use Rattle.uniform_line.specs.Rows.{UniformLineRows};
+
+// The sum of the first count cells.
+fn first_sum(line: &[i64], count: usize) -> i64
+    requires { ⌜ Averaged (now line) (count + 1) 0 ⌝ }
+    ensures { λ r. ⌜ r ≡ windowSum (now (line .entry)) count 0 ⌝ }
+{
+    let mut sum = 0;
+    let mut j = 0;
+    while j < count {
+        let z = line[j];
+        sum += z;
+        j += 1;
+    }
+    sum
+}
+
+// The sum of a window over the number of its cells, cut toward zero.
+fn cut_mean(total: i64, size: usize) -> i64
+    requires { ⌜ (0 < size) × (size ≤ 65) ⌝ }
+    ensures { λ r. ⌜ r ≡ cut total size ⌝ }
+{
+    total / (size as i64)
+}
+
+// Sets each cell of out to the mean of its window of the padded line, cut toward zero.
+pub fn uniform_line(line: &[i64], size: usize, out: &mut [i64])
+    requires { ⌜ Averaged (now line) size (length (now out)) ⌝ }
+    ensures { λ _. ⌜ now (out .exit) ≡ means (now (line .entry)) size (length (now (out .entry))) ⌝ }
+{
+    let before = size - 1;
+    let mut sum = first_sum(line, before);
+    let n = out.len();
+    let mut i = 0;
+    while i < n {
+        let total = sum + line[i + before];
+        out[i] = cut_mean(total, size);
+        sum = total - line[i];
+        i += 1;
+    }
+}
+
+// Worked rows of this crate's definitions. Refuses nothing.
+pub fn rows()
+    ensures { λ _. ⌜ UniformLineRows ⌝ }
+{}
