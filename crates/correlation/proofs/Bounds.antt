@@ -59,7 +59,7 @@ module _ (p q : ℕ) (b : Border ℤ) (w : List ℤ) (c : SizedBorder p b) (k : 
       cond-ind (eqb (length w) 1) (map (λ x. x *ℤ getD w 0 (pos 0)) cells) (alongAxis (pos 0) line ns a cells) (Sized sum)
       (λ t. every-map (λ x. Size x sum) (λ x. x *ℤ getD w 0 (pos 0)) cells
       (every-imp (λ x. Size x p) _ cells (λ x s. size-le (size-mul s (member-sized q w k 0)) (omega (arith, ap (λ n. n * (p * q)) (eqb→eq (length w) 1 t)))) h))
-      (λ t. every-along (pos 0) (λ x. Size x p) (λ x. Size x sum) line size-zero size-zero (lane-sized left right) ns a cells h)
+      (λ t. every-along (pos 0) (λ x. Size x p) (λ x. Size x sum) line (size-zero p) (size-zero sum) (lane-sized left right) ns a cells h)
     where
       left : ℕ
       left = natAbs (pos (length w / 2) +ℤ o)
