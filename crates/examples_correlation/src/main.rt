@@ -1,9 +1,11 @@
-// The numeric examples of the public comments, run and printed; `stdout` beside src/ has what they must be. Here are correlation, the gradients and what they
-// rest on: kernels, symmetry, padded lines and windows; `examples` has the others.
+// The numeric examples of the public comments, run and printed; `stdout` beside src/ has what they must be. Here are correlation, the gradients, uniform filters
+// and masks, and what they rest on: kernels, symmetry, padded lines and windows; `examples` has the others.
 // The theorems of worked rows are called here too, so that no crate can drop its own unnoticed.
 mod correlations;
 mod gradients;
 mod kernels;
+mod masks;
+mod means;
 mod padded;
 mod planes;
 mod weighing;
@@ -21,6 +23,11 @@ fn rows() {
     kernel_judge::rows();
     gradient_judge::rows();
     gradient::rows();
+    uniform_line::rows();
+    uniform_judge::rows();
+    uniform::rows();
+    median_row::rows();
+    median::rows();
 }
 
 fn main() {
@@ -44,4 +51,10 @@ fn main() {
     planes::refusals();
     gradients::t7();
     gradients::refusals();
+    means::judges();
+    means::t6();
+    means::both_axes();
+    masks::conditions();
+    masks::t9();
+    masks::refusals();
 }

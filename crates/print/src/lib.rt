@@ -54,3 +54,14 @@ pub fn levels(cells: &[i64]) {
     }
     end();
 }
+
+// Writes a mask on one line, 1 for true and 0 for false, each with a space after it: 1 0 1.
+pub fn marks(cells: &[bool]) {
+    let mut i = 0;
+    while i < cells.len() {
+        number(cells[i] as usize);
+        space();
+        i += 1;
+    }
+    end();
+}

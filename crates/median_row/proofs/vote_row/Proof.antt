@@ -62,7 +62,7 @@ shared-slice-read-out-4 : tie.Need-shared-slice-read-out-4 Inv-loop μ-loop
 shared-slice-read-out-4 c = search needs
 
 add-out-3 : tie.Need-add-out-3 Inv-loop μ-loop
-add-out-3 c = let P = c .before .before .before .before .before .before .pre .0 in let i = c .before .before .before .loop .i in omega (arith, P .small i, P .small (i + 1))
+add-out-3 c = let P = c .before .before .before .before .before .before .pre .0 in let i = c .before .before .before .loop .i in omega (arith, P .small i, P .small (i + 1), P .small (i + 2))
 
 add-out-4 : tie.Need-add-out-4 Inv-loop μ-loop
 add-out-4 c = search needs
