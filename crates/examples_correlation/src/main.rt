@@ -11,6 +11,7 @@ mod planes;
 mod weighing;
 
 fn rows() {
+    worked_examples::worked_examples();
     kernel3d::rows();
     symmetry::rows();
     pad_line::rows();
