@@ -1,6 +1,6 @@
 -- The loops that add to counts: f j z is what turn j adds at place z. What is held and what is still to come make up the whole.
 -- Assumes nothing.
-use mathlib.Core.Path.{_≡_, refl, sym, ap, _∙_}
+use mathlib.Core.Path.{_≡_, refl, ap, _∙_}
 use mathlib.Core.Bool.{Bool, true, false}
 use mathlib.Core.List.{List}
 use Prim.Native.Nat.{ℕ, _+_, _≤_, _<_}
@@ -10,8 +10,7 @@ use lib.Dec.{ltb}
 use mir.Syntax.{w8}
 use mir.Val.{Fits, boolByte}
 use lib.ListN.{length, getD, set}
-use Rattle.numbers.specs.Lists.{tabulate}
-use Rattle.numbers.proofs.Tabulate.{length-tabulate, getD-tabulate, tabulate-unique, tabulate-agree}
+use Rattle.numbers.proofs.Tabulate.{length-tabulate, getD-tabulate, tabulate-unique}
 use Rattle.numbers.proofs.Stored.{Stored, front-more}
 use Rattle.numbers.proofs.Tests.{cond-no}
 use Rattle.median_row.specs.Around.{upTo, total, one}

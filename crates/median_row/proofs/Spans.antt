@@ -1,17 +1,17 @@
 -- A row of a laid mask: its plane and its place in it, and how many of the rows around it can be true.
 -- Assumes nothing.
-use mathlib.Core.Path.{_≡_, refl, sym, ap, subst, _∙_}
+use mathlib.Core.Path.{_≡_, refl, sym, subst}
 use mathlib.Core.Bool.{Bool, true, false}
 use mathlib.Core.List.{List}
 use Prim.Native.Nat.{ℕ, zero, suc, _+_, _-_, _*_, _/_, _%_, _≤_, _<_}
-use native.Mathlib.Nat.{le-refl, mul-le-mul, mul-assoc, mod-lt, div-lt-iff-lt-mul}
+use native.Mathlib.Nat.{le-refl, mul-le-mul, mod-lt, div-lt-iff-lt-mul}
 use native.Mathlib.Omega.{arith}
 use borrow.Author.Tests.{ltb-true, ltb-false}
 use lib.Dec.{ltb}
 use lib.ListN.{length, getD, take, replicate, List·getD-eq-default}
 use Rattle.median_row.specs.declared.Span.{Span}
-use Rattle.median_row.specs.Around.{upTo, total, one}
-use Rattle.median_row.specs.ByRows.{spanOf, cellOf, planeCount, columnCount, Reaches, Room, added, Counted, Laid, Blank}
+use Rattle.median_row.specs.Around.{upTo, one}
+use Rattle.median_row.specs.ByRows.{spanOf, cellOf, planeCount, columnCount, Reaches, Room, added, Laid, Blank}
 use Rattle.median_row.proofs.Totals.{length-upTo, total-bound}
 use Rattle.median_row.proofs.Adding.{length-added, getD-added}
 use Rattle.median_row.proofs.Reach.{row-end}

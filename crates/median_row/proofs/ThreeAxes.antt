@@ -1,6 +1,6 @@
 -- The votes of a row are its medians: the sums over three axes in another order, at the coordinates of a place.
 -- Assumes nothing.
-use mathlib.Core.Path.{_≡_, refl, sym, ap, _∙_}
+use mathlib.Core.Path.{_≡_, sym, ap, _∙_}
 use mathlib.Core.Bool.{Bool, true, false}
 use mathlib.Core.List.{List, [], _∷_}
 use Prim.Native.Nat.{ℕ, zero, suc, _+_, _-_, _*_, _/_, _%_, _≤_, _<_, min}
@@ -13,7 +13,7 @@ use Rattle.numbers.proofs.Tests.{and-true}
 use Rattle.array.specs.Grid.{placeOf, coordinate, levelAt}
 use Rattle.array.proofs.Places.{Within, coordinate-place}
 use Rattle.median_row.specs.declared.Span.{Span}
-use Rattle.median_row.specs.Around.{upTo, around, total, one, cellsAround, trueAround, medianAt}
+use Rattle.median_row.specs.Around.{around, total, one, cellsAround, trueAround, medianAt}
 use Rattle.median_row.specs.ByRows.{spanOf, cellOf, columnCount, votedAt, inRow, medianOf}
 use Rattle.median_row.proofs.Totals.{length-upTo, total-agree, total-swap}
 

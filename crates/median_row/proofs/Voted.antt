@@ -2,7 +2,7 @@
 -- Assumes nothing.
 use mathlib.Core.Path.{_≡_, refl, sym, ap, subst, _∙_}
 use mathlib.Core.Bool.{Bool, true, false, not, _||_, _&&_}
-use mathlib.Core.List.{List, [], _∷_}
+use mathlib.Core.List.{List}
 use Prim.Native.Nat.{ℕ, _+_, _-_, _*_, _/_, _≤_, _<_}
 use native.Mathlib.Omega.{arith}
 use borrow.Author.Tests.{ltb-true, ltb-false, lt-ltb, le-ltb, eqb-true, eqb-false, ne-eqb}
@@ -10,7 +10,7 @@ use lib.Dec.{eqb, ltb}
 use lib.ListN.{length, getD, set, length-set}
 use Rattle.numbers.proofs.Stored.{Stored, stored-none, stored-one, stored-then, stored-table}
 use Rattle.numbers.proofs.Tests.{ltb-more}
-use Rattle.median_row.specs.Around.{around, total}
+use Rattle.median_row.specs.Around.{total}
 use Rattle.median_row.specs.ByRows.{votedAt, inRow, setRow}
 use Rattle.median_row.proofs.Totals.{around-first, around-inside, around-last}
 

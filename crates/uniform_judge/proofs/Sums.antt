@@ -10,6 +10,7 @@ use lib.ListN.{length}
 use Rattle.numbers.specs.Lists.{tabulate, anyOf}
 use Rattle.numbers.specs.Ranges.{outside, beyond}
 use Rattle.numbers.proofs.Any.{none-any, every-imp}
+use Rattle.numbers.proofs.Quotient.{size-quot}
 use Rattle.numbers.proofs.Size.{Size, Sized, size-zero, size-le, inside-sized, beyond-sized}
 use Rattle.numbers.proofs.Tabulate.{every-table}
 use Rattle.numbers.proofs.Tests.{or-no}
@@ -20,7 +21,7 @@ use Rattle.border.specs.Border.{Border}
 use Rattle.border.specs.Modes.{badConstantBy}
 use Rattle.pad_line.proofs.Sizes.{SizedBorder, constant-sized, line-sized}
 use Rattle.uniform_line.specs.Mean.{windowSum, cut, means}
-use Rattle.uniform_line.proofs.Sliding.{sum-size, mean-size}
+use Rattle.uniform_line.proofs.Sliding.{sum-size}
 use Rattle.uniform_judge.specs.Uniform.{paddedFor, windowSums, uniform1d}
 use Rattle.uniform_judge.specs.Judge.{badSums, badSumsFrom}
 use Rattle.uniform_judge.proofs.Window.{size-few}
@@ -43,7 +44,7 @@ module _ (b : Border ℤ) (size : ℕ) (ns : List ℕ) (c : SizedBorder level b)
   kept : (a : ℕ) (cells : List ℤ) → Sized level cells → Sized level (uniform1d b size ns a cells)
   kept a cells h =
       every-along (pos 0) (λ x. Size x level) (λ x. Size x level) (λ s. means (paddedFor b size s) size (length s)) (size-zero level) (size-zero level)
-      (λ s k. every-table (λ x. Size x level) (λ i. cut (windowSum (paddedFor b size s) size i) size) 0 (length s) (mean-size level (paddedFor b size s) (padded s k) size)) ns a cells h
+      (λ s k. every-table (λ x. Size x level) (λ i. cut (windowSum (paddedFor b size s) size i) size) 0 (length s) (λ i. size-quot size (sum-size level (paddedFor b size s) (padded s k) size i))) ns a cells h
 
   module _ (few : size ≤ 65) where
     within : (a : ℕ) (cells : List ℤ) → Sized level cells → badSums b size ns a cells ≡ false

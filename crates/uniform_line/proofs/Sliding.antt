@@ -1,5 +1,4 @@
--- The running sum of a window: one cell enters, one leaves, and every sum on the way fits 64 bits, since a window has at most 65 cells. A mean is no larger
--- than the levels.
+-- The running sum of a window: one cell enters, one leaves, and every sum on the way fits 64 bits, since a window has at most 65 cells.
 -- Assumes nothing.
 use Prim.Native.Nat.{ℕ, suc, _+_, _-_, _*_, _≤_}
 use mathlib.Core.Path.{_≡_, sym, ap, subst, _∙_}
@@ -13,7 +12,6 @@ use lib.ListN.{getD}
 use mir.Syntax.{w64}
 use mir.Val.{SFits}
 use Rattle.numbers.specs.Lists.{anyOf}
-use Rattle.numbers.proofs.Quotient.{size-quot}
 use Rattle.numbers.proofs.Size.{Size, Sized, size-zero, size-add, size-neg, size-le, member-sized, fits-size}
 use Rattle.array.specs.Conditions.{badLevel}
 use Rattle.array.proofs.Judged.{levels-sized}
@@ -45,7 +43,7 @@ module _ (s : List ℤ) (k i : ℕ) where
   pub sum-leaves : windowSum s (k + 1) i -ℤ getD s i (pos 0) ≡ windowSum s k (i + 1)
   sum-leaves = ap (λ (x : ℤ). x -ℤ getD s i (pos 0)) sum-front ∙ +ℤ-negℤ-cancel (windowSum s k (i + 1)) (getD s i (pos 0))
 
--- ---- the size of a sum of k levels, and of the mean of a window
+-- ---- the size of a sum of k levels
 module _ (p : ℕ) (s : List ℤ) (h : Sized p s) where
   pub sum-size : (k i : ℕ) → Size (windowSum s k i) (k * p)
   sum-size k i =
@@ -54,9 +52,6 @@ module _ (p : ℕ) (s : List ℤ) (h : Sized p s) where
     where
       count : 0 + k * 1 ≡ k
       count = omega arith
-
-  pub mean-size : (size i : ℕ) → Size (cut (windowSum s size i) size) p
-  mean-size size i = size-quot size (sum-size size i)
 
 -- ---- on the machine
 module _ (s : List ℤ) (levels : anyOf badLevel s ≡ false) where

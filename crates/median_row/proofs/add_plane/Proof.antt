@@ -3,7 +3,6 @@
 use mathlib.Core.Path.{sym, _∙_}
 use Prim.Native.Nat.{_+_, _-_, _*_, _<_}
 use native.Mathlib.Omega.{arith}
-use denote.Ref.{now}
 use lib.ListN.{length}
 use Rattle.median_row.specs.ByRows.{cellOf}
 use Rattle.median_row.proofs.Reach.{rows-few, row-in, row-small, part-long, part-room, part-added}

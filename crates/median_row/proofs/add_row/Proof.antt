@@ -1,7 +1,6 @@
 -- `median_row::add_row` meets its contract: cell by cell, and no count passes 255.
 -- Assumes nothing.
 use mathlib.Core.Path.{_≡_, refl}
-use mathlib.Core.Bool.{false}
 use Prim.Native.Nat.{_-_, _≤_}
 use native.Mathlib.Omega.{arith}
 use denote.Ref.{now}

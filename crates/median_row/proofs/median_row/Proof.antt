@@ -1,10 +1,8 @@
 -- `median_row::median_row` meets its contract: the counts of the rows around it, and their votes.
 -- Assumes nothing.
-use mathlib.Core.Path.{_≡_, sym, ap, _∙_}
-use Prim.Native.Nat.{_+_, _-_, _*_, _≤_}
+use Prim.Native.Nat.{_-_}
 use native.Mathlib.Omega.{arith}
 use denote.Ref.{now}
-use lib.ListN.{length}
 use Rattle.median_row.proofs.Spans.{planes-small, rows-small, plane-below, row-below}
 use Rattle.median_row.proofs.Row.{row-adds, planes-ordered, rows-ordered, rows-nine, voted-room, row-counted, row-voted}
 use borrow.Author.Needs.{needs}
