@@ -1,0 +1,83 @@
+// The median of masks, whose cells are read and written as 0 and 1.
+use crate::filter::answered;
+use crate::filter::lent;
+use reading::cursor;
+use reading::cursor::Cursor;
+use reading::number;
+
+// Sets each mark to whether its level is 1; false where a level is neither 0 nor 1.
+fn mark(data: &[i64], mask: &mut [bool]) -> bool {
+    let mut i = 0;
+    while i < data.len() {
+        if i >= mask.len() {
+            break;
+        }
+        let z = data[i];
+        if z < 0 {
+            return false;
+        }
+        if z > 1 {
+            return false;
+        }
+        mask[i] = z == 1;
+        i += 1;
+    }
+    true
+}
+
+// Sets each level to 1 where the mark is true, and to 0 where it is not.
+fn unmark(mask: &[bool], out: &mut [i64]) {
+    let mut i = 0;
+    while i < mask.len() {
+        if i >= out.len() {
+            break;
+        }
+        if mask[i] {
+            out[i] = 1;
+        } else {
+            out[i] = 0;
+        }
+        i += 1;
+    }
+}
+
+// The call on the marks of data, with an output of as many cells as out. False where a level is neither 0 nor 1.
+fn serve(data: &[i64], shape: &[usize], out: &mut [i64]) -> bool {
+    let mut mask = [false; 8193];
+    let mut voted = [false; 8193];
+    let cells = lent(data.len(), 8193);
+    let n = lent(out.len(), 8193);
+    if !mark(data, &mut mask) {
+        return false;
+    }
+    let refusal = median::median_filter(&mask[0..cells], shape, &mut voted[0..n]);
+    unmark(&voted, out);
+    answered(refusal, out);
+    true
+}
+
+// A request for the median of a mask, from its grid on.
+pub fn median(
+    input: &mut [u8],
+    token: &mut [u8],
+    shape: &mut [usize],
+    data: &mut [i64],
+    out: &mut [i64],
+    c: Cursor,
+) -> Cursor {
+    let grid = number::read_grid(input, token, shape, data, c);
+    let grid_end = grid.c;
+    let count = number::read_count(input, token, grid_end);
+    let count_end = count.c;
+    let end = cursor::finish(input, token, count_end);
+    if end.fault != 0 {
+        return end;
+    }
+    let cells = lent(grid.cells, data.len());
+    let axes = lent(grid.axes, shape.len());
+    let n = lent(lent(count.n, data.len()), out.len());
+    if serve(&data[0..cells], &shape[0..axes], &mut out[0..n]) {
+        return end;
+    }
+    cursor::faulty(end, answering::MASK)
+}

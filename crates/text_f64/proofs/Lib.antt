@@ -1,0 +1,3 @@
+-- Laws on floats as text.
+pub mod Patterns
+pub mod Returned

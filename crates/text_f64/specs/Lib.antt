@@ -1,0 +1,4 @@
+-- Floats as text.
+pub mod Bits
+pub mod Back
+pub mod Rows
