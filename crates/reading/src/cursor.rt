@@ -101,27 +101,27 @@ fn fill(input: &mut [u8], c: Cursor) -> Cursor {
     }
 }
 
+// How many bytes the line has with this one; its end does not count.
+fn longer(line: usize, byte: u8) -> usize {
+    if byte == 10 {
+        return line;
+    }
+    if line > LONGEST {
+        return line;
+    }
+    line + 1
+}
+
 // Past a byte.
-fn past(c: Cursor) -> Cursor {
-    let line = c.line;
+fn past(c: Cursor, byte: u8) -> Cursor {
     let at = c.at;
     if at > LONGEST {
         return moved(c, 0, INPUT);
     }
-    if line > LONGEST {
-        return Cursor {
-            at: at + 1,
-            end: c.end,
-            line,
-            len: c.len,
-            state: c.state,
-            fault: c.fault,
-        };
-    }
     Cursor {
         at: at + 1,
         end: c.end,
-        line: line + 1,
+        line: longer(c.line, byte),
         len: c.len,
         state: c.state,
         fault: c.fault,
@@ -168,7 +168,7 @@ fn turn(input: &mut [u8], token: &mut [u8], c: Cursor) -> Cursor {
         return moved(c, 0, INPUT);
     }
     let byte = input[at];
-    taken(token, past(c), byte)
+    taken(token, past(c, byte), byte)
 }
 
 // Whether the line may have another token.
