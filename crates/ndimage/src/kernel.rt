@@ -50,7 +50,8 @@ pub fn floats(input: &mut [u8], token: &mut [u8], data: &mut [f64], c: Cursor) -
     end
 }
 
-fn digit(cell: bool) -> i64 {
+// 1 for true, 0 for false.
+pub fn digit(cell: bool) -> i64 {
     if cell {
         return 1;
     }

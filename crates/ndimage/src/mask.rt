@@ -1,6 +1,7 @@
 // The median of masks, whose cells are read and written as 0 and 1.
 use crate::filter::answered;
 use crate::filter::lent;
+use crate::kernel::digit;
 use reading::cursor;
 use reading::cursor::Cursor;
 use reading::number;
@@ -32,28 +33,35 @@ fn unmark(mask: &[bool], out: &mut [i64]) {
         if i >= out.len() {
             break;
         }
-        if mask[i] {
-            out[i] = 1;
-        } else {
-            out[i] = 0;
-        }
+        out[i] = digit(mask[i]);
         i += 1;
     }
 }
 
-// The call on the marks of data, with an output of as many cells as out. False where a level is neither 0 nor 1.
+// The call on the marks of data, with an output of as many cells as out; mask and voted are buffers. False where a level is neither 0 nor 1.
+fn vote(
+    data: &[i64],
+    shape: &[usize],
+    mask: &mut [bool],
+    voted: &mut [bool],
+    out: &mut [i64],
+) -> bool {
+    if !mark(data, mask) {
+        return false;
+    }
+    let refusal = median::median_filter(mask, shape, voted);
+    unmark(voted, out);
+    answered(refusal, out);
+    true
+}
+
+// The same, with buffers of its own.
 fn serve(data: &[i64], shape: &[usize], out: &mut [i64]) -> bool {
     let mut mask = [false; 8193];
     let mut voted = [false; 8193];
     let cells = lent(data.len(), 8193);
     let n = lent(out.len(), 8193);
-    if !mark(data, &mut mask) {
-        return false;
-    }
-    let refusal = median::median_filter(&mask[0..cells], shape, &mut voted[0..n]);
-    unmark(&voted, out);
-    answered(refusal, out);
-    true
+    vote(data, shape, &mut mask[0..cells], &mut voted[0..n], out)
 }
 
 // A request for the median of a mask, from its grid on.
