@@ -1,8 +1,8 @@
 -- Worked rows of codes: what each names, codes that name nothing, and the number that these get. Each holds by computing.
 --   CapiRows   the rows
 use mathlib.Core.Path.{_≡_}
-use mathlib.Core.Bool.{Bool, true, false}
-use mathlib.Core.List.{List, [], _∷_}
+use mathlib.Core.Bool.{true, false}
+use mathlib.Core.List.{[], _∷_}
 use lib.IntN.{pos}
 use Rattle.numbers.specs.Refusal.{refusalOf}
 use Rattle.border.specs.declared.BorderMode.the-variants as Whole

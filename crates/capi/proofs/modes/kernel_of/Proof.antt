@@ -1,7 +1,6 @@
 -- `capi::modes::kernel_of` meets its contract: each return is the kernel that its code names.
 -- Assumes nothing.
-use mathlib.Core.Path.{_≡_, refl, sym, ap, _∙_}
-use Prim.Native.Nat.{ℕ}
+use mathlib.Core.Path.{refl}
 use borrow.Author.Tests.{ne-eqb}
 use Rattle.capi.specs.Codes.{kernelOf}
 use Rattle.capi.proofs.modes.kernel_of.Statement.{statement}

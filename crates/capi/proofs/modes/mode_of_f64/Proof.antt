@@ -1,7 +1,6 @@
 -- `capi::modes::mode_of_f64` meets its contract: each return is the border that its code names.
 -- Assumes nothing.
-use mathlib.Core.Path.{_≡_, refl, sym, ap, _∙_}
-use Prim.Native.Nat.{ℕ}
+use mathlib.Core.Path.{refl}
 use borrow.Author.Tests.{ne-eqb}
 use Rattle.capi.specs.Codes.{modeOfF64}
 use Rattle.capi.proofs.modes.mode_of_f64.Statement.{statement}

@@ -1,6 +1,6 @@
 -- `capi::others::suvvokal_kernel3d` meets its contract: 2, or the refusal of an unknown code, or the cells of the kernel.
 -- Assumes nothing.
-use mathlib.Core.Path.{_≡_, refl, ap, _∙_}
+use mathlib.Core.Path.{refl, ap, _∙_}
 use denote.Ref.{now}
 use borrow.Author.Tests.{eq-eqb, ne-eqb}
 use lib.ListN.{length}

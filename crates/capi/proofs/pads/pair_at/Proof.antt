@@ -1,7 +1,5 @@
 -- `capi::pads::pair_at` meets its contract: the two numbers at the place.
 -- Assumes nothing.
-use Prim.Native.Nat.{ℕ}
-use Rattle.pad_judge.specs.declared.pads.Pair.{Pair}
 use borrow.Author.Needs.{needs}
 use Rattle.capi.proofs.pads.pair_at.Statement.{statement}
 use Rattle.capi.proofs.pads.pair_at.Tie as tie
