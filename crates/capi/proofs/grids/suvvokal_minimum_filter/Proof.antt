@@ -1,0 +1,61 @@
+-- `capi::grids::suvvokal_minimum_filter` meets its contract: the library's answers, or the refusal of an unknown code.
+-- Assumes nothing.
+use mathlib.Core.Path.{_≡_}
+use mir.Syntax.{w64}
+use mir.Val.{toZ, ofZ}
+use borrow.Author.Needs.{needs}
+use Rattle.capi.proofs.Coded.{two-known, two-unknown}
+use Rattle.capi.proofs.grids.suvvokal_minimum_filter.Statement.{statement}
+use Rattle.capi.proofs.grids.suvvokal_minimum_filter.Tie as tie
+
+mode-of-requires : tie.Need-mode-of-requires
+mode-of-requires c κs = search needs
+
+judge-filter-requires : tie.Need-judge-filter-requires
+judge-filter-requires c κs = search needs
+
+unknown-after-requires : tie.Need-unknown-after-requires
+unknown-after-requires c κs = search needs
+
+same-length : tie.Need-same-length
+same-length c = search needs
+
+returns : tie.Need-returns
+returns c =
+    let a = c .before .before .before .before .before .before .args in
+    let k : toZ w64 (ofZ w64 (a .constant)) ≡ a .constant = search needs in
+    let o : toZ w64 (ofZ w64 (a .origin)) ≡ a .origin = search needs in
+    let m = rw k at (c .before .before .before .before .mode-of .ensures) in
+    two-unknown _ 4 _ (tt, (tt, (tt, (tt, (tt, (tt, (tt, tt))))))) (c .before .before .before .if1 .taken) (rw (m, o) at (c .before .judge-filter .ensures)) (c .unknown-after .ensures)
+
+minimum-filter-requires : tie.Need-minimum-filter-requires
+minimum-filter-requires c κs = search needs
+
+same-length-2 : tie.Need-same-length-2
+same-length-2 c = search needs
+
+same-length-3 : tie.Need-same-length-3
+same-length-3 c = search needs
+
+returns-2 : tie.Need-returns-2
+returns-2 c =
+    let a = c .before .before .before .before .before .before .before .before .args in
+    let k : toZ w64 (ofZ w64 (a .constant)) ≡ a .constant = search needs in
+    let o : toZ w64 (ofZ w64 (a .origin)) ≡ a .origin = search needs in
+    let m = rw k at (c .before .before .before .before .before .before .mode-of .ensures) in
+    let s = rw (m, o) at (c .before .before .minimum-filter .ensures) in
+    two-known _ 4 (c .before .before .before .before .before .if1 .left) (s .filled) (s .cleared)
+
+pub suvvokal-minimum-filter-spec : {M : Type 1} → statement M
+suvvokal-minimum-filter-spec =
+    tie.close
+    (tie.spec
+    mode-of-requires
+    judge-filter-requires
+    unknown-after-requires
+    same-length
+    returns
+    minimum-filter-requires
+    same-length-2
+    same-length-3
+    returns-2)

@@ -1,0 +1,269 @@
+// The calls on whole grids; those that make several passes are lent a second grid.
+ghost use mathlib.Core.Bool.{true, false};
+ghost use lib.ListN.{length};
+ghost use lib.Signed.{leZ};
+ghost use Rattle.numbers.specs.Order.{atLeast};
+ghost use Rattle.numbers.specs.Refusal.{Answers};
+ghost use Rattle.border.specs.Modes.{borderOf};
+ghost use Rattle.filter_judge.specs.Judge.{callOf, filterJudged};
+ghost use Rattle.correlation.specs.Kernel.{correlateZ, convolveZ};
+ghost use Rattle.kernel_judge.specs.Judge.{kernelJudged};
+ghost use Rattle.gradient_judge.specs.Gradient.{prewittWeights, sobelWeights, gradient as gradientOf};
+ghost use Rattle.gradient_judge.specs.Judge.{gradientJudged};
+ghost use Rattle.uniform_judge.specs.Uniform.{uniform as uniformOf};
+ghost use Rattle.uniform_judge.specs.Judge.{uniformJudged};
+ghost use Rattle.min_max.specs.Filters.{filterAnswer};
+ghost use Rattle.capi.specs.Codes.{modeOf, unknownBorder, coded, TwoAnswers};
+use crate::modes;
+
+// The sums of each window times the weights of a grid kernel; the call `correlate`.
+//
+// * `data` - the cells of the grid, in row-major order.
+// * `shape` - the length of each axis.
+// * `weights` - the kernel's weights, in row-major order.
+// * `sides` - the length of each of the kernel's axes, all equal.
+// * `code`, `constant` - the border: 0 constant, 1 mirror, 2 nearest, 3 reflect, 4 wrap.
+// * `origin` - how far the window is moved along every axis.
+// * `out` - as long as data; kept as it was where the call is refused.
+//
+// Refuses: 1, 2, 3, 5, 6, 7, 9, 11, 12, 100 (an unknown code). Of the rows 1 2 / 3 4 with the kernel 1 0 / 0 10 under nearest: 11 21 / 31 41.
+#[no_mangle]
+pub extern "C" fn suvvokal_correlate(
+    data: &[i64],
+    shape: &[usize],
+    weights: &[i64],
+    sides: &[usize],
+    code: u8,
+    constant: i64,
+    origin: isize,
+    out: &mut [i64],
+) -> u8
+    ensures { λ r. ⌜ Answers (coded (kernelJudged false (borderOf (modeOf code constant)) origin (now (sides .entry)) (now (weights .entry)) (now (shape .entry)) (now («data» .entry)) (length (now (out .entry)))) (unknownBorder code))
+        (correlateZ (borderOf (modeOf code constant)) origin (now (sides .entry)) (now (weights .entry)) (now (shape .entry)) (now («data» .entry))) (now (out .entry)) r (now (out .exit)) ⌝ }
+{
+    let mode = modes::mode_of(code, constant);
+    if 4 < code {
+        let refusal = kernel_judge::judge_kernel(
+            data,
+            shape,
+            weights,
+            sides,
+            mode,
+            origin,
+            false,
+            out.len(),
+        );
+        return modes::unknown_after(refusal);
+    }
+    correlate::correlate(data, shape, weights, sides, mode, origin, out)
+}
+
+// As `suvvokal_correlate` with the kernel reversed along every axis and the origin changed; the call `convolve`.
+// Of the rows 1 2 / 3 4 with the kernel 1 0 / 0 10 under nearest: 14 24 / 34 44.
+#[no_mangle]
+pub extern "C" fn suvvokal_convolve(
+    data: &[i64],
+    shape: &[usize],
+    weights: &[i64],
+    sides: &[usize],
+    code: u8,
+    constant: i64,
+    origin: isize,
+    out: &mut [i64],
+) -> u8
+    ensures { λ r. ⌜ Answers (coded (kernelJudged true (borderOf (modeOf code constant)) origin (now (sides .entry)) (now (weights .entry)) (now (shape .entry)) (now («data» .entry)) (length (now (out .entry)))) (unknownBorder code))
+        (convolveZ (borderOf (modeOf code constant)) origin (now (sides .entry)) (now (weights .entry)) (now (shape .entry)) (now («data» .entry))) (now (out .entry)) r (now (out .exit)) ⌝ }
+{
+    let mode = modes::mode_of(code, constant);
+    if 4 < code {
+        let refusal = kernel_judge::judge_kernel(
+            data,
+            shape,
+            weights,
+            sides,
+            mode,
+            origin,
+            true,
+            out.len(),
+        );
+        return modes::unknown_after(refusal);
+    }
+    correlate::convolve(data, shape, weights, sides, mode, origin, out)
+}
+
+// The differences along an axis, smoothed along every other axis by 1 1 1; the call `prewitt`.
+//
+// * `data` - the cells of the grid, in row-major order.
+// * `shape` - the length of each axis.
+// * `axis` - the axis of the difference.
+// * `code`, `constant` - the border: 0 constant, 1 mirror, 2 nearest, 3 reflect, 4 wrap.
+// * `second` - a second grid as long as data; an accepted call leaves zeros in it.
+// * `out` - as long as data. A refused call leaves both lent grids as they were.
+//
+// Refuses: 1, 2, 3, 8, 9, 11, 12, 100 (an unknown code). Of the rows 1 2 / 3 4 along axis 0 under constant 0: 7 7 / -3 -3.
+#[no_mangle]
+pub extern "C" fn suvvokal_prewitt(
+    data: &[i64],
+    shape: &[usize],
+    axis: usize,
+    code: u8,
+    constant: i64,
+    second: &mut [i64],
+    out: &mut [i64],
+) -> u8
+    ensures { λ r. ⌜ TwoAnswers (coded (gradientJudged prewittWeights (borderOf (modeOf code constant)) (now (shape .entry)) axis (now («data» .entry)) (length (now (out .entry))) (length (now (second .entry)))) (unknownBorder code))
+        (gradientOf prewittWeights (borderOf (modeOf code constant)) (now (shape .entry)) axis (now («data» .entry))) (now (second .entry)) (now (out .entry)) r (now (second .exit)) (now (out .exit)) ⌝ }
+{
+    let mode = modes::mode_of(code, constant);
+    if 4 < code {
+        let refusal = gradient_judge::judge_gradient(
+            data,
+            shape,
+            axis,
+            mode,
+            out.len(),
+            second.len(),
+        );
+        return modes::unknown_after(refusal);
+    }
+    gradient::prewitt(data, shape, axis, mode, second, out)
+}
+
+// As `suvvokal_prewitt`, smoothed by 1 2 1; the call `sobel`. Of the rows 1 2 / 3 4 along axis 0 under constant 0: 10 11 / -4 -5.
+#[no_mangle]
+pub extern "C" fn suvvokal_sobel(
+    data: &[i64],
+    shape: &[usize],
+    axis: usize,
+    code: u8,
+    constant: i64,
+    second: &mut [i64],
+    out: &mut [i64],
+) -> u8
+    ensures { λ r. ⌜ TwoAnswers (coded (gradientJudged sobelWeights (borderOf (modeOf code constant)) (now (shape .entry)) axis (now («data» .entry)) (length (now (out .entry))) (length (now (second .entry)))) (unknownBorder code))
+        (gradientOf sobelWeights (borderOf (modeOf code constant)) (now (shape .entry)) axis (now («data» .entry))) (now (second .entry)) (now (out .entry)) r (now (second .exit)) (now (out .exit)) ⌝ }
+{
+    let mode = modes::mode_of(code, constant);
+    if 4 < code {
+        let refusal = gradient_judge::judge_gradient(
+            data,
+            shape,
+            axis,
+            mode,
+            out.len(),
+            second.len(),
+        );
+        return modes::unknown_after(refusal);
+    }
+    gradient::sobel(data, shape, axis, mode, second, out)
+}
+
+// The means along every axis, in rising order, each pass cut toward zero; the call `uniform_filter`.
+//
+// * `data` - the cells of the grid, in row-major order.
+// * `shape` - the length of each axis.
+// * `size` - the length of the window on every axis.
+// * `code`, `constant` - the border: 0 constant, 1 mirror, 2 nearest, 3 reflect, 4 wrap.
+// * `second` - a second grid as long as data; an accepted call leaves zeros in it.
+// * `out` - as long as data. A refused call leaves both lent grids as they were.
+//
+// Refuses: 1, 2, 3, 5, 9, 11, 12, 100 (an unknown code). Of the rows 1 2 / 3 -6 with size 2 under nearest: 1 1 / 2 0.
+#[no_mangle]
+pub extern "C" fn suvvokal_uniform_filter(
+    data: &[i64],
+    shape: &[usize],
+    size: usize,
+    code: u8,
+    constant: i64,
+    second: &mut [i64],
+    out: &mut [i64],
+) -> u8
+    ensures { λ r. ⌜ TwoAnswers (coded (uniformJudged (borderOf (modeOf code constant)) size (now (shape .entry)) (now («data» .entry)) (length (now (out .entry))) (length (now (second .entry)))) (unknownBorder code))
+        (uniformOf (borderOf (modeOf code constant)) size (now (shape .entry)) (now («data» .entry))) (now (second .entry)) (now (out .entry)) r (now (second .exit)) (now (out .exit)) ⌝ }
+{
+    let mode = modes::mode_of(code, constant);
+    if 4 < code {
+        let refusal = uniform_judge::judge_uniform(
+            data,
+            shape,
+            size,
+            mode,
+            out.len(),
+            second.len(),
+        );
+        return modes::unknown_after(refusal);
+    }
+    uniform::uniform_filter(data, shape, size, mode, second, out)
+}
+
+// The least level of each cell's box: the minimum along every axis; the call `minimum_filter`.
+//
+// * `data` - the cells of the grid, in row-major order.
+// * `shape` - the length of each axis.
+// * `size` - the length of the window on every axis.
+// * `code`, `constant` - the border: 0 constant, 1 mirror, 2 nearest, 3 reflect, 4 wrap.
+// * `origin` - how far the window is moved on every axis.
+// * `second` - a second grid as long as data; an accepted call leaves zeros in it.
+// * `out` - as long as data. A refused call leaves both lent grids as they were.
+//
+// Refuses: 1, 2, 3, 5, 7, 9, 11, 100 (an unknown code). Of the rows 5 3 / 4 9 with size 2 under constant 0: 0 0 / 0 3.
+#[no_mangle]
+pub extern "C" fn suvvokal_minimum_filter(
+    data: &[i64],
+    shape: &[usize],
+    size: usize,
+    code: u8,
+    constant: i64,
+    origin: isize,
+    second: &mut [i64],
+    out: &mut [i64],
+) -> u8
+    ensures { λ r. ⌜ TwoAnswers (coded (filterJudged (now («data» .entry)) (callOf (now (shape .entry)) size 0 (modeOf code constant) origin (now (out .entry))) (length (now (second .entry)))) (unknownBorder code))
+        (filterAnswer leZ (callOf (now (shape .entry)) size 0 (modeOf code constant) origin (now (out .entry))) (now («data» .entry))) (now (second .entry)) (now (out .entry)) r (now (second .exit)) (now (out .exit)) ⌝ }
+{
+    let mode = modes::mode_of(code, constant);
+    if 4 < code {
+        let refusal = filter_judge::judge_filter(
+            data,
+            shape,
+            size,
+            mode,
+            origin,
+            out,
+            second.len(),
+        );
+        return modes::unknown_after(refusal);
+    }
+    min_max::minimum_filter(data, shape, size, mode, origin, second, out)
+}
+
+// As `suvvokal_minimum_filter`, with the greatest level; the call `maximum_filter`. Of the rows 5 3 / 4 9 with size 2 under constant 0: 5 5 / 5 9.
+#[no_mangle]
+pub extern "C" fn suvvokal_maximum_filter(
+    data: &[i64],
+    shape: &[usize],
+    size: usize,
+    code: u8,
+    constant: i64,
+    origin: isize,
+    second: &mut [i64],
+    out: &mut [i64],
+) -> u8
+    ensures { λ r. ⌜ TwoAnswers (coded (filterJudged (now («data» .entry)) (callOf (now (shape .entry)) size 0 (modeOf code constant) origin (now (out .entry))) (length (now (second .entry)))) (unknownBorder code))
+        (filterAnswer atLeast (callOf (now (shape .entry)) size 0 (modeOf code constant) origin (now (out .entry))) (now («data» .entry))) (now (second .entry)) (now (out .entry)) r (now (second .exit)) (now (out .exit)) ⌝ }
+{
+    let mode = modes::mode_of(code, constant);
+    if 4 < code {
+        let refusal = filter_judge::judge_filter(
+            data,
+            shape,
+            size,
+            mode,
+            origin,
+            out,
+            second.len(),
+        );
+        return modes::unknown_after(refusal);
+    }
+    min_max::maximum_filter(data, shape, size, mode, origin, second, out)
+}

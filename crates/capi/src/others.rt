@@ -1,0 +1,80 @@
+// The median of a mask, symmetry classes, and common kernels.
+ghost use mathlib.Core.Path.{_≡_};
+ghost use lib.ListN.{length};
+ghost use Rattle.numbers.specs.Refusal.{Answers};
+ghost use Rattle.median_row.specs.Around.{medianAnswer};
+ghost use Rattle.median.specs.Judge.{medianJudged};
+ghost use Rattle.symmetry.specs.Class.{classZ, classF};
+ghost use Rattle.capi.specs.Codes.{kernelOf, unknownKernel, coded, codeOf};
+ghost use Rattle.capi.specs.Cells.{kernelCells, cellsJudged};
+use crate::modes;
+use kernel3d::Kernel3d;
+
+// The median of each cell and its neighbours on three axes; the call `median_filter`.
+//
+// * `mask` - the cells of the grid, in row-major order.
+// * `shape` - the length of each axis.
+// * `out` - as long as mask; kept as it was where the call is refused.
+//
+// Refuses: 1, 2, 4. Of 2 by 2 by 2 cells of which four are true every cell is true.
+#[no_mangle]
+pub extern "C" fn suvvokal_median_filter(mask: &[bool], shape: &[usize], out: &mut [bool]) -> u8
+    ensures { λ r. ⌜ Answers (medianJudged (now (shape .entry)) (length (now (mask .entry))) (length (now (out .entry))))
+        (medianAnswer (now (shape .entry)) (now (mask .entry))) (now (out .entry)) r (now (out .exit)) ⌝ }
+{
+    median::median_filter(mask, shape, out)
+}
+
+// The symmetry class of whole weights: 0 NonSymmetric, 1 Symmetric, 2 AntiSymmetric.
+//
+// * `weights` - the kernel's weights along one axis, any number of them.
+//
+// Refuses nothing. Of 1 2 5 -2 -1 it is 2.
+#[no_mangle]
+pub extern "C" fn suvvokal_symmetry_state_i64(weights: &[i64]) -> u8
+    ensures { λ r. ⌜ r ≡ codeOf (classZ (now (weights .entry))) ⌝ }
+{
+    modes::code_of(symmetry::symmetry_state_i64(weights))
+}
+
+// As `suvvokal_symmetry_state_i64`, of float weights: a pair differs by more than 2^-52. Refuses nothing. Of 0, 1 and 2^-53 it is 1.
+#[no_mangle]
+pub extern "C" fn suvvokal_symmetry_state_f64(weights: &[f64]) -> u8
+    ensures { λ r. ⌜ r ≡ codeOf (classF (now (weights .entry))) ⌝ }
+{
+    modes::code_of(symmetry::symmetry_state_f64(weights))
+}
+
+// Fills 27 cells with a kernel, the last axis fastest.
+fn fill_kernel(kernel: Kernel3d, out: &mut [bool])
+    requires { ⌜ length (now out) ≡ 27 ⌝ }
+    ensures { λ _. ⌜ now (out .exit) ≡ kernelCells kernel ⌝ }
+{
+    let cells = kernel.generate();
+    let mut i = 0;
+    while i < 27 {
+        let cell = cells[i / 9][i / 3 % 3][i % 3];
+        out[i] = cell;
+        i += 1;
+    }
+}
+
+// Fills a lent slice with a kernel of 3 by 3 by 3 cells, the last axis fastest.
+//
+// * `code` - which kernel: 0 the star, 1 the ball, 2 the full cube.
+// * `out` - 27 cells; kept as they were where the call is refused.
+//
+// Refuses: 2 (another number of cells), 100 (an unknown code). Of code 0 the cells 4, 10, 12, 13, 14, 16 and 22 are true.
+#[no_mangle]
+pub extern "C" fn suvvokal_kernel3d(code: u8, out: &mut [bool]) -> u8
+    ensures { λ r. ⌜ Answers (coded (cellsJudged (length (now (out .entry)))) (unknownKernel code)) (kernelCells (kernelOf code)) (now (out .entry)) r (now (out .exit)) ⌝ }
+{
+    if out.len() != 27 {
+        return numbers::LENGTH;
+    }
+    if 2 < code {
+        return modes::UNKNOWN;
+    }
+    fill_kernel(modes::kernel_of(code), out);
+    numbers::ACCEPTED
+}

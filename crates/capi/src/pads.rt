@@ -1,0 +1,100 @@
+// The calls of padding. The pads of each axis stand in two slices.
+ghost use mathlib.Core.Path.{_≡_};
+ghost use lib.ListN.{length, getD};
+ghost use Rattle.numbers.specs.Refusal.{Answers};
+ghost use Rattle.pad_judge.specs.Conditions.{padJudged};
+ghost use Rattle.pad_judge.specs.Levels.{paddedGrid, paddedOver};
+ghost use Rattle.pad_judge.specs.Pads.{leftsOf, rightsOf};
+ghost use Rattle.capi.specs.Codes.{padModeOf, unknownPad, coded};
+ghost use Rattle.capi.specs.Cells.{pairAt, pairsOf};
+use crate::modes;
+use pad_judge::Pair;
+
+// The number at a place, and 0 past the end. Of 5 6 place 1 has 6 and place 2 has 0.
+fn at_or_zero(places: &[usize], i: usize) -> usize
+    ensures { λ r. ⌜ r ≡ getD (now (places .entry)) i 0 ⌝ }
+{
+    if i < places.len() {
+        return places[i];
+    }
+    0
+}
+
+// The pads at a place. Of the slices 1 and 2 3 place 1 has 0 and 3.
+fn pair_at(lefts: &[usize], rights: &[usize], i: usize) -> Pair
+    ensures { λ r. ⌜ r ≡ pairAt (now (lefts .entry)) (now (rights .entry)) i ⌝ }
+{
+    Pair {
+        left: at_or_zero(lefts, i),
+        right: at_or_zero(rights, i),
+    }
+}
+
+// The three pairs of pads that the calls take.
+fn pairs_of(lefts: &[usize], rights: &[usize]) -> [Pair; 3]
+    ensures { λ r. ⌜ r ≡ pairsOf (now (lefts .entry)) (now (rights .entry)) ⌝ }
+{
+    [
+        pair_at(lefts, rights, 0),
+        pair_at(lefts, rights, 1),
+        pair_at(lefts, rights, 2),
+    ]
+}
+
+// Pads a grid into a lent output; the call `pad`.
+//
+// * `data` - the cells of the grid, in row-major order.
+// * `shape` - the length of each axis.
+// * `lefts`, `rights`, `count` - the pads before and after each axis, and how many pairs count: one for all axes, or one for each. At most three
+//   of each are read, and a missing one is 0.
+// * `code`, `constant` - the padding mode: 0 constant, 1 edge, 2 maximum, 3 mean, 4 median, 5 minimum, 6 reflect, 7 symmetric, 8 wrap.
+// * `out` - as many cells as the padded grid; kept as it was where the call is refused.
+//
+// Refuses: 1, 2, 3, 9, 10, 11, 12, 100 (an unknown code). Of 1 2 3 with pads of 2: edge gives 1 1 1 2 3 3 3, reflect 3 2 1 2 3 2 1.
+#[no_mangle]
+pub extern "C" fn suvvokal_pad(
+    data: &[i64],
+    shape: &[usize],
+    lefts: &[usize],
+    rights: &[usize],
+    count: usize,
+    code: u8,
+    constant: i64,
+    out: &mut [i64],
+) -> u8
+    ensures { λ r. ⌜ Answers (coded (padJudged (padModeOf code constant) (now (shape .entry)) (pairsOf (now (lefts .entry)) (now (rights .entry))) count (now («data» .entry)) (length (now (out .entry)))) (unknownPad code))
+        (paddedGrid (padModeOf code constant) (now (shape .entry)) (leftsOf (now (shape .entry)) (pairsOf (now (lefts .entry)) (now (rights .entry))) count) (rightsOf (now (shape .entry)) (pairsOf (now (lefts .entry)) (now (rights .entry))) count) (now («data» .entry))) (now (out .entry)) r (now (out .exit)) ⌝ }
+{
+    let mode = modes::pad_mode_of(code, constant);
+    let pairs = pairs_of(lefts, rights);
+    if 8 < code {
+        let refusal = pad_judge::judge(data, shape, pairs, count, mode, out.len());
+        return modes::unknown_after(refusal);
+    }
+    pad::pad(data, shape, pairs, count, mode, out)
+}
+
+// As `suvvokal_pad`, but under constant the rim keeps what was lent; the call `pad_to`.
+// Of 1 2 with pads of 1, lent 8 8 8 8: constant leaves 8 1 2 8, edge 1 1 2 2.
+#[no_mangle]
+pub extern "C" fn suvvokal_pad_to(
+    data: &[i64],
+    shape: &[usize],
+    lefts: &[usize],
+    rights: &[usize],
+    count: usize,
+    code: u8,
+    constant: i64,
+    out: &mut [i64],
+) -> u8
+    ensures { λ r. ⌜ Answers (coded (padJudged (padModeOf code constant) (now (shape .entry)) (pairsOf (now (lefts .entry)) (now (rights .entry))) count (now («data» .entry)) (length (now (out .entry)))) (unknownPad code))
+        (paddedOver (padModeOf code constant) (now (shape .entry)) (leftsOf (now (shape .entry)) (pairsOf (now (lefts .entry)) (now (rights .entry))) count) (rightsOf (now (shape .entry)) (pairsOf (now (lefts .entry)) (now (rights .entry))) count) (now («data» .entry)) (now (out .entry))) (now (out .entry)) r (now (out .exit)) ⌝ }
+{
+    let mode = modes::pad_mode_of(code, constant);
+    let pairs = pairs_of(lefts, rights);
+    if 8 < code {
+        let refusal = pad_judge::judge(data, shape, pairs, count, mode, out.len());
+        return modes::unknown_after(refusal);
+    }
+    pad::pad_to(data, shape, pairs, count, mode, out)
+}
