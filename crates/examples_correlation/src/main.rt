@@ -29,6 +29,11 @@ fn rows() {
     uniform::rows();
     median_row::rows();
     median::rows();
+    text::rows();
+    text::reads_back();
+    text_f64::rows();
+    text_f64::reads_back_f64();
+    capi::rows();
 }
 
 fn main() {
