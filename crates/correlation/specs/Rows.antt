@@ -46,6 +46,8 @@ pub record CorrelationRows : Type 0 where
   -- T2 and T3: 1 2 3 with weights 1 2 3 and 1 10 under Nearest; one weight with an origin that is not read
   pub t2 : three correlate1dZ (1 ∷ 2 ∷ 3 ∷ []) ∷ three convolve1dZ (1 ∷ 2 ∷ 3 ∷ []) ∷ [] ≡ wholes (9 ∷ 14 ∷ 17 ∷ []) ∷ wholes (7 ∷ 10 ∷ 15 ∷ []) ∷ []
   pub t3 : three correlate1dZ (1 ∷ 10 ∷ []) ∷ three convolve1dZ (1 ∷ 10 ∷ []) ∷ [] ≡ wholes (11 ∷ 21 ∷ 32 ∷ []) ∷ wholes (12 ∷ 23 ∷ 33 ∷ []) ∷ []
+  -- the same moved by origin 1, which a convolution negates
+  pub moved : correlate1dZ (along Nearest) (pos 1) (wholes (1 ∷ 2 ∷ 3 ∷ [])) (3 ∷ []) 0 (wholes (1 ∷ 2 ∷ 3 ∷ [])) ∷ convolve1dZ (along Nearest) (pos 1) (wholes (1 ∷ 2 ∷ 3 ∷ [])) (3 ∷ []) 0 (wholes (1 ∷ 2 ∷ 3 ∷ [])) ∷ [] ≡ wholes (6 ∷ 9 ∷ 14 ∷ []) ∷ wholes (10 ∷ 15 ∷ 18 ∷ []) ∷ []
   pub one-weight : correlate1dZ (along Nearest) (pos 99) (wholes (4 ∷ [])) (3 ∷ []) 0 (wholes (1 ∷ 2 ∷ 3 ∷ [])) ≡ wholes (4 ∷ 8 ∷ 12 ∷ [])
   -- floats 0, 0, 1 under weights 1, 2, 1 + 2^−52 and Constant 0: cell 1 of the correlation is exactly 1, of the convolution 1 + 2^−52
   pub float : getD (correlate1dF (constant none) (pos 0) nearly (3 ∷ []) 0 (none ∷ none ∷ one ∷ [])) 1 none ∷ getD (convolve1dF (constant none) (pos 0) nearly (3 ∷ []) 0 (none ∷ none ∷ one ∷ [])) 1 none ∷ []

@@ -22,6 +22,7 @@ returns c = record {
   anti = refl;
   t2 = refl;
   t3 = refl;
+  moved = refl;
   one-weight = refl;
   float = refl;
   near = refl;
