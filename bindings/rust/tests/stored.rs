@@ -41,3 +41,24 @@ fn lent_beyond_memory() {
 fn pads_of_four_axes() {
     assert_eq!(requests::answer("pad 1 3 3 1 2 3 reflect 4 1 1 1 1 1 1 1 1 5"), "refused 10");
 }
+
+/// A call that breaks its promise on lent cells is told apart from one that keeps it.
+#[test]
+fn broken_promises_are_seen() {
+    use suvvokal::Refusal;
+    let kept = |_: &mut [i64]| Err(Refusal::Axis);
+    let changed = |out: &mut [i64]| {
+        out[1] = 0;
+        Err(Refusal::Axis)
+    };
+    assert_eq!(requests::filled(requests::patterned(3), kept), "refused 8");
+    assert_eq!(requests::filled(requests::patterned(3), changed), "refused 8 and changed the output");
+    let left = |_: &mut [i64], _: &mut [i64]| Ok(());
+    assert!(requests::filled_over(requests::patterned(3), requests::patterned(3), left).ends_with("the second grid is not as promised"));
+    let cleared_and_refused = |second: &mut [i64], _: &mut [i64]| {
+        second.fill(0);
+        Err(Refusal::Axis)
+    };
+    let said = requests::filled_over(requests::patterned(3), requests::patterned(3), cleared_and_refused);
+    assert_eq!(said, "refused 8 and the second grid is not as promised");
+}

@@ -6,7 +6,7 @@ use suvvokal::{BorderMode, Kernel3d, PadMode, Refusal};
 /// No call takes more lent cells than this; a longer grid has the refusal of one cell more.
 const MOST_CELLS: usize = 32_768;
 
-trait Level: Copy + Default {
+pub trait Level: Copy + Default {
     fn read(token: &str) -> Self;
     fn show(self, text: &mut String);
     fn bits(self) -> u64;
@@ -66,7 +66,7 @@ impl Level for bool {
     }
 }
 
-fn patterned<T: Level>(length: usize) -> Vec<T> {
+pub fn patterned<T: Level>(length: usize) -> Vec<T> {
     (0..length.min(MOST_CELLS + 1)).map(T::pattern).collect()
 }
 
@@ -144,14 +144,14 @@ impl<'a> Request<'a> {
 }
 
 /// A call that fills an output.
-fn filled<T: Level>(mut out: Vec<T>, call: impl FnOnce(&mut [T]) -> Result<(), Refusal>) -> String {
+pub fn filled<T: Level>(mut out: Vec<T>, call: impl FnOnce(&mut [T]) -> Result<(), Refusal>) -> String {
     let before = out.clone();
     let result = call(&mut out);
     told(result, &before, &out)
 }
 
 /// A call that fills an output over a second grid.
-fn filled_over(mut out: Vec<i64>, mut second: Vec<i64>, call: impl FnOnce(&mut [i64], &mut [i64]) -> Result<(), Refusal>) -> String {
+pub fn filled_over(mut out: Vec<i64>, mut second: Vec<i64>, call: impl FnOnce(&mut [i64], &mut [i64]) -> Result<(), Refusal>) -> String {
     let (before, before_second) = (out.clone(), second.clone());
     let result = call(&mut second, &mut out);
     let second_kept = match result {
