@@ -1,6 +1,6 @@
 // As `correlate_line`, of floats: bit for bit the sums in the order of roundings that the class of the weights has.
 ghost use mathlib.Core.Path.{_≡_};
-ghost use Prim.Native.Nat.{_+_, _-_, _/_, _<_};
+ghost use Prim.Native.Nat.{_+_, _-_, _/_, _≤_, _<_};
 ghost use lib.ListN.{length};
 ghost use Rattle.numbers.specs.Lists.{tabulate};
 ghost use Rattle.symmetry.specs.declared.SymmetryState.the-variants.{NonSymmetric, Symmetric, AntiSymmetric};
@@ -8,16 +8,48 @@ ghost use Rattle.correlation.specs.Weighed.{floatOps, cellTerm, plainTo, pairsT
 ghost use Rattle.correlate_line_f64.specs.Lengths.{Windows};
 use symmetry::SymmetryState;
 
-// Sets every cell to 0.0.
-fn clear_row(out: &mut [f64])
-    ensures { λ _. ⌜ now (out .exit) ≡ tabulate (λ i. floatOps .none) 0 (length (now (out .entry))) ⌝ }
+// Sets every cell to 0.0 and the term of the first cell of its window.
+fn start_row(weights: &[f64], line: &[f64], out: &mut [f64])
+    requires { ⌜ Windows (now weights) (now line) (length (now out)) ⌝ }
+    ensures { λ _. ⌜ now (out .exit) ≡ tabulate (plainTo floatOps (now (weights .entry)) (now (line .entry)) 1) 0 (length (now (out .entry))) ⌝ }
 {
+    let weight = weights[0];
     let n = out.len();
     let mut i = 0;
     while i < n {
-        out[i] = 0.0;
+        out[i] = 0.0 + line[i] * weight;
         i += 1;
     }
+}
+
+// Sets every cell to 0.0 and the terms of the first four cells of its window.
+fn start_four_rows(weights: &[f64], line: &[f64], out: &mut [f64])
+    requires { ⌜ Windows (now weights) (now line) (length (now out)) × (4 ≤ length (now weights)) ⌝ }
+    ensures { λ _. ⌜ now (out .exit) ≡ tabulate (plainTo floatOps (now (weights .entry)) (now (line .entry)) 4) 0 (length (now (out .entry))) ⌝ }
+{
+    let w0 = weights[0];
+    let w1 = weights[1];
+    let w2 = weights[2];
+    let w3 = weights[3];
+    let n = out.len();
+    let mut i = 0;
+    while i < n {
+        out[i] = 0.0 + line[i] * w0 + line[i + 1] * w1 + line[i + 2] * w2 + line[i + 3] * w3;
+        i += 1;
+    }
+}
+
+// Starts every cell with the first four weights, or with the first where there are fewer, and says how many were taken.
+fn start_rows(weights: &[f64], line: &[f64], out: &mut [f64]) -> usize
+    requires { ⌜ Windows (now weights) (now line) (length (now out)) ⌝ }
+    ensures { λ r. ⌜ (r ≤ length (now (weights .entry))) × (now (out .exit) ≡ tabulate (plainTo floatOps (now (weights .entry)) (now (line .entry)) r) 0 (length (now (out .entry)))) ⌝ }
+{
+    if weights.len() < 4 {
+        start_row(weights, line, out);
+        return 1;
+    }
+    start_four_rows(weights, line, out);
+    4
 }
 
 // Sets every cell to cell j of its window times weight j.
@@ -48,6 +80,27 @@ fn add_row(weights: &[f64], line: &[f64], j: usize, out: &mut [f64])
     }
 }
 
+// Adds to every cell the terms of cells j to j + 3 of its window, one after the other.
+fn add_four_rows(weights: &[f64], line: &[f64], j: usize, out: &mut [f64])
+    requires { ⌜ Windows (now weights) (now line) (length (now out)) × (j + 4 ≤ length (now weights)) × (now out ≡ tabulate (plainTo floatOps (now weights) (now line) j) 0 (length (now out))) ⌝ }
+    ensures { λ _. ⌜ now (out .exit) ≡ tabulate (plainTo floatOps (now (weights .entry)) (now (line .entry)) (j + 4)) 0 (length (now (out .entry))) ⌝ }
+{
+    let w0 = weights[j];
+    let w1 = weights[j + 1];
+    let w2 = weights[j + 2];
+    let w3 = weights[j + 3];
+    let n = out.len();
+    let mut i = 0;
+    while i < n {
+        out[i] = out[i]
+            + line[i + j] * w0
+            + line[i + j + 1] * w1
+            + line[i + j + 2] * w2
+            + line[i + j + 3] * w3;
+        i += 1;
+    }
+}
+
 // Adds to every cell the term of its window's cells left and right, which mirror each other, joined by sum.
 fn add_pairs(weights: &[f64], line: &[f64], left: usize, right: usize, out: &mut [f64])
     requires { ⌜ Windows (now weights) (now line) (length (now out)) × (left < length (now weights) / 2) × (right ≡ length (now weights) - 1 - left) × (now out ≡ tabulate (pairsTo floatOps (floatOps .sum) (now weights) (now line) left) 0 (length (now out))) ⌝ }
@@ -58,6 +111,23 @@ fn add_pairs(weights: &[f64], line: &[f64], left: usize, right: usize, out: &mut
     let mut i = 0;
     while i < n {
         out[i] = out[i] + (line[i + left] + line[i + right]) * shared;
+        i += 1;
+    }
+}
+
+// Adds to every cell the terms of two pairs, left and right and the pair inside it, joined by sum, one after the other.
+fn add_two_pairs(weights: &[f64], line: &[f64], left: usize, right: usize, out: &mut [f64])
+    requires { ⌜ Windows (now weights) (now line) (length (now out)) × (left + 1 < length (now weights) / 2) × (right ≡ length (now weights) - 1 - left) × (now out ≡ tabulate (pairsTo floatOps (floatOps .sum) (now weights) (now line) left) 0 (length (now out))) ⌝ }
+    ensures { λ _. ⌜ now (out .exit) ≡ tabulate (pairsTo floatOps (floatOps .sum) (now (weights .entry)) (now (line .entry)) (left + 2)) 0 (length (now (out .entry))) ⌝ }
+{
+    let s0 = weights[left];
+    let s1 = weights[left + 1];
+    let n = out.len();
+    let mut i = 0;
+    while i < n {
+        out[i] = out[i]
+            + (line[i + left] + line[i + right]) * s0
+            + (line[i + left + 1] + line[i + right - 1]) * s1;
         i += 1;
     }
 }
@@ -76,14 +146,34 @@ fn add_differences(weights: &[f64], line: &[f64], left: usize, right: usize, out
     }
 }
 
+// Adds to every cell the terms of two pairs, left and right and the pair inside it, joined by difference, one after the other.
+fn add_two_differences(weights: &[f64], line: &[f64], left: usize, right: usize, out: &mut [f64])
+    requires { ⌜ Windows (now weights) (now line) (length (now out)) × (left + 1 < length (now weights) / 2) × (right ≡ length (now weights) - 1 - left) × (now out ≡ tabulate (pairsTo floatOps (floatOps .difference) (now weights) (now line) left) 0 (length (now out))) ⌝ }
+    ensures { λ _. ⌜ now (out .exit) ≡ tabulate (pairsTo floatOps (floatOps .difference) (now (weights .entry)) (now (line .entry)) (left + 2)) 0 (length (now (out .entry))) ⌝ }
+{
+    let s0 = weights[left];
+    let s1 = weights[left + 1];
+    let n = out.len();
+    let mut i = 0;
+    while i < n {
+        out[i] = out[i]
+            + (line[i + left] - line[i + right]) * s0
+            + (line[i + left + 1] - line[i + right - 1]) * s1;
+        i += 1;
+    }
+}
+
 // Every cell of the window times its own weight.
 fn plain_line(weights: &[f64], line: &[f64], out: &mut [f64])
     requires { ⌜ Windows (now weights) (now line) (length (now out)) ⌝ }
     ensures { λ _. ⌜ now (out .exit) ≡ weighedLine floatOps NonSymmetric (now (weights .entry)) (now (line .entry)) (length (now (out .entry))) ⌝ }
 {
-    clear_row(out);
     let count = weights.len();
-    let mut k = 0;
+    let mut k = start_rows(weights, line, out);
+    while count - k >= 4 {
+        add_four_rows(weights, line, k, out);
+        k += 4;
+    }
     while k < count {
         add_row(weights, line, k, out);
         k += 1;
@@ -99,10 +189,13 @@ fn symmetric_line(weights: &[f64], line: &[f64], out: &mut [f64])
     set_row(weights, line, half, out);
     let mut left = 0;
     let mut right = weights.len() - 1;
-    while left < right {
+    while left + 1 < half {
+        add_two_pairs(weights, line, left, right, out);
+        left += 2;
+        right -= 2;
+    }
+    if left < half {
         add_pairs(weights, line, left, right, out);
-        left += 1;
-        right -= 1;
     }
 }
 
@@ -115,10 +208,13 @@ fn antisymmetric_line(weights: &[f64], line: &[f64], out: &mut [f64])
     set_row(weights, line, half, out);
     let mut left = 0;
     let mut right = weights.len() - 1;
-    while left < right {
+    while left + 1 < half {
+        add_two_differences(weights, line, left, right, out);
+        left += 2;
+        right -= 2;
+    }
+    if left < half {
         add_differences(weights, line, left, right, out);
-        left += 1;
-        right -= 1;
     }
 }
 

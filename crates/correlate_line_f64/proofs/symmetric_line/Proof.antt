@@ -1,6 +1,6 @@
--- `correlate_line_f64::symmetric_line` meets its contract: from the row of the middle cells, each turn adds the term of one pair, joined by sum, to the whole row.
+-- `correlate_line_f64::symmetric_line` meets its contract: from the row of the middle cells, each turn adds the terms of two pairs, joined by sum, to the whole row, and then of one.
 -- Assumes nothing.
-use mathlib.Core.Path.{_≡_, _∙_}
+use mathlib.Core.Path.{_≡_, refl, _∙_}
 use Prim.Native.Nat.{_/_, _-_, _≤_}
 use native.Mathlib.Omega.{arith}
 use denote.Ref.{now}
@@ -12,10 +12,10 @@ use Rattle.correlate_line_f64.proofs.symmetric_line.Statement.{statemen
 use Rattle.correlate_line_f64.proofs.symmetric_line.Tie as tie
 
 abbrev Inv-loop : tie.InvT-loop
-Inv-loop weights line out₀ half left₀ right₀ out left right = (left ≤ length weights / 2) × (right ≡ length weights - 1 - left) × Row (pairsTo floatOps (floatOps .sum) weights line left) (length out₀) out
+Inv-loop weights line out₀ half left₀ right₀ out left right = (left ≤ half) × (half ≡ length weights / 2) × (right ≡ length weights - 1 - left) × Row (pairsTo floatOps (floatOps .sum) weights line left) (length out₀) out
 
 abbrev μ-loop : tie.MeasureT-loop
-μ-loop weights line out₀ half left₀ right₀ out left right = length weights / 2 - left
+μ-loop weights line out₀ half left₀ right₀ out left right = half - left
 
 set-row-requires : tie.Need-set-row-requires Inv-loop μ-loop
 set-row-requires c κs = search needs
@@ -24,11 +24,14 @@ sub-right : tie.Need-sub-right Inv-loop μ-loop
 sub-right c = search needs
 
 loop-holds : tie.Need-loop-holds Inv-loop μ-loop
-loop-holds c = let s = c .before .before .before .before .before .before .before in (search needs, search needs, pairs-start floatOps (now (s .args .weights)) (now (s .args .line)) (floatOps .sum) _ (c .before .before .set-row .ensures))
+loop-holds c = let s = c .before .before .before .before .before .before .before in (search needs, refl, search needs, pairs-start floatOps (now (s .args .weights)) (now (s .args .line)) (floatOps .sum) _ (c .before .before .set-row .ensures))
 
-add-pairs-requires : tie.Need-add-pairs-requires Inv-loop μ-loop
-add-pairs-requires c κs =
-    let r = c .before .before .loop .inv .2 in
+add-loop : tie.Need-add-loop Inv-loop μ-loop
+add-loop c = search needs
+
+add-two-pairs-requires : tie.Need-add-two-pairs-requires Inv-loop μ-loop
+add-two-pairs-requires c κs =
+    let r = c .before .before .loop .inv .3 in
     let e = row-length r ∙ c .before .before .before .before .before .set-row .kept .1 .1 .1 .0 in
     (record { some = omega arith; long = omega arith }, search needs, search needs, row-own r)
 
@@ -42,15 +45,28 @@ loop-less : tie.Need-loop-less Inv-loop μ-loop
 loop-less c = search needs
 
 loop-again : tie.Need-loop-again Inv-loop μ-loop
-loop-again c = let l = c .before .before .before .before .before .loop in (search needs, search needs, row-next (l .inv .2) (c .before .before .add-pairs .ensures))
+loop-again c = let l = c .before .before .before .before .before .loop in (search needs, refl, search needs, row-next (l .inv .3) (c .before .before .add-two-pairs .ensures))
+
+add-pairs-requires : tie.Need-add-pairs-requires Inv-loop μ-loop
+add-pairs-requires c κs =
+    let r = c .before .before .before .loop .inv .3 in
+    let e = row-length r ∙ c .before .before .before .before .before .before .set-row .kept .1 .1 .1 .0 in
+    (record { some = omega arith; long = omega arith }, search needs, search needs, row-own r)
 
 same-length : tie.Need-same-length Inv-loop μ-loop
-same-length c = row-length (c .before .loop .inv .2) ∙ c .before .before .before .before .set-row .kept .1 .1 .1 .0
+same-length c = c .before .before .add-pairs .kept .1 .1 .1 .1 .0 ∙ row-length (c .before .before .before .before .before .before .loop .inv .3) ∙ c .before .before .before .before .before .before .before .before .before .set-row .kept .1 .1 .1 .0
 
 returns : tie.Need-returns Inv-loop μ-loop
 returns c =
-    let s = c .before .before .before .before .before .before .before .before .before in
-    pairs-end floatOps (now (s .args .weights)) (now (s .args .line)) (floatOps .sum) (c .before .loop .inv .2) (omega arith) (c .before .before .before .before .set-row .kept .1 .1 .1 .0)
+    let s = c .before .before .before .before .before .before .before .before .before .before .before .before .before .before in
+    let r = c .before .before .before .before .before .before .loop .inv .3 in
+    pairs-end floatOps (now (s .args .weights)) (now (s .args .line)) (floatOps .sum) (row-next r (c .before .before .add-pairs .ensures)) (omega arith) (c .before .before .before .before .before .before .before .before .before .set-row .kept .1 .1 .1 .0)
+
+same-length-2 : tie.Need-same-length-2 Inv-loop μ-loop
+same-length-2 c = row-length (c .before .before .loop .inv .3) ∙ c .before .before .before .before .before .set-row .kept .1 .1 .1 .0
+
+returns-2 : tie.Need-returns-2 Inv-loop μ-loop
+returns-2 c = let s = c .before .before .before .before .before .before .before .before .before .before in pairs-end floatOps (now (s .args .weights)) (now (s .args .line)) (floatOps .sum) (c .before .before .loop .inv .3) (omega arith) (c .before .before .before .before .before .set-row .kept .1 .1 .1 .0)
 
 pub symmetric-line-spec : {M : Type 1} → statement M
 symmetric-line-spec =
@@ -61,10 +77,14 @@ symmetric-line-spec =
     set-row-requires
     sub-right
     loop-holds
-    add-pairs-requires
+    add-loop
+    add-two-pairs-requires
     add-left
     sub-right-2
     loop-less
     loop-again
+    add-pairs-requires
     same-length
-    returns)
+    returns
+    same-length-2
+    returns-2)
