@@ -40,15 +40,15 @@ pub fn bad_level(z: i64) -> bool
 pub fn bad_levels(data: &[i64]) -> bool
     ensures { λ r. ⌜ r ≡ anyOf badLevel (now («data» .entry)) ⌝ }
 {
+    // No early return, so that the loop is compiled to vector code: the sizes' bits joined pass the limit where one size does.
+    let mut sizes = 0;
     let mut i = 0;
     while i < data.len() {
         let z = data[i];
-        if bad_level(z) {
-            return true;
-        }
+        sizes = sizes | numbers::magnitude(z);
         i += 1;
     }
-    false
+    2147483647 < sizes
 }
 
 // Condition 3 of one float level: not finite. -0.0 and subnormal numbers are finite.
@@ -63,15 +63,17 @@ pub fn bad_level_f64(x: f64) -> bool
 pub fn bad_levels_f64(data: &[f64]) -> bool
     ensures { λ r. ⌜ r ≡ anyOf badFloat (now («data» .entry)) ⌝ }
 {
+    // No early return, so that the loop is compiled to vector code.
+    let mut bad: usize = 0;
     let mut k = 0;
     while k < data.len() {
         let x = data[k];
         if bad_level_f64(x) {
-            return true;
+            bad += 1;
         }
         k += 1;
     }
-    false
+    0 < bad
 }
 
 // Condition 8: the axis number is not below the axis count. Of 2 3 axis 1 passes and axis 2 does not.

@@ -1,18 +1,23 @@
--- A member at an index, whatever stands for one past the end, and the index of a member; two lists taken term by term, and a list read from its end, at an index.
+-- A member at an index, whatever stands for one past the end, what is left from an index on, and the index of a member; two lists taken term by term, and a list read from its end, at an index.
 -- Assumes nothing.
 use mathlib.Core.Path.{_≡_, refl, sym, ap, subst, _∙_}
 use mathlib.Core.Logic.{_⊎_, inl, inr}
 use mathlib.Core.List.{List, [], _∷_, _++_, reverse, reverse-cons, zipWith, List·Memᴰ, List·Memᴰ·head, List·Memᴰ·tail, List·Memᴰ·not-nil, List·Memᴰ·cases-cons}
-use Prim.Native.Nat.{ℕ, zero, suc, _-_, _<_, min, zero-le, suc-le-suc}
+use Prim.Native.Nat.{ℕ, zero, suc, _+_, _-_, _<_, min, zero-le, suc-le-suc}
 use native.Mathlib.Nat.{not-suc-le-zero, le-of-suc-le-suc, eq-or-lt-of-le}
+use native.Mathlib.Numerals.{add-one}
 use native.Mathlib.Omega.{arith}
-use lib.ListN.{length, getD, length-reverse, List·getD-append}
-use lib.Seq.{getD-at}
+use lib.ListN.{length, getD, drop, length-reverse, List·getD-append}
+use lib.Seq.{getD-at, drop-cons}
 
 pub getD-default : {A : Type 0} (l : List A) (k : ℕ) (d e : A) → k < length l → getD l k d ≡ getD l k e
 getD-default [] k d e h = absurd (not-suc-le-zero h)
 getD-default (x ∷ xs) zero d e h = refl
 getD-default (x ∷ xs) (suc k) d e h = getD-default xs k d e (le-of-suc-le-suc h)
+
+-- what is left from place i on is the member there and what is left after it
+pub drop-next : {A : Type 0} (l : List A) (i : ℕ) (d : A) → i < length l → drop i l ≡ getD l i d ∷ drop (i + 1) l
+drop-next l i d h = drop-cons l i d h ∙ ap (λ j. getD l i d ∷ drop j l) (sym (add-one i))
 
 pub getD-mem : {A : Type 0} (l : List A) (k : ℕ) (d : A) → k < length l → List·Memᴰ (getD l k d) l
 getD-mem [] k d h = absurd (not-suc-le-zero h)

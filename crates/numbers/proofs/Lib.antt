@@ -8,6 +8,7 @@ pub mod IntProduct
 pub mod Size
 pub mod Quotient
 pub mod Index
+pub mod Seen
 pub mod Least
 pub mod Tabulate
 pub mod Range

@@ -1,14 +1,14 @@
 -- The size of a whole number, where omega reads: a bound on the size of a sum, a product and the sum of a list, and when a number fits 64 bits.
 -- Every bound that keeps a partial sum inside 64 bits rests on size-sum.
 -- Assumes nothing.
-use mathlib.Core.Path.{_≡_, refl, ap}
-use mathlib.Core.Bool.{false, true≢false}
+use mathlib.Core.Path.{_≡_, refl, sym, ap, _∙_}
+use mathlib.Core.Bool.{false, _||_}
 use mathlib.Core.List.{List, [], _∷_}
-use Prim.Native.Nat.{ℕ, zero, suc, _+_, _-_, _*_, _^_, _≤_, _<_}
-use native.Mathlib.Nat.{mul-le-mul, suc-mul, not-suc-le-zero}
+use Prim.Native.Nat.{ℕ, zero, suc, _+_, _-_, _*_, _^_, _≤_, _<_, zero-le}
+use native.Mathlib.Nat.{mul-le-mul, suc-mul}
 use native.Mathlib.Omega.{arith}
-use borrow.Author.Tests.{ltb-false, le-ltb}
-use lib.Dec.{ltb, ltb→lt}
+use borrow.Author.Tests.{ltb-false, le-ltb, lt-ltb}
+use lib.Dec.{ltb, ltb→lt, leb·suc-suc}
 use lib.IntN.{ℤ, pos, negsuc, negℤ, natAbs, subℕ, _+ℤ_, _*ℤ_}
 use lib.ListN.{length, getD}
 use lib.Signed.{ltZ, mag}
@@ -16,7 +16,7 @@ use mir.Facts.{toZ-ofZ}
 use mir.Syntax.{w64}
 use mir.Val.{SFits, toZ, ofZ}
 use Rattle.numbers.proofs.Any.{any-none, every-imp, every-getD}
-use Rattle.numbers.proofs.Tests.{cond-ind, or-false, or-no}
+use Rattle.numbers.proofs.Tests.{cond-ind, or-no, or-none}
 use Rattle.numbers.specs.Lists.{anyOf, Every}
 use Rattle.numbers.specs.Ranges.{outsideZ, beyond}
 use Rattle.numbers.specs.Sums.{sumOf}
@@ -74,18 +74,19 @@ pub size-tested : (k n m : ℕ) (a : ℤ) → ltZ a (negsuc k) ≡ false → ltZ
 size-tested k n m (pos x) h l p q = record { size = omega (arith, ltb-false n x l) }
 size-tested k n m (negsuc x) h l p q = record { size = omega (arith, ltb-false k x h) }
 
+-- outside −p..p is of a size above p
+pub outside-size : (p : ℕ) (z : ℤ) → outsideZ (negℤ (pos p)) (pos p) z ≡ ltb p (natAbs z)
+outside-size zero (pos x) = ap (λ t. t || ltb 0 x) (le-ltb x 0 zero-le)
+outside-size zero (negsuc x) = sym (lt-ltb 0 (suc x) (omega arith))
+outside-size (suc p) (pos x) = refl
+outside-size (suc p) (negsuc x) = or-none (ltb p x) ∙ sym (leb·suc-suc (suc p) x)
+
 -- inside −p..p, both included, is of size at most p
 pub size-inside : (p : ℕ) (z : ℤ) → outsideZ (negℤ (pos p)) (pos p) z ≡ false → Size z p
-size-inside zero (pos x) e = record { size = omega (arith, ltb-false 0 x (or-false (ltb x 0) (ltb 0 x) e .1)) }
-size-inside zero (negsuc x) e = absurd (true≢false e)
-size-inside (suc p) (pos x) e = record { size = omega (arith, ltb-false (suc p) x e) }
-size-inside (suc p) (negsuc x) e = record { size = omega (arith, ltb-false p x (or-false (ltb p x) false e .0)) }
+size-inside p z e = record { size = ltb-false p (natAbs z) (sym (outside-size p z) ∙ e) }
 
 pub inside-sized : (p : ℕ) (z : ℤ) → Size z p → outsideZ (negℤ (pos p)) (pos p) z ≡ false
-inside-sized zero (pos x) h = or-no (ltb x 0) (ltb 0 x) (le-ltb x 0 (omega arith)) (le-ltb 0 x (omega (arith, h .size)))
-inside-sized zero (negsuc x) h = absurd (not-suc-le-zero (h .size))
-inside-sized (suc p) (pos x) h = le-ltb (suc p) x (h .size)
-inside-sized (suc p) (negsuc x) h = or-no (ltb p x) false (le-ltb p x (omega (arith, h .size))) refl
+inside-sized p z h = outside-size p z ∙ le-ltb p (natAbs z) (h .size)
 
 -- ---- the members of a list
 abbrev pub Sized : ℕ → List ℤ → Type 0

@@ -21,6 +21,10 @@ or-false false b e = (refl, e)
 pub or-no : (a b : Bool) → a ≡ false → b ≡ false → a || b ≡ false
 or-no a b p q = rw (p, q) refl
 
+pub or-none : (a : Bool) → a || false ≡ a
+or-none true = refl
+or-none false = refl
+
 pub and-true : (a b : Bool) → a && b ≡ true → (a ≡ true) × (b ≡ true)
 and-true true b e = (refl, e)
 and-true false b e = absurd (true≢false (sym e))

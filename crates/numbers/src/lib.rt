@@ -1,4 +1,7 @@
-// The refusal numbers by name. All else of this crate is definitions (specs/) and laws (proofs/).
+// The refusal numbers by name, and the size of a whole number. All else of this crate is definitions (specs/) and laws (proofs/).
+ghost use mathlib.Core.Path.{_≡_};
+ghost use lib.IntN.{natAbs};
+ghost use Rattle.numbers.specs.Rows.{NumbersRows};
 
 // No refusal: the call filled its output.
 pub const ACCEPTED: u8 = 0;
@@ -35,7 +38,15 @@ pub const REACH: u8 = 11;
 // A whole-number sum outside signed 64 bits.
 pub const SUM: u8 = 12;
 
-ghost use Rattle.numbers.specs.Rows.{NumbersRows};
+// The size of z, its sign left out. Refuses nothing: of -2^63, which has no negation, it is 2^63.
+pub fn magnitude(z: i64) -> u64
+    ensures { λ r. ⌜ r ≡ natAbs z ⌝ }
+{
+    if z < 0 {
+        return (-(z + 1)) as u64 + 1;
+    }
+    z as u64
+}
 
 // Worked rows of this crate's definitions. Refuses nothing.
 pub fn rows()

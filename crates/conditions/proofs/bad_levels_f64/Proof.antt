@@ -1,25 +1,26 @@
--- `conditions::bad_levels_f64` meets its contract: no level before the one that the loop has reached is outside.
+-- `conditions::bad_levels_f64` meets its contract. The loop's invariant: `bad`, at most `k`, is above 0 exactly where a level before place `k` is not finite.
+-- The measure is what is left of the grid.
 -- Assumes nothing.
 use borrow.Author.Needs.{needs}
-use mathlib.Core.Path.{_≡_, refl, sym, _∙_}
+use mathlib.Core.Logic.{⊎-elim}
+use mathlib.Core.Path.{sym, _∙_}
 use Prim.Native.Nat.{_≤_, _-_}
-use lib.ListN.{length, drop}
-use denote.Ref.{now}
-use Rattle.numbers.specs.Lists.{anyOf}
-use Rattle.numbers.proofs.Any.{any-hit, any-miss, any-end}
-use Rattle.array.specs.Conditions.{badFloat}
+use native.Mathlib.Omega.{arith}
 use lib.Ieee.{nan}
+use lib.ListN.{length}
+use Rattle.numbers.proofs.Seen.{Seen, seen-none, seen-hit, seen-miss, seen-all}
+use Rattle.array.specs.Conditions.{badFloat}
 use Rattle.conditions.proofs.bad_levels_f64.Statement.{statement}
 use Rattle.conditions.proofs.bad_levels_f64.Tie as tie
 
 abbrev Inv-loop : tie.InvT-loop
-Inv-loop «data» k₀ k = (k ≤ length «data») × (anyOf badFloat «data» ≡ anyOf badFloat (drop k «data»))
+Inv-loop «data» bad₀ k₀ bad k = (k ≤ length «data») × (bad ≤ k) × Seen badFloat 0 «data» k bad
 
 abbrev μ-loop : tie.MeasureT-loop
-μ-loop «data» k₀ k = length «data» - k
+μ-loop «data» bad₀ k₀ bad k = length «data» - k
 
 loop-holds : tie.Need-loop-holds Inv-loop μ-loop
-loop-holds c = (search needs, refl)
+loop-holds c = (search needs, search needs, seen-none badFloat 0 _)
 
 mul-x : tie.Need-mul-x Inv-loop μ-loop
 mul-x c = search needs
@@ -30,9 +31,8 @@ shared-slice-read-x c = search needs
 bad-level-f64-requires : tie.Need-bad-level-f64-requires Inv-loop μ-loop
 bad-level-f64-requires c κs = search needs
 
-returns : tie.Need-returns Inv-loop μ-loop
-returns c = let l = c .before .before .before .before .loop in
-    sym (any-hit badFloat nan (l .k) (now (c .before .before .before .before .before .before .args .«data»)) (search needs) (l .inv .1) (sym ((c .before .bad-level-f64 .ensures)) ∙ c .if1 .taken))
+add-bad : tie.Need-add-bad Inv-loop μ-loop
+add-bad c = search needs
 
 add-k : tie.Need-add-k Inv-loop μ-loop
 add-k c = search needs
@@ -41,12 +41,16 @@ loop-less : tie.Need-loop-less Inv-loop μ-loop
 loop-less c = search needs
 
 loop-again : tie.Need-loop-again Inv-loop μ-loop
-loop-again c = let l = c .before .before .before .before .loop in
-    (search needs, any-miss badFloat nan (l .k) (now (c .before .before .before .before .before .before .args .«data»)) (search needs) (l .inv .1) (sym ((c .before .bad-level-f64 .ensures)) ∙ c .if1 .left))
+loop-again c =
+    let l = c .before .before .before .before .loop in
+    let told = sym (c .before .bad-level-f64 .ensures) in
+    ⊎-elim
+    (λ a. (search needs, omega (arith, a .1), seen-hit (l .inv .2) nan (search needs) (a .1) (told ∙ a .0 .taken)))
+    (λ a. (search needs, omega (arith, a .1), seen-miss (l .inv .2) nan (search needs) (a .1) (told ∙ a .0 .left)))
+    (c .if1 .came)
 
-returns-2 : tie.Need-returns-2 Inv-loop μ-loop
-returns-2 c = let l = c .before .loop in
-    sym (any-end badFloat (l .k) (now (c .before .before .before .args .«data»)) (search needs) (l .inv .1))
+returns : tie.Need-returns Inv-loop μ-loop
+returns c = seen-all (c .before .loop .inv .2) (search needs)
 
 pub bad-levels-f64-spec : {M : Type 1} → statement M
 bad-levels-f64-spec =
@@ -58,8 +62,8 @@ bad-levels-f64-spec =
     mul-x
     shared-slice-read-x
     bad-level-f64-requires
-    returns
+    add-bad
     add-k
     loop-less
     loop-again
-    returns-2)
+    returns)
