@@ -14,7 +14,7 @@ fn rows() {
     lanes::rows();
     border::rows();
     origin::rows();
-    minlist::rows();
+    window_least::rows();
     statistics::rows();
     pad_axis::rows();
     pad_judge::rows();
@@ -36,7 +36,6 @@ fn main() {
     arrays::lane_examples();
     borders::modes();
     borders::origins();
-    extremes::rings();
     extremes::lines();
     averages::extremes();
     averages::means();
