@@ -11,6 +11,7 @@ use native.Mathlib.Omega.{arith}
 use lib.Dec.{T}
 use lib.ListN.{length, getD}
 use Rattle.numbers.proofs.Index.{getD-mem, mem-getD}
+use Rattle.numbers.proofs.Lesser.{lesser-left, lesser-right}
 use Rattle.numbers.proofs.Tests.{cond-ind}
 use Rattle.numbers.specs.Lists.{Every}
 use Rattle.numbers.specs.Order.{Total, leastFrom, least}
@@ -25,17 +26,10 @@ least-every le P d (x ∷ xs) p h = from x xs (h .0) (h .1)
     from m (x ∷ xs) p h = from (cond (le m x) m x) xs (cond-ind (le m x) m x P (λ t. p) (λ t. h .0)) (h .1)
 
 module _ {A : Type 0} (le : A → A → Bool) (O : Total le) where
-  -- ---- of two
-  pub lesser-left : (m x : A) → T (le (cond (le m x) m x) m)
-  lesser-left m x = cond-ind (le m x) m x (λ y. T (le y m)) (λ t. O .itself m) (λ t. O .other m x t)
-
-  pub lesser-right : (m x : A) → T (le (cond (le m x) m x) x)
-  lesser-right m x = cond-ind (le m x) m x (λ y. T (le y x)) (λ t. t) (λ t. O .itself x)
-
   -- ---- before every member
   from-seed : (m : A) (xs : List A) → T (le (leastFrom le m xs) m)
   from-seed m [] = O .itself m
-  from-seed m (x ∷ xs) = O .chain _ _ _ (from-seed (cond (le m x) m x) xs) (lesser-left m x)
+  from-seed m (x ∷ xs) = O .chain _ _ _ (from-seed (cond (le m x) m x) xs) (lesser-left le O m x)
 
   from-bound : (m y : A) (xs : List A) → List·Memᴰ y xs → T (le (leastFrom le m xs) y)
   from-bound m y [] k = absurd (List·Memᴰ·not-nil k)
@@ -44,7 +38,7 @@ module _ {A : Type 0} (le : A → A → Bool) (O : Total le) where
       go : (List·Memᴰ y xs → T (le (leastFrom le (cond (le m x) m x) xs) y)) → (y ≡ x) ⊎ List·Memᴰ y xs → T (le (leastFrom le (cond (le m x) m x) xs) y)
       go f (inl e) =
           subst (λ (w : A). T (le (leastFrom le (cond (le m x) m x) xs) w)) (sym e)
-          (O .chain _ _ _ (from-seed (cond (le m x) m x) xs) (lesser-right m x))
+          (O .chain _ _ _ (from-seed (cond (le m x) m x) xs) (lesser-right le O m x))
       go f (inr r) = f r
 
   pub least-bound : (d y : A) (xs : List A) → List·Memᴰ y xs → T (le (least le d xs) y)

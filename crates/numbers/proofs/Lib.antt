@@ -9,6 +9,7 @@ pub mod Size
 pub mod Quotient
 pub mod Index
 pub mod Seen
+pub mod Lesser
 pub mod Least
 pub mod Tabulate
 pub mod Range

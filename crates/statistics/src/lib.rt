@@ -1,21 +1,44 @@
 // One level out of a line of whole levels: what padding's modes Maximum, Minimum, Mean and Median fill a lane with.
 ghost use mathlib.Core.Path.{_≡_};
-ghost use mathlib.Core.Bool.{true, false};
+ghost use mathlib.Core.Bool.{true, false, cond};
 ghost use Prim.Native.Nat.{_≤_, _<_};
 ghost use lib.IntN.{pos, natAbs, _+ℤ_, _-ℤ_};
-ghost use lib.ListN.{length};
+ghost use lib.ListN.{length, drop};
 ghost use lib.Signed.{leZ, _≤ℤ_};
+ghost use Rattle.numbers.specs.Order.{atLeast, leastFrom};
 ghost use Rattle.numbers.specs.Sums.{sumOf};
 ghost use Rattle.statistics.specs.Sorting.{atMost};
 ghost use Rattle.statistics.specs.Statistics.{minimumOf, maximumOf, meanOf, medianOf, ranked, unserved, answered};
 ghost use Rattle.statistics.specs.Rows.{StatisticsRows};
 
-// The limits of a line that mean and median serve: its cells, and the least and the greatest level.
+// The limits of a line that mean and median serve: its cells, and the size of a level.
 const MOST_CELLS: usize = 1024;
 
-const LEAST: i64 = -2147483647;
+const GREATEST: u64 = 2147483647;
 
-const GREATEST: i64 = 2147483647;
+// The lesser of two levels.
+fn lesser(a: i64, b: i64) -> i64
+    ensures { λ r. ⌜ r ≡ cond (leZ a b) a b ⌝ }
+{
+    if b < a {
+        return b;
+    }
+    a
+}
+
+// The least of `first` and the levels from place `from` on.
+fn least_from(line: &[i64], from: usize, first: i64) -> i64
+    ensures { λ r. ⌜ r ≡ leastFrom leZ first (drop from (now (line .entry))) ⌝ }
+{
+    let mut least = first;
+    let mut i = from;
+    while i < line.len() {
+        let x = line[i];
+        least = lesser(least, x);
+        i += 1;
+    }
+    least
+}
 
 // The least level of a line.
 //
@@ -25,19 +48,48 @@ const GREATEST: i64 = 2147483647;
 pub fn minimum(line: &[i64]) -> i64
     ensures { λ r. ⌜ r ≡ minimumOf (now (line .entry)) ⌝ }
 {
-    if line.len() == 0 {
+    let n = line.len();
+    if n == 0 {
         return 0;
     }
-    let mut least = line[0];
+    // Four levels a turn, each to a running value of its own, so that none waits for the one before it.
+    let mut a = line[0];
+    let mut b = a;
+    let mut c = a;
+    let mut d = a;
     let mut i = 1;
+    while i + 3 < n {
+        a = lesser(a, line[i]);
+        b = lesser(b, line[i + 1]);
+        c = lesser(c, line[i + 2]);
+        d = lesser(d, line[i + 3]);
+        i += 4;
+    }
+    least_from(line, i, lesser(lesser(a, b), lesser(c, d)))
+}
+
+// The greater of two levels.
+fn greater(a: i64, b: i64) -> i64
+    ensures { λ r. ⌜ r ≡ cond (atLeast a b) a b ⌝ }
+{
+    if a < b {
+        return b;
+    }
+    a
+}
+
+// The greatest of `first` and the levels from place `from` on.
+fn greatest_from(line: &[i64], from: usize, first: i64) -> i64
+    ensures { λ r. ⌜ r ≡ leastFrom atLeast first (drop from (now (line .entry))) ⌝ }
+{
+    let mut greatest = first;
+    let mut i = from;
     while i < line.len() {
         let x = line[i];
-        if x < least {
-            least = x;
-        }
+        greatest = greater(greatest, x);
         i += 1;
     }
-    least
+    greatest
 }
 
 // The greatest level of a line.
@@ -48,19 +100,23 @@ pub fn minimum(line: &[i64]) -> i64
 pub fn maximum(line: &[i64]) -> i64
     ensures { λ r. ⌜ r ≡ maximumOf (now (line .entry)) ⌝ }
 {
-    if line.len() == 0 {
+    let n = line.len();
+    if n == 0 {
         return 0;
     }
-    let mut greatest = line[0];
-    let mut j = 1;
-    while j < line.len() {
-        let x = line[j];
-        if greatest < x {
-            greatest = x;
-        }
-        j += 1;
+    let mut a = line[0];
+    let mut b = a;
+    let mut c = a;
+    let mut d = a;
+    let mut i = 1;
+    while i + 3 < n {
+        a = greater(a, line[i]);
+        b = greater(b, line[i + 1]);
+        c = greater(c, line[i + 2]);
+        d = greater(d, line[i + 3]);
+        i += 4;
     }
-    greatest
+    greatest_from(line, i, greater(greater(a, b), greater(c, d)))
 }
 
 // Whether mean and median do not serve the line: over 1,024 cells, or a level outside -(2^31 - 1)..2^31 - 1.
@@ -70,18 +126,15 @@ fn not_served(line: &[i64]) -> bool
     if MOST_CELLS < line.len() {
         return true;
     }
+    // The sizes' bits joined pass the limit where one size does.
+    let mut sizes = 0;
     let mut k = 0;
     while k < line.len() {
         let z = line[k];
-        if z < LEAST {
-            return true;
-        }
-        if GREATEST < z {
-            return true;
-        }
+        sizes = sizes | numbers::magnitude(z);
         k += 1;
     }
-    false
+    GREATEST < sizes
 }
 
 // The sum of the levels, which stays below 2^41 in size.
