@@ -2,7 +2,7 @@
 ghost use mathlib.Core.Path.{_≡_};
 ghost use lib.ListN.{length};
 ghost use Rattle.numbers.specs.Refusal.{Answers};
-ghost use Rattle.median_row.specs.Around.{medianAnswer};
+ghost use Rattle.median_mask.specs.Around.{medianAnswer};
 ghost use Rattle.median.specs.Judge.{medianJudged};
 ghost use Rattle.symmetry.specs.Class.{classZ, classF};
 ghost use Rattle.capi.specs.Codes.{kernelOf, unknownKernel, coded, codeOf};

@@ -27,7 +27,7 @@ fn rows() {
     uniform_line::rows();
     uniform_judge::rows();
     uniform::rows();
-    median_row::rows();
+    median_mask::rows();
     median::rows();
     text::rows();
     text::reads_back();

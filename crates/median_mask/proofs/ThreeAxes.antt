@@ -12,10 +12,10 @@ use lib.ListN.{length, getD}
 use Rattle.numbers.proofs.Tests.{and-true}
 use Rattle.array.specs.Grid.{placeOf, coordinate, levelAt}
 use Rattle.array.proofs.Places.{Within, coordinate-place}
-use Rattle.median_row.specs.declared.Span.{Span}
-use Rattle.median_row.specs.Around.{around, total, one, cellsAround, trueAround, medianAt}
-use Rattle.median_row.specs.ByRows.{spanOf, cellOf, columnCount, votedAt, inRow, medianOf}
-use Rattle.median_row.proofs.Totals.{length-upTo, total-agree, total-swap}
+use Rattle.median_mask.specs.declared.Span.{Span}
+use Rattle.median_mask.specs.Around.{around, total, one, cellsAround, trueAround, medianAt}
+use Rattle.median_mask.specs.ByRows.{spanOf, cellOf, columnCount, votedAt, inRow, medianOf}
+use Rattle.median_mask.proofs.Totals.{length-upTo, total-agree, total-swap}
 
 module _ (planes rows n : ℕ) (mask : List Bool) where
   abbrev ns : List ℕ

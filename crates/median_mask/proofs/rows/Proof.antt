@@ -1,11 +1,11 @@
--- `median_row::rows` meets its contract: every row holds by computing.
+-- `median_mask::rows` meets its contract: every row holds by computing.
 -- Assumes nothing.
 use mathlib.Core.Path.{refl}
 use Rattle.numbers.specs.Lists.{tabulate}
 use Rattle.array.specs.Grid.{placeOf, coordinate}
-use Rattle.median_row.specs.Around.{cellsAround, trueAround, medianAnswer}
-use Rattle.median_row.proofs.rows.Statement.{statement}
-use Rattle.median_row.proofs.rows.Tie as tie
+use Rattle.median_mask.specs.Around.{cellsAround, trueAround, medianAnswer}
+use Rattle.median_mask.proofs.rows.Statement.{statement}
+use Rattle.median_mask.proofs.rows.Tie as tie
 
 returns : tie.Need-returns
 unfolding tabulate placeOf coordinate cellsAround trueAround medianAnswer

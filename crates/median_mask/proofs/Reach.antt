@@ -8,9 +8,9 @@ use native.Mathlib.Nat.{le-refl, mul-le-mul, suc-mul}
 use native.Mathlib.Omega.{arith}
 use lib.ListN.{length, getD, take, drop, length-drop}
 use lib.Seq.{getD-take, getD-drop, length-take-le}
-use Rattle.median_row.specs.Around.{one}
-use Rattle.median_row.specs.ByRows.{Reaches, Room, added}
-use Rattle.median_row.proofs.Adding.{added-agree}
+use Rattle.median_mask.specs.Around.{one}
+use Rattle.median_mask.specs.ByRows.{Reaches, Room, added}
+use Rattle.median_mask.proofs.Adding.{added-agree}
 
 -- r rows and one more are at most m rows
 pub row-end : (n : ℕ) {r m : ℕ} → r < m → r * n + n ≤ m * n

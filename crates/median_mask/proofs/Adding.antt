@@ -13,9 +13,9 @@ use lib.ListN.{length, getD, set}
 use Rattle.numbers.proofs.Tabulate.{length-tabulate, getD-tabulate, tabulate-unique}
 use Rattle.numbers.proofs.Stored.{Stored, front-more}
 use Rattle.numbers.proofs.Tests.{cond-no}
-use Rattle.median_row.specs.Around.{upTo, total, one}
-use Rattle.median_row.specs.ByRows.{Room, added}
-use Rattle.median_row.proofs.Totals.{total-none, total-more}
+use Rattle.median_mask.specs.Around.{upTo, total, one}
+use Rattle.median_mask.specs.ByRows.{Room, added}
+use Rattle.median_mask.proofs.Totals.{total-none, total-more}
 
 -- ---- one addition
 pub length-added : (g : ℕ → ℕ) (c : List ℕ) → length (added g c) ≡ length c

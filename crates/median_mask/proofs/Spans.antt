@@ -9,12 +9,12 @@ use native.Mathlib.Omega.{arith}
 use borrow.Author.Tests.{ltb-true, ltb-false}
 use lib.Dec.{ltb}
 use lib.ListN.{length, getD, take, replicate, List·getD-eq-default}
-use Rattle.median_row.specs.declared.Span.{Span}
-use Rattle.median_row.specs.Around.{upTo, one}
-use Rattle.median_row.specs.ByRows.{spanOf, cellOf, planeCount, columnCount, Reaches, Room, added, Laid, Blank}
-use Rattle.median_row.proofs.Totals.{length-upTo, total-bound}
-use Rattle.median_row.proofs.Adding.{length-added, getD-added}
-use Rattle.median_row.proofs.Reach.{row-end}
+use Rattle.median_mask.specs.declared.Span.{Span}
+use Rattle.median_mask.specs.Around.{upTo, one}
+use Rattle.median_mask.specs.ByRows.{spanOf, cellOf, planeCount, columnCount, Reaches, Room, added, Laid, Blank}
+use Rattle.median_mask.proofs.Totals.{length-upTo, total-bound}
+use Rattle.median_mask.proofs.Adding.{length-added, getD-added}
+use Rattle.median_mask.proofs.Reach.{row-end}
 
 -- ---- one to three coordinates of an axis of n cells
 pub record Short (n : ℕ) (s : Span) : Type 0 where

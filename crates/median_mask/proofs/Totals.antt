@@ -8,7 +8,7 @@ use native.Mathlib.Omega.{arith}
 use lib.ListN.{length}
 use Rattle.numbers.specs.Lists.{tabulate}
 use Rattle.numbers.proofs.Tabulate.{length-tabulate}
-use Rattle.median_row.specs.Around.{upTo, around, total}
+use Rattle.median_mask.specs.Around.{upTo, around, total}
 
 pub length-upTo : (lo hi : ℕ) → length (upTo lo hi) ≡ hi - lo
 length-upTo lo hi = length-tabulate (λ j. j) lo (hi - lo)

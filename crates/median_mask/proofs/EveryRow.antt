@@ -11,8 +11,8 @@ use lib.Dec.{ltb}
 use lib.ListN.{length}
 use Rattle.numbers.specs.Lists.{tabulate}
 use Rattle.numbers.proofs.Stored.{Stored, stored-none, stored-then, stored-all, table-stored}
-use Rattle.median_row.specs.Around.{medianAnswer}
-use Rattle.median_row.specs.ByRows.{inRow, setRow, medianOf, Laid}
+use Rattle.median_mask.specs.Around.{medianAnswer}
+use Rattle.median_mask.specs.ByRows.{inRow, setRow, medianOf, Laid}
 
 -- below row r + 1: in row r, or below it
 row-next : (r n k : ℕ) → ltb k ((r + 1) * n) ≡ inRow (r * n) n k || ltb k (r * n)

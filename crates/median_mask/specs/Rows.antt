@@ -10,8 +10,8 @@ use mathlib.Core.Bool.{Bool, true, false}
 use mathlib.Core.List.{List, [], _∷_, map, _++_}
 use lib.Dec.{eqb}
 use lib.ListN.{getD, replicate}
-use Rattle.median_row.specs.Around.{upTo, around, total, one, cellsAround, trueAround, medianAt, medianAnswer}
-use Rattle.median_row.specs.ByRows.{spanOf, cellOf, planeCount, columnCount, added, votedAt, inRow, setRow}
+use Rattle.median_mask.specs.Around.{upTo, around, total, one, cellsAround, trueAround, medianAt, medianAnswer}
+use Rattle.median_mask.specs.ByRows.{spanOf, cellOf, planeCount, columnCount, added, votedAt, inRow, setRow}
 
 abbrev pub bits : List ℕ → List Bool
 bits ns = map (eqb 1) ns

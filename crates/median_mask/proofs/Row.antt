@@ -7,11 +7,11 @@ use Prim.Native.Nat.{ℕ, _+_, _-_, _*_, _/_, _%_, _≤_, _<_}
 use native.Mathlib.Omega.{arith}
 use lib.ListN.{length, getD}
 use Rattle.numbers.proofs.Stored.{stored-agree, stored-table, table-stored}
-use Rattle.median_row.specs.declared.Span.{Span}
-use Rattle.median_row.specs.ByRows.{spanOf, columnCount, Reaches, Room, added, votedAt, Counted, inRow, setRow, medianOf, Laid, Blank}
-use Rattle.median_row.proofs.Adding.{length-added}
-use Rattle.median_row.proofs.Spans.{Short, span-short, around-some, around-few, blank-room, blank-added, added-few, plane-below, row-below, row-room, planes-reach}
-use Rattle.median_row.proofs.ThreeAxes.{row-median}
+use Rattle.median_mask.specs.declared.Span.{Span}
+use Rattle.median_mask.specs.ByRows.{spanOf, columnCount, Reaches, Room, added, votedAt, Counted, inRow, setRow, medianOf, Laid, Blank}
+use Rattle.median_mask.proofs.Adding.{length-added}
+use Rattle.median_mask.proofs.Spans.{Short, span-short, around-some, around-few, blank-room, blank-added, added-few, plane-below, row-below, row-room, planes-reach}
+use Rattle.median_mask.proofs.ThreeAxes.{row-median}
 
 module _ {planes rows : ℕ} {mask : List Bool} {c : List ℕ} (blank : Blank c) (L : Laid planes rows (length c) mask) (r : ℕ) (h : r < planes * rows)
     {xs ys : Span} (ex : xs ≡ spanOf planes (r / rows)) (ey : ys ≡ spanOf rows (r % rows)) where

@@ -6,13 +6,19 @@ use mathlib.Core.List.{List}
 use Prim.Native.Nat.{ℕ, _+_, _-_, _*_, _/_, _≤_, _<_}
 use native.Mathlib.Omega.{arith}
 use borrow.Author.Tests.{ltb-true, ltb-false, lt-ltb, le-ltb, eqb-true, eqb-false, ne-eqb}
+use mir.Syntax.{w8}
+use mir.Val.{Fits}
 use lib.Dec.{eqb, ltb}
 use lib.ListN.{length, getD, set, length-set}
-use Rattle.numbers.proofs.Stored.{Stored, stored-none, stored-one, stored-then, stored-table}
+use Rattle.numbers.proofs.Stored.{Stored, stored-none, stored-one, stored-then, stored-table, table-stored}
 use Rattle.numbers.proofs.Tests.{ltb-more}
-use Rattle.median_row.specs.Around.{total}
-use Rattle.median_row.specs.ByRows.{votedAt, inRow, setRow}
-use Rattle.median_row.proofs.Totals.{around-first, around-inside, around-last}
+use Rattle.median_mask.specs.Around.{total}
+use Rattle.median_mask.specs.ByRows.{votedAt, Counted, inRow, setRow}
+use Rattle.median_mask.proofs.Totals.{around-first, around-inside, around-last}
+
+-- ---- the counts of two places are no more than a byte holds
+pub two-counts-fit : {c : List ℕ} {m : ℕ} → Counted c m → (i j : ℕ) → Fits w8 (getD c i 0 + getD c j 0)
+two-counts-fit C i j = record { fits = omega (arith, C .small i, C .small j) }
 
 -- ---- the vote of a cell
 module _ (c : List ℕ) (m : ℕ) where
@@ -94,11 +100,13 @@ module _ (f : ℕ → Bool) where
   votes-all : (a i : ℕ) {out out′ : List Bool} (v : Bool) → a < length out → v ≡ f a → Stored false (inRow (a + 1) i) f (set out a v) out′ → Stored false (inRow a (i + 1)) f out out′
   votes-all a i {out} v h e S = stored-then false f (λ k. eqb k a) (inRow (a + 1) i) (inRow a (i + 1)) (stored-one false f out a v h e) S (row-front a i)
 
+  pub votes-inside : (b i n : ℕ) (out : List Bool) {out′ : List Bool} → i ≡ n → Stored false (inRow b i) f out out′ → out′ ≡ setRow b n f out
+  votes-inside b i n out {out′} e S = stored-table false f (inRow b n) (subst (λ (k : ℕ). Stored false (inRow b k) f out out′) e S)
+
   -- the last place is stored: the row is set
-  pub votes-table : (a i n : ℕ) (out : List Bool) {out′ : List Bool} (v u : Bool) → i + 2 ≡ n → a + n ≤ length out → v ≡ f a → u ≡ f (a + 1 + i) → Stored false (inRow (a + 1) i) f (set out a v) out′
-      → set out′ (a + 1 + i) u ≡ setRow a n f out
-  votes-table a i n out {out′} v u q h e d S =
-      let r : i + 1 + 1 ≡ n = omega arith in
-      stored-table false f (inRow a n)
-      (subst (λ (k : ℕ). Stored false (inRow a k) f out (set out′ (a + 1 + i) u)) r
-      (votes-all a (i + 1) v (omega arith) e (votes-more (a + 1) i u (omega (arith, length-set out a v)) S d)))
+  pub votes-table : (a n : ℕ) (out : List Bool) {out′ : List Bool} (v u : Bool) → 2 ≤ n → a + n ≤ length out → v ≡ f a → u ≡ f (a + 1 + (n - 2)) → out′ ≡ setRow (a + 1) (n - 2) f (set out a v)
+      → set out′ (a + 1 + (n - 2)) u ≡ setRow a n f out
+  votes-table a n out {out′} v u two h e d S =
+      votes-inside a (n - 2 + 1 + 1) n out (omega arith)
+      (votes-all a (n - 2 + 1) v (omega arith) e
+      (votes-more (a + 1) (n - 2) u (omega (arith, length-set out a v)) (table-stored false f (inRow (a + 1) (n - 2)) (set out a v) out′ S) d))

@@ -21,8 +21,8 @@ use lib.Dec.{ltb}
 use lib.ListN.{length, getD}
 use Rattle.numbers.specs.Lists.{tabulate}
 use Rattle.array.specs.Grid.{coordinate}
-use Rattle.median_row.specs.declared.Span.{Span}
-use Rattle.median_row.specs.Around.{upTo, around, total, one, medianAt}
+use Rattle.median_mask.specs.declared.Span.{Span}
+use Rattle.median_mask.specs.Around.{upTo, around, total, one, medianAt}
 
 abbrev pub spanOf : ℕ → ℕ → Span
 spanOf n i = record { from = i - 1; to = min (i + 2) n }
