@@ -33,7 +33,7 @@ fn rows() {
     text::reads_back();
     text_f64::rows();
     text_f64::reads_back_f64();
-    capi::rows();
+    codes::rows();
 }
 
 fn main() {

@@ -1,9 +1,9 @@
--- `capi::modes::unknown_after` meets its contract: the number, or 100 where it is 0.
+-- `codes::unknown_after` meets its contract: the number, or 100 where it is 0.
 -- Assumes nothing.
 use mathlib.Core.Path.{refl}
 use borrow.Author.Tests.{eq-eqb, ne-eqb}
-use Rattle.capi.proofs.modes.unknown_after.Statement.{statement}
-use Rattle.capi.proofs.modes.unknown_after.Tie as tie
+use Rattle.codes.proofs.unknown_after.Statement.{statement}
+use Rattle.codes.proofs.unknown_after.Tie as tie
 
 returns : tie.Need-returns
 returns c = let a = c .before .args in rw (ne-eqb (a .refusal) 0 (c .if1 .taken)) refl

@@ -1,10 +1,10 @@
--- `capi::modes::mode_of_f64` meets its contract: each return is the border that its code names.
+-- `codes::mode_of_f64` meets its contract: each return is the border that its code names.
 -- Assumes nothing.
 use mathlib.Core.Path.{refl}
 use borrow.Author.Tests.{ne-eqb}
-use Rattle.capi.specs.Codes.{modeOfF64}
-use Rattle.capi.proofs.modes.mode_of_f64.Statement.{statement}
-use Rattle.capi.proofs.modes.mode_of_f64.Tie as tie
+use Rattle.codes.specs.Codes.{modeOfF64}
+use Rattle.codes.proofs.mode_of_f64.Statement.{statement}
+use Rattle.codes.proofs.mode_of_f64.Tie as tie
 
 returns : tie.Need-returns
 unfolding modeOfF64

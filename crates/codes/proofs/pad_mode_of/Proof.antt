@@ -1,13 +1,13 @@
--- `capi::modes::pad_mode_of` meets its contract: each return is the padding mode that its code names.
+-- `codes::pad_mode_of` meets its contract: each return is the padding mode that its code names.
 -- Assumes nothing.
 use mathlib.Core.Path.{_≡_, refl}
 use borrow.Author.Tests.{ne-eqb}
 use mir.Syntax.{w64}
 use mir.Val.{toZ, ofZ}
 use borrow.Author.Needs.{needs}
-use Rattle.capi.specs.Codes.{padModeOf}
-use Rattle.capi.proofs.modes.pad_mode_of.Statement.{statement}
-use Rattle.capi.proofs.modes.pad_mode_of.Tie as tie
+use Rattle.codes.specs.Codes.{padModeOf}
+use Rattle.codes.proofs.pad_mode_of.Statement.{statement}
+use Rattle.codes.proofs.pad_mode_of.Tie as tie
 
 returns : tie.Need-returns
 unfolding padModeOf

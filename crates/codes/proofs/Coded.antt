@@ -14,7 +14,7 @@ use Rattle.numbers.specs.Lists.{Every}
 use Rattle.numbers.specs.Refusal.{Judged, refusalOf, Answers}
 use Rattle.numbers.proofs.Refusal.{judged-append}
 use Rattle.numbers.proofs.Tests.{cond-yes, cond-no}
-use Rattle.capi.specs.Codes.{coded, TwoAnswers}
+use Rattle.codes.specs.Codes.{coded, TwoAnswers}
 
 -- a last condition that does not hold changes no number
 number-known : (js : Judged) (u : Bool) → u ≡ false → refusalOf js ≡ refusalOf (coded js u)

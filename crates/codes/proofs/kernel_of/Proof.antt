@@ -1,10 +1,10 @@
--- `capi::modes::kernel_of` meets its contract: each return is the kernel that its code names.
+-- `codes::kernel_of` meets its contract: each return is the kernel that its code names.
 -- Assumes nothing.
 use mathlib.Core.Path.{refl}
 use borrow.Author.Tests.{ne-eqb}
-use Rattle.capi.specs.Codes.{kernelOf}
-use Rattle.capi.proofs.modes.kernel_of.Statement.{statement}
-use Rattle.capi.proofs.modes.kernel_of.Tie as tie
+use Rattle.codes.specs.Codes.{kernelOf}
+use Rattle.codes.proofs.kernel_of.Statement.{statement}
+use Rattle.codes.proofs.kernel_of.Tie as tie
 
 returns : tie.Need-returns
 unfolding kernelOf

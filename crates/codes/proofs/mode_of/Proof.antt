@@ -1,13 +1,13 @@
--- `capi::modes::mode_of` meets its contract: each return is the border that its code names.
+-- `codes::mode_of` meets its contract: each return is the border that its code names.
 -- Assumes nothing.
 use mathlib.Core.Path.{_≡_, refl}
 use borrow.Author.Tests.{ne-eqb}
 use mir.Syntax.{w64}
 use mir.Val.{toZ, ofZ}
 use borrow.Author.Needs.{needs}
-use Rattle.capi.specs.Codes.{modeOf}
-use Rattle.capi.proofs.modes.mode_of.Statement.{statement}
-use Rattle.capi.proofs.modes.mode_of.Tie as tie
+use Rattle.codes.specs.Codes.{modeOf}
+use Rattle.codes.proofs.mode_of.Statement.{statement}
+use Rattle.codes.proofs.mode_of.Tie as tie
 
 returns : tie.Need-returns
 unfolding modeOf

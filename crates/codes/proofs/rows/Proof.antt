@@ -1,11 +1,11 @@
--- `capi::rows` meets its contract: every row holds by computing.
+-- `codes::rows` meets its contract: every row holds by computing.
 -- Assumes nothing.
 use mathlib.Core.Path.{refl}
 use Rattle.numbers.specs.Lists.{tabulate}
 use Rattle.symmetry.specs.Class.{someDiffers}
-use Rattle.capi.specs.Codes.{modeOf, modeOfF64, padModeOf, kernelOf, coded}
-use Rattle.capi.proofs.rows.Statement.{statement}
-use Rattle.capi.proofs.rows.Tie as tie
+use Rattle.codes.specs.Codes.{modeOf, modeOfF64, padModeOf, kernelOf, coded}
+use Rattle.codes.proofs.rows.Statement.{statement}
+use Rattle.codes.proofs.rows.Tie as tie
 
 returns : tie.Need-returns
 unfolding tabulate someDiffers modeOf modeOfF64 padModeOf kernelOf coded

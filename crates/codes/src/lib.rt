@@ -1,8 +1,9 @@
-// What a code names, and the last condition: a code that names nothing.
+// What the codes of the entry points (`capi`) name, and the last condition: a code that names nothing.
 ghost use mathlib.Core.Path.{_≡_};
 ghost use mathlib.Core.Bool.{cond};
 ghost use lib.Dec.{eqb};
-ghost use Rattle.capi.specs.Codes.{modeOf, modeOfF64, padModeOf, kernelOf, codeOf};
+ghost use Rattle.codes.specs.Codes.{modeOf, modeOfF64, padModeOf, kernelOf, codeOf};
+ghost use Rattle.codes.specs.Rows.{CapiRows};
 use border::BorderMode;
 use border::BorderModeF64;
 use border::PadMode;
@@ -13,7 +14,7 @@ use symmetry::SymmetryState;
 pub const UNKNOWN: u8 = 100;
 
 // The border of a code. 1 is Mirror; 9, which names none, is Nearest.
-pub(crate) fn mode_of(code: u8, constant: i64) -> BorderMode
+pub fn mode_of(code: u8, constant: i64) -> BorderMode
     ensures { λ r. ⌜ r ≡ modeOf code constant ⌝ }
 {
     if code == 0 {
@@ -32,7 +33,7 @@ pub(crate) fn mode_of(code: u8, constant: i64) -> BorderMode
 }
 
 // The same of floats.
-pub(crate) fn mode_of_f64(code: u8, constant: f64) -> BorderModeF64
+pub fn mode_of_f64(code: u8, constant: f64) -> BorderModeF64
     ensures { λ r. ⌜ r ≡ modeOfF64 code constant ⌝ }
 {
     if code == 0 {
@@ -51,7 +52,7 @@ pub(crate) fn mode_of_f64(code: u8, constant: f64) -> BorderModeF64
 }
 
 // The padding mode of a code. 6 is Reflect; 9, which names none, is Edge.
-pub(crate) fn pad_mode_of(code: u8, constant: i64) -> PadMode
+pub fn pad_mode_of(code: u8, constant: i64) -> PadMode
     ensures { λ r. ⌜ r ≡ padModeOf code constant ⌝ }
 {
     if code == 0 {
@@ -82,7 +83,7 @@ pub(crate) fn pad_mode_of(code: u8, constant: i64) -> PadMode
 }
 
 // The kernel of a code. 1 is Ball; 9, which names none, is Full.
-pub(crate) fn kernel_of(code: u8) -> Kernel3d
+pub fn kernel_of(code: u8) -> Kernel3d
     ensures { λ r. ⌜ r ≡ kernelOf code ⌝ }
 {
     if code == 0 {
@@ -95,7 +96,7 @@ pub(crate) fn kernel_of(code: u8) -> Kernel3d
 }
 
 // The code of a symmetry class. Symmetric is 1.
-pub(crate) fn code_of(class: SymmetryState) -> u8
+pub fn code_of(class: SymmetryState) -> u8
     ensures { λ r. ⌜ r ≡ codeOf class ⌝ }
 {
     match class {
@@ -106,7 +107,7 @@ pub(crate) fn code_of(class: SymmetryState) -> u8
 }
 
 // The number of a call with an unknown code, which is judged last. Of 11 it is 11, of 0 it is 100.
-pub(crate) fn unknown_after(refusal: u8) -> u8
+pub fn unknown_after(refusal: u8) -> u8
     ensures { λ r. ⌜ r ≡ cond (eqb refusal 0) 100 refusal ⌝ }
 {
     if refusal != 0 {
@@ -114,3 +115,8 @@ pub(crate) fn unknown_after(refusal: u8) -> u8
     }
     UNKNOWN
 }
+
+// Worked rows of codes: what each names, and the number of a code that names nothing. Refuses nothing.
+pub fn rows()
+    ensures { λ _. ⌜ CapiRows ⌝ }
+{}
