@@ -65,7 +65,7 @@ fn put_level(answer: &mut [u8], at: usize, z: i64) -> usize {
     if here > answer.len() {
         return here;
     }
-    let n = text::write_signed(z, &mut answer[here..]);
+    let n = write_text::write_signed(z, &mut answer[here..]);
     sum(here, n)
 }
 

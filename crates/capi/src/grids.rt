@@ -13,8 +13,7 @@ ghost use Rattle.gradient_judge.specs.Judge.{gradientJudged};
 ghost use Rattle.uniform_judge.specs.Uniform.{uniform as uniformOf};
 ghost use Rattle.uniform_judge.specs.Judge.{uniformJudged};
 ghost use Rattle.min_max.specs.Filters.{filterAnswer};
-ghost use Rattle.capi.specs.Codes.{modeOf, unknownBorder, coded, TwoAnswers};
-use crate::modes;
+ghost use Rattle.codes.specs.Codes.{modeOf, unknownBorder, coded, TwoAnswers};
 
 // The sums of each window times the weights of a grid kernel; the call `correlate`.
 //
@@ -41,7 +40,7 @@ pub extern "C" fn suvvokal_correlate(
     ensures { λ r. ⌜ Answers (coded (kernelJudged false (borderOf (modeOf code constant)) origin (now (sides .entry)) (now (weights .entry)) (now (shape .entry)) (now («data» .entry)) (length (now (out .entry)))) (unknownBorder code))
         (correlateZ (borderOf (modeOf code constant)) origin (now (sides .entry)) (now (weights .entry)) (now (shape .entry)) (now («data» .entry))) (now (out .entry)) r (now (out .exit)) ⌝ }
 {
-    let mode = modes::mode_of(code, constant);
+    let mode = codes::mode_of(code, constant);
     if 4 < code {
         let refusal = kernel_judge::judge_kernel(
             data,
@@ -53,7 +52,7 @@ pub extern "C" fn suvvokal_correlate(
             false,
             out.len(),
         );
-        return modes::unknown_after(refusal);
+        return codes::unknown_after(refusal);
     }
     correlate::correlate(data, shape, weights, sides, mode, origin, out)
 }
@@ -74,7 +73,7 @@ pub extern "C" fn suvvokal_convolve(
     ensures { λ r. ⌜ Answers (coded (kernelJudged true (borderOf (modeOf code constant)) origin (now (sides .entry)) (now (weights .entry)) (now (shape .entry)) (now («data» .entry)) (length (now (out .entry)))) (unknownBorder code))
         (convolveZ (borderOf (modeOf code constant)) origin (now (sides .entry)) (now (weights .entry)) (now (shape .entry)) (now («data» .entry))) (now (out .entry)) r (now (out .exit)) ⌝ }
 {
-    let mode = modes::mode_of(code, constant);
+    let mode = codes::mode_of(code, constant);
     if 4 < code {
         let refusal = kernel_judge::judge_kernel(
             data,
@@ -86,7 +85,7 @@ pub extern "C" fn suvvokal_convolve(
             true,
             out.len(),
         );
-        return modes::unknown_after(refusal);
+        return codes::unknown_after(refusal);
     }
     correlate::convolve(data, shape, weights, sides, mode, origin, out)
 }
@@ -114,7 +113,7 @@ pub extern "C" fn suvvokal_prewitt(
     ensures { λ r. ⌜ TwoAnswers (coded (gradientJudged prewittWeights (borderOf (modeOf code constant)) (now (shape .entry)) axis (now («data» .entry)) (length (now (out .entry))) (length (now (second .entry)))) (unknownBorder code))
         (gradientOf prewittWeights (borderOf (modeOf code constant)) (now (shape .entry)) axis (now («data» .entry))) (now (second .entry)) (now (out .entry)) r (now (second .exit)) (now (out .exit)) ⌝ }
 {
-    let mode = modes::mode_of(code, constant);
+    let mode = codes::mode_of(code, constant);
     if 4 < code {
         let refusal = gradient_judge::judge_gradient(
             data,
@@ -124,7 +123,7 @@ pub extern "C" fn suvvokal_prewitt(
             out.len(),
             second.len(),
         );
-        return modes::unknown_after(refusal);
+        return codes::unknown_after(refusal);
     }
     gradient::prewitt(data, shape, axis, mode, second, out)
 }
@@ -143,7 +142,7 @@ pub extern "C" fn suvvokal_sobel(
     ensures { λ r. ⌜ TwoAnswers (coded (gradientJudged sobelWeights (borderOf (modeOf code constant)) (now (shape .entry)) axis (now («data» .entry)) (length (now (out .entry))) (length (now (second .entry)))) (unknownBorder code))
         (gradientOf sobelWeights (borderOf (modeOf code constant)) (now (shape .entry)) axis (now («data» .entry))) (now (second .entry)) (now (out .entry)) r (now (second .exit)) (now (out .exit)) ⌝ }
 {
-    let mode = modes::mode_of(code, constant);
+    let mode = codes::mode_of(code, constant);
     if 4 < code {
         let refusal = gradient_judge::judge_gradient(
             data,
@@ -153,7 +152,7 @@ pub extern "C" fn suvvokal_sobel(
             out.len(),
             second.len(),
         );
-        return modes::unknown_after(refusal);
+        return codes::unknown_after(refusal);
     }
     gradient::sobel(data, shape, axis, mode, second, out)
 }
@@ -181,7 +180,7 @@ pub extern "C" fn suvvokal_uniform_filter(
     ensures { λ r. ⌜ TwoAnswers (coded (uniformJudged (borderOf (modeOf code constant)) size (now (shape .entry)) (now («data» .entry)) (length (now (out .entry))) (length (now (second .entry)))) (unknownBorder code))
         (uniformOf (borderOf (modeOf code constant)) size (now (shape .entry)) (now («data» .entry))) (now (second .entry)) (now (out .entry)) r (now (second .exit)) (now (out .exit)) ⌝ }
 {
-    let mode = modes::mode_of(code, constant);
+    let mode = codes::mode_of(code, constant);
     if 4 < code {
         let refusal = uniform_judge::judge_uniform(
             data,
@@ -191,7 +190,7 @@ pub extern "C" fn suvvokal_uniform_filter(
             out.len(),
             second.len(),
         );
-        return modes::unknown_after(refusal);
+        return codes::unknown_after(refusal);
     }
     uniform::uniform_filter(data, shape, size, mode, second, out)
 }
@@ -221,7 +220,7 @@ pub extern "C" fn suvvokal_minimum_filter(
     ensures { λ r. ⌜ TwoAnswers (coded (filterJudged (now («data» .entry)) (callOf (now (shape .entry)) size 0 (modeOf code constant) origin (now (out .entry))) (length (now (second .entry)))) (unknownBorder code))
         (filterAnswer leZ (callOf (now (shape .entry)) size 0 (modeOf code constant) origin (now (out .entry))) (now («data» .entry))) (now (second .entry)) (now (out .entry)) r (now (second .exit)) (now (out .exit)) ⌝ }
 {
-    let mode = modes::mode_of(code, constant);
+    let mode = codes::mode_of(code, constant);
     if 4 < code {
         let refusal = filter_judge::judge_filter(
             data,
@@ -232,7 +231,7 @@ pub extern "C" fn suvvokal_minimum_filter(
             out,
             second.len(),
         );
-        return modes::unknown_after(refusal);
+        return codes::unknown_after(refusal);
     }
     min_max::minimum_filter(data, shape, size, mode, origin, second, out)
 }
@@ -252,7 +251,7 @@ pub extern "C" fn suvvokal_maximum_filter(
     ensures { λ r. ⌜ TwoAnswers (coded (filterJudged (now («data» .entry)) (callOf (now (shape .entry)) size 0 (modeOf code constant) origin (now (out .entry))) (length (now (second .entry)))) (unknownBorder code))
         (filterAnswer atLeast (callOf (now (shape .entry)) size 0 (modeOf code constant) origin (now (out .entry))) (now («data» .entry))) (now (second .entry)) (now (out .entry)) r (now (second .exit)) (now (out .exit)) ⌝ }
 {
-    let mode = modes::mode_of(code, constant);
+    let mode = codes::mode_of(code, constant);
     if 4 < code {
         let refusal = filter_judge::judge_filter(
             data,
@@ -263,7 +262,7 @@ pub extern "C" fn suvvokal_maximum_filter(
             out,
             second.len(),
         );
-        return modes::unknown_after(refusal);
+        return codes::unknown_after(refusal);
     }
     min_max::maximum_filter(data, shape, size, mode, origin, second, out)
 }

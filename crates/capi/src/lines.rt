@@ -12,8 +12,7 @@ ghost use Rattle.correlation.specs.Correlated.{correlate1dZ, convolve1dZ, corre
 ghost use Rattle.correlate_judge.specs.Judge.{correlateJudged, correlateJudgedF};
 ghost use Rattle.uniform_judge.specs.Uniform.{uniform1d};
 ghost use Rattle.uniform_judge.specs.Judge.{uniform1dJudged};
-ghost use Rattle.capi.specs.Codes.{modeOf, modeOfF64, unknownBorder, coded};
-use crate::modes;
+ghost use Rattle.codes.specs.Codes.{modeOf, modeOfF64, unknownBorder, coded};
 
 // The sums of each window times the weights, along an axis; the call `correlate1d`.
 //
@@ -40,7 +39,7 @@ pub extern "C" fn suvvokal_correlate1d(
     ensures { λ r. ⌜ Answers (coded (correlateJudged false (borderOf (modeOf code constant)) origin (now (weights .entry)) (now (shape .entry)) axis (now («data» .entry)) (length (now (out .entry)))) (unknownBorder code))
         (correlate1dZ (borderOf (modeOf code constant)) origin (now (weights .entry)) (now (shape .entry)) axis (now («data» .entry))) (now (out .entry)) r (now (out .exit)) ⌝ }
 {
-    let mode = modes::mode_of(code, constant);
+    let mode = codes::mode_of(code, constant);
     if 4 < code {
         let refusal = correlate_judge::judge_correlate(
             data,
@@ -52,7 +51,7 @@ pub extern "C" fn suvvokal_correlate1d(
             false,
             out.len(),
         );
-        return modes::unknown_after(refusal);
+        return codes::unknown_after(refusal);
     }
     correlate1d::correlate1d(data, shape, weights, axis, mode, origin, out)
 }
@@ -73,7 +72,7 @@ pub extern "C" fn suvvokal_convolve1d(
     ensures { λ r. ⌜ Answers (coded (correlateJudged true (borderOf (modeOf code constant)) origin (now (weights .entry)) (now (shape .entry)) axis (now («data» .entry)) (length (now (out .entry)))) (unknownBorder code))
         (convolve1dZ (borderOf (modeOf code constant)) origin (now (weights .entry)) (now (shape .entry)) axis (now («data» .entry))) (now (out .entry)) r (now (out .exit)) ⌝ }
 {
-    let mode = modes::mode_of(code, constant);
+    let mode = codes::mode_of(code, constant);
     if 4 < code {
         let refusal = correlate_judge::judge_correlate(
             data,
@@ -85,7 +84,7 @@ pub extern "C" fn suvvokal_convolve1d(
             true,
             out.len(),
         );
-        return modes::unknown_after(refusal);
+        return codes::unknown_after(refusal);
     }
     correlate1d::convolve1d(data, shape, weights, axis, mode, origin, out)
 }
@@ -106,7 +105,7 @@ pub extern "C" fn suvvokal_correlate1d_f64(
     ensures { λ r. ⌜ Answers (coded (correlateJudgedF false (borderOfF64 (modeOfF64 code constant)) origin (now (weights .entry)) (now (shape .entry)) axis (now («data» .entry)) (length (now (out .entry)))) (unknownBorder code))
         (correlate1dF (borderOfF64 (modeOfF64 code constant)) origin (now (weights .entry)) (now (shape .entry)) axis (now («data» .entry))) (now (out .entry)) r (now (out .exit)) ⌝ }
 {
-    let mode = modes::mode_of_f64(code, constant);
+    let mode = codes::mode_of_f64(code, constant);
     if 4 < code {
         let refusal = correlate_judge::judge_correlate_f64(
             data,
@@ -118,7 +117,7 @@ pub extern "C" fn suvvokal_correlate1d_f64(
             false,
             out.len(),
         );
-        return modes::unknown_after(refusal);
+        return codes::unknown_after(refusal);
     }
     correlate1d_f64::correlate1d_f64(data, shape, weights, axis, mode, origin, out)
 }
@@ -139,7 +138,7 @@ pub extern "C" fn suvvokal_convolve1d_f64(
     ensures { λ r. ⌜ Answers (coded (correlateJudgedF true (borderOfF64 (modeOfF64 code constant)) origin (now (weights .entry)) (now (shape .entry)) axis (now («data» .entry)) (length (now (out .entry)))) (unknownBorder code))
         (convolve1dF (borderOfF64 (modeOfF64 code constant)) origin (now (weights .entry)) (now (shape .entry)) axis (now («data» .entry))) (now (out .entry)) r (now (out .exit)) ⌝ }
 {
-    let mode = modes::mode_of_f64(code, constant);
+    let mode = codes::mode_of_f64(code, constant);
     if 4 < code {
         let refusal = correlate_judge::judge_correlate_f64(
             data,
@@ -151,7 +150,7 @@ pub extern "C" fn suvvokal_convolve1d_f64(
             true,
             out.len(),
         );
-        return modes::unknown_after(refusal);
+        return codes::unknown_after(refusal);
     }
     correlate1d_f64::convolve1d_f64(data, shape, weights, axis, mode, origin, out)
 }
@@ -179,10 +178,10 @@ pub extern "C" fn suvvokal_uniform_filter1d(
     ensures { λ r. ⌜ Answers (coded (uniform1dJudged (borderOf (modeOf code constant)) size (now (shape .entry)) axis (now («data» .entry)) (length (now (out .entry)))) (unknownBorder code))
         (uniform1d (borderOf (modeOf code constant)) size (now (shape .entry)) axis (now («data» .entry))) (now (out .entry)) r (now (out .exit)) ⌝ }
 {
-    let mode = modes::mode_of(code, constant);
+    let mode = codes::mode_of(code, constant);
     if 4 < code {
         let refusal = uniform_judge::judge_uniform1d(data, shape, size, axis, mode, out.len());
-        return modes::unknown_after(refusal);
+        return codes::unknown_after(refusal);
     }
     uniform::uniform_filter1d(data, shape, size, axis, mode, out)
 }
@@ -212,10 +211,10 @@ pub extern "C" fn suvvokal_minimum_filter1d(
     ensures { λ r. ⌜ Answers (coded (callJudged (now («data» .entry)) (callOf (now (shape .entry)) size axis (modeOf code constant) origin (now (out .entry)))) (unknownBorder code))
         (answerOf leZ (now («data» .entry)) (callOf (now (shape .entry)) size axis (modeOf code constant) origin (now (out .entry)))) (now (out .entry)) r (now (out .exit)) ⌝ }
 {
-    let mode = modes::mode_of(code, constant);
+    let mode = codes::mode_of(code, constant);
     if 4 < code {
         let refusal = filter_judge::judge_call(data, shape, size, axis, mode, origin, out);
-        return modes::unknown_after(refusal);
+        return codes::unknown_after(refusal);
     }
     min_max1d::minimum_filter1d(data, shape, size, axis, mode, origin, out)
 }
@@ -235,10 +234,10 @@ pub extern "C" fn suvvokal_maximum_filter1d(
     ensures { λ r. ⌜ Answers (coded (callJudged (now («data» .entry)) (callOf (now (shape .entry)) size axis (modeOf code constant) origin (now (out .entry)))) (unknownBorder code))
         (answerOf atLeast (now («data» .entry)) (callOf (now (shape .entry)) size axis (modeOf code constant) origin (now (out .entry)))) (now (out .entry)) r (now (out .exit)) ⌝ }
 {
-    let mode = modes::mode_of(code, constant);
+    let mode = codes::mode_of(code, constant);
     if 4 < code {
         let refusal = filter_judge::judge_call(data, shape, size, axis, mode, origin, out);
-        return modes::unknown_after(refusal);
+        return codes::unknown_after(refusal);
     }
     min_max1d::maximum_filter1d(data, shape, size, axis, mode, origin, out)
 }

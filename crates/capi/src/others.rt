@@ -2,12 +2,11 @@
 ghost use mathlib.Core.Path.{_≡_};
 ghost use lib.ListN.{length};
 ghost use Rattle.numbers.specs.Refusal.{Answers};
-ghost use Rattle.median_row.specs.Around.{medianAnswer};
+ghost use Rattle.median_mask.specs.Around.{medianAnswer};
 ghost use Rattle.median.specs.Judge.{medianJudged};
 ghost use Rattle.symmetry.specs.Class.{classZ, classF};
-ghost use Rattle.capi.specs.Codes.{kernelOf, unknownKernel, coded, codeOf};
-ghost use Rattle.capi.specs.Cells.{kernelCells, cellsJudged};
-use crate::modes;
+ghost use Rattle.codes.specs.Codes.{kernelOf, unknownKernel, coded, codeOf};
+ghost use Rattle.codes.specs.Cells.{kernelCells, cellsJudged};
 use kernel3d::Kernel3d;
 
 // The median of each cell and its neighbours on three axes; the call `median_filter`.
@@ -34,7 +33,7 @@ pub extern "C" fn suvvokal_median_filter(mask: &[bool], shape: &[usize], out: &m
 pub extern "C" fn suvvokal_symmetry_state_i64(weights: &[i64]) -> u8
     ensures { λ r. ⌜ r ≡ codeOf (classZ (now (weights .entry))) ⌝ }
 {
-    modes::code_of(symmetry::symmetry_state_i64(weights))
+    codes::code_of(symmetry::symmetry_state_i64(weights))
 }
 
 // As `suvvokal_symmetry_state_i64`, of float weights: a pair differs by more than 2^-52. Refuses nothing. Of 0, 1 and 2^-53 it is 1.
@@ -42,7 +41,7 @@ pub extern "C" fn suvvokal_symmetry_state_i64(weights: &[i64]) -> u8
 pub extern "C" fn suvvokal_symmetry_state_f64(weights: &[f64]) -> u8
     ensures { λ r. ⌜ r ≡ codeOf (classF (now (weights .entry))) ⌝ }
 {
-    modes::code_of(symmetry::symmetry_state_f64(weights))
+    codes::code_of(symmetry::symmetry_state_f64(weights))
 }
 
 // Fills 27 cells with a kernel, the last axis fastest.
@@ -73,8 +72,8 @@ pub extern "C" fn suvvokal_kernel3d(code: u8, out: &mut [bool]) -> u8
         return numbers::LENGTH;
     }
     if 2 < code {
-        return modes::UNKNOWN;
+        return codes::UNKNOWN;
     }
-    fill_kernel(modes::kernel_of(code), out);
+    fill_kernel(codes::kernel_of(code), out);
     numbers::ACCEPTED
 }

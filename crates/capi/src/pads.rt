@@ -5,9 +5,8 @@ ghost use Rattle.numbers.specs.Refusal.{Answers};
 ghost use Rattle.pad_judge.specs.Conditions.{padJudged};
 ghost use Rattle.pad_judge.specs.Levels.{paddedGrid, paddedOver};
 ghost use Rattle.pad_judge.specs.Pads.{leftsOf, rightsOf};
-ghost use Rattle.capi.specs.Codes.{padModeOf, unknownPad, coded};
-ghost use Rattle.capi.specs.Cells.{pairAt, pairsOf};
-use crate::modes;
+ghost use Rattle.codes.specs.Codes.{padModeOf, unknownPad, coded};
+ghost use Rattle.codes.specs.Cells.{pairAt, pairsOf};
 use pad_judge::Pair;
 
 // The number at a place, and 0 past the end. Of 5 6 place 1 has 6 and place 2 has 0.
@@ -65,11 +64,11 @@ pub extern "C" fn suvvokal_pad(
     ensures { λ r. ⌜ Answers (coded (padJudged (padModeOf code constant) (now (shape .entry)) (pairsOf (now (lefts .entry)) (now (rights .entry))) count (now («data» .entry)) (length (now (out .entry)))) (unknownPad code))
         (paddedGrid (padModeOf code constant) (now (shape .entry)) (leftsOf (now (shape .entry)) (pairsOf (now (lefts .entry)) (now (rights .entry))) count) (rightsOf (now (shape .entry)) (pairsOf (now (lefts .entry)) (now (rights .entry))) count) (now («data» .entry))) (now (out .entry)) r (now (out .exit)) ⌝ }
 {
-    let mode = modes::pad_mode_of(code, constant);
+    let mode = codes::pad_mode_of(code, constant);
     let pairs = pairs_of(lefts, rights);
     if 8 < code {
         let refusal = pad_judge::judge(data, shape, pairs, count, mode, out.len());
-        return modes::unknown_after(refusal);
+        return codes::unknown_after(refusal);
     }
     pad::pad(data, shape, pairs, count, mode, out)
 }
@@ -90,11 +89,11 @@ pub extern "C" fn suvvokal_pad_to(
     ensures { λ r. ⌜ Answers (coded (padJudged (padModeOf code constant) (now (shape .entry)) (pairsOf (now (lefts .entry)) (now (rights .entry))) count (now («data» .entry)) (length (now (out .entry)))) (unknownPad code))
         (paddedOver (padModeOf code constant) (now (shape .entry)) (leftsOf (now (shape .entry)) (pairsOf (now (lefts .entry)) (now (rights .entry))) count) (rightsOf (now (shape .entry)) (pairsOf (now (lefts .entry)) (now (rights .entry))) count) (now («data» .entry)) (now (out .entry))) (now (out .entry)) r (now (out .exit)) ⌝ }
 {
-    let mode = modes::pad_mode_of(code, constant);
+    let mode = codes::pad_mode_of(code, constant);
     let pairs = pairs_of(lefts, rights);
     if 8 < code {
         let refusal = pad_judge::judge(data, shape, pairs, count, mode, out.len());
-        return modes::unknown_after(refusal);
+        return codes::unknown_after(refusal);
     }
     pad::pad_to(data, shape, pairs, count, mode, out)
 }

@@ -27,13 +27,13 @@ fn rows() {
     uniform_line::rows();
     uniform_judge::rows();
     uniform::rows();
-    median_row::rows();
+    median_mask::rows();
     median::rows();
     text::rows();
     text::reads_back();
     text_f64::rows();
     text_f64::reads_back_f64();
-    capi::rows();
+    codes::rows();
 }
 
 fn main() {

@@ -17,8 +17,8 @@ use Rattle.numbers.proofs.Tests.{or-false}
 use Rattle.array.specs.Conditions.{badShape, badLength}
 use Rattle.array.specs.Grid.{cellCount, lengthOf}
 use Rattle.array.proofs.Shapes.{Accepted, shape-accepted, count-accepted, length-judged}
-use Rattle.median_row.specs.Around.{medianAnswer}
-use Rattle.median_row.specs.ByRows.{Laid}
+use Rattle.median_mask.specs.Around.{medianAnswer}
+use Rattle.median_mask.specs.ByRows.{Laid}
 use Rattle.median.specs.Judge.{badSingle, medianJudged}
 
 -- ---- three axes

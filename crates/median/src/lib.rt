@@ -2,7 +2,7 @@
 ghost use mathlib.Core.Path.{_≡_};
 ghost use lib.ListN.{length};
 ghost use Rattle.numbers.specs.Refusal.{refusalOf, Answers};
-ghost use Rattle.median_row.specs.Around.{medianAnswer};
+ghost use Rattle.median_mask.specs.Around.{medianAnswer};
 ghost use Rattle.median.specs.Judge.{badAxes, badSingle, medianJudged};
 ghost use Rattle.median.specs.Rows.{MedianRows};
 

@@ -1,18 +1,12 @@
-// The median of a mask, row by row: how many rows around are true at each place of a row, then the votes along it.
+// The median of a mask, row by row: how many rows around are true at each place of a row, then the votes along it (`median_votes`).
 ghost use mathlib.Core.Path.{_≡_};
 ghost use mathlib.Core.Bool.{false};
 ghost use mathlib.Core.List.{[], _∷_};
-ghost use Prim.Native.Nat.{_+_, _-_, _*_, _≤_, _<_, min};
+ghost use Prim.Native.Nat.{_+_, _*_, _≤_, _<_, min};
 ghost use lib.ListN.{length, getD};
-ghost use Rattle.median_row.specs.Around.{one, medianAnswer};
-ghost use Rattle.median_row.specs.ByRows.{spanOf, planeCount, columnCount, Reaches, Room, added, votedAt, Counted, setRow, medianOf, Laid, Blank};
-ghost use Rattle.median_row.specs.Rows.{MedianRowRows};
-
-// The coordinates from `from` to `to`, `to` not included.
-pub struct Span {
-    pub from: usize,
-    pub to: usize,
-}
+ghost use Rattle.median_mask.specs.Around.{one, medianAnswer};
+ghost use Rattle.median_mask.specs.ByRows.{spanOf, planeCount, columnCount, Reaches, Room, added, setRow, medianOf, Laid, Blank};
+use median_mask::Span;
 
 // One past the last coordinate around cell i, inside an axis of n cells.
 fn past_around(n: usize, i: usize) -> usize
@@ -79,24 +73,6 @@ fn add_planes(mask: &[bool], rows: usize, xs: Span, ys: Span, counts: &mut [u8])
     }
 }
 
-// Sets the places from a on, one for each count, to the votes of m rows around.
-fn vote_row(counts: &[u8], m: u8, a: usize, out: &mut [bool])
-    requires { ⌜ Counted (now counts) m × (a + length (now counts) ≤ length (now out)) × (length (now out) ≤ 8192) ⌝ }
-    ensures { λ _. ⌜ now (out .exit) ≡ setRow a (length (now (counts .entry))) (λ k. votedAt (now (counts .entry)) m (k - a)) (now (out .entry)) ⌝ }
-{
-    let inner = counts.len() - 2;
-    let at_end = (m * 2 - 1) / 2;
-    let inside = (m * 3 - 1) / 2;
-    out[a] = at_end < counts[0] + counts[1];
-    let b = a + 1;
-    let mut i = 0;
-    while i < inner {
-        out[b + i] = inside < counts[i] + counts[i + 1] + counts[i + 2];
-        i += 1;
-    }
-    out[b + i] = at_end < counts[i] + counts[i + 1];
-}
-
 // Sets row r of out to its medians; counts is a buffer of zeros, as long as a row.
 fn median_row(
     mask: &[bool],
@@ -114,7 +90,7 @@ fn median_row(
     add_planes(mask, rows, xs, ys, counts);
     let m = (xs.to - xs.from) * (ys.to - ys.from);
     let a = r * counts.len();
-    vote_row(counts, m as u8, a, out);
+    median_votes::vote_row(counts, m as u8, a, out);
 }
 
 // The same, with a buffer of its own.
@@ -138,8 +114,3 @@ pub fn median_rows(mask: &[bool], planes: usize, rows: usize, n: usize, out: &mu
         r += 1;
     }
 }
-
-// Worked rows of this crate's definitions. Refuses nothing.
-pub fn rows()
-    ensures { λ _. ⌜ MedianRowRows ⌝ }
-{}

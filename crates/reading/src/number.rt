@@ -58,7 +58,7 @@ pub fn read_count(input: &mut [u8], token: &mut [u8], c: Cursor) -> Count {
     if here.fault != 0 {
         return Count { n: 0, c: here };
     }
-    match text::read_unsigned(shown(token, here.len)) {
+    match read_text::read_unsigned(shown(token, here.len)) {
         Unsigned::Is(n) => Count {
             n: n as usize,
             c: here,
@@ -83,7 +83,7 @@ pub fn read_level(input: &mut [u8], token: &mut [u8], c: Cursor) -> Level {
     if here.fault != 0 {
         return Level { z: 0, c: here };
     }
-    match text::read_signed(shown(token, here.len)) {
+    match read_text::read_signed(shown(token, here.len)) {
         Signed::Is(z) => Level { z, c: here },
         Signed::Not => Level {
             z: 0,

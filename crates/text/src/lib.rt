@@ -1,12 +1,5 @@
-// Whole numbers as text in ASCII: reading a token, writing digits.
-mod read;
-mod write;
-
-pub use read::numeral;
-pub use read::read_signed;
-pub use read::read_unsigned;
-pub use write::spell;
-pub use write::write_signed;
+// Whole numbers as text in ASCII: what a token is, and which digits a number has: the definitions and their laws.
+// `read_text` and `write_text` have the code.
 ghost use Rattle.text.specs.Back.{ReadsBack};
 ghost use Rattle.text.specs.Rows.{TextRows};
 

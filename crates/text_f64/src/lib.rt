@@ -71,7 +71,7 @@ pub fn read_float(token: &[u8]) -> Token
     if token.len() != 16 {
         return Token::Not;
     }
-    pattern(text::numeral(16, token))
+    pattern(read_text::numeral(16, token))
 }
 
 // Writes a float at the front of out, and answers how many bytes it took.
@@ -91,7 +91,7 @@ pub fn write_float(x: f64, out: &mut [u8]) -> usize
         out[2] = 110;
         return 3;
     }
-    text::spell(f64::to_bits(x), 16, 16, out);
+    write_text::spell(f64::to_bits(x), 16, 16, out);
     16
 }
 

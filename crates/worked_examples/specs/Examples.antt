@@ -29,7 +29,7 @@ use Rattle.correlation.specs.Correlated.{correlate1dZ, convolve1dZ}
 use Rattle.correlation.specs.Kernel.{correlateZ}
 use Rattle.gradient_judge.specs.Gradient.{sobelWeights, gradient}
 use Rattle.uniform_judge.specs.Uniform.{uniform1d}
-use Rattle.median_row.specs.Around.{one, medianAnswer}
+use Rattle.median_mask.specs.Around.{one, medianAnswer}
 
 abbrev pub padded : PadMode → ℕ → ℕ → List ℤ → List ℤ
 padded mode left right cells =

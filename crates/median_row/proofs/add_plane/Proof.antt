@@ -4,9 +4,9 @@ use mathlib.Core.Path.{sym, _∙_}
 use Prim.Native.Nat.{_+_, _-_, _*_, _<_}
 use native.Mathlib.Omega.{arith}
 use lib.ListN.{length}
-use Rattle.median_row.specs.ByRows.{cellOf}
-use Rattle.median_row.proofs.Reach.{rows-few, row-in, row-small, part-long, part-room, part-added}
-use Rattle.median_row.proofs.Adding.{Adding, adding-none, adding-room, adding-more, adding-all}
+use Rattle.median_mask.specs.ByRows.{cellOf}
+use Rattle.median_mask.proofs.Reach.{rows-few, row-in, row-small, part-long, part-room, part-added}
+use Rattle.median_mask.proofs.Adding.{Adding, adding-none, adding-room, adding-more, adding-all}
 use borrow.Author.Needs.{needs}
 use Rattle.median_row.proofs.add_plane.Statement.{statement}
 use Rattle.median_row.proofs.add_plane.Tie as tie

@@ -5,9 +5,9 @@ use Prim.Native.Nat.{ℕ, _+_, _-_, _*_}
 use native.Mathlib.Omega.{arith}
 use denote.Ref.{now}
 use lib.ListN.{length}
-use Rattle.median_row.specs.ByRows.{planeCount, Reaches, Room, added}
-use Rattle.median_row.proofs.Reach.{planes-few, plane-reaches}
-use Rattle.median_row.proofs.Adding.{Adding, adding-none, adding-room, adding-more, adding-all}
+use Rattle.median_mask.specs.ByRows.{planeCount, Reaches, Room, added}
+use Rattle.median_mask.proofs.Reach.{planes-few, plane-reaches}
+use Rattle.median_mask.proofs.Adding.{Adding, adding-none, adding-room, adding-more, adding-all}
 use borrow.Author.Needs.{needs}
 use Rattle.median_row.proofs.add_planes.Statement.{statement}
 use Rattle.median_row.proofs.add_planes.Tie as tie

@@ -7,7 +7,7 @@ use denote.Ref.{now}
 use lib.Dec.{ltb}
 use lib.ListN.{length}
 use Rattle.numbers.proofs.Stored.{Stored, front-none, front-all}
-use Rattle.median_row.proofs.Adding.{plus, count-fits, added-more}
+use Rattle.median_mask.proofs.Adding.{plus, count-fits, added-more}
 use borrow.Author.Needs.{needs}
 use Rattle.median_row.proofs.add_row.Statement.{statement}
 use Rattle.median_row.proofs.add_row.Tie as tie

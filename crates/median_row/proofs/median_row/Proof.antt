@@ -3,8 +3,8 @@
 use Prim.Native.Nat.{_-_}
 use native.Mathlib.Omega.{arith}
 use denote.Ref.{now}
-use Rattle.median_row.proofs.Spans.{planes-small, rows-small, plane-below, row-below}
-use Rattle.median_row.proofs.Row.{row-adds, planes-ordered, rows-ordered, rows-nine, voted-room, row-counted, row-voted}
+use Rattle.median_mask.proofs.Spans.{planes-small, rows-small, plane-below, row-below}
+use Rattle.median_mask.proofs.Row.{row-adds, planes-ordered, rows-ordered, rows-nine, voted-room, row-counted, row-voted}
 use borrow.Author.Needs.{needs}
 use Rattle.median_row.proofs.median_row.Statement.{statement}
 use Rattle.median_row.proofs.median_row.Tie as tie

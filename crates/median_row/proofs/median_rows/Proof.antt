@@ -6,9 +6,9 @@ use Prim.Native.Nat.{_-_, _*_, _≤_}
 use native.Mathlib.Omega.{arith}
 use lib.Dec.{ltb}
 use Rattle.numbers.proofs.Stored.{Stored}
-use Rattle.median_row.specs.ByRows.{medianOf}
-use Rattle.median_row.proofs.Spans.{rows-count}
-use Rattle.median_row.proofs.EveryRow.{rows-none, rows-more, rows-all}
+use Rattle.median_mask.specs.ByRows.{medianOf}
+use Rattle.median_mask.proofs.Spans.{rows-count}
+use Rattle.median_mask.proofs.EveryRow.{rows-none, rows-more, rows-all}
 use borrow.Author.Needs.{needs}
 use Rattle.median_row.proofs.median_rows.Statement.{statement}
 use Rattle.median_row.proofs.median_rows.Tie as tie

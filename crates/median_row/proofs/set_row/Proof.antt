@@ -4,8 +4,8 @@ use mathlib.Core.Path.{sym, ap, subst, _∙_}
 use Prim.Native.Nat.{ℕ, _*_}
 use denote.Ref.{now}
 use lib.Seq.{length-take-le}
-use Rattle.median_row.specs.ByRows.{setRow, medianOf, Laid}
-use Rattle.median_row.proofs.Spans.{blank-part}
+use Rattle.median_mask.specs.ByRows.{setRow, medianOf, Laid}
+use Rattle.median_mask.proofs.Spans.{blank-part}
 use borrow.Author.Needs.{needs}
 use Rattle.median_row.proofs.set_row.Statement.{statement}
 use Rattle.median_row.proofs.set_row.Tie as tie

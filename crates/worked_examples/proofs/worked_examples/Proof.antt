@@ -23,7 +23,7 @@ use Rattle.correlation.specs.Weighed.{summed}
 use Rattle.correlation.specs.Correlated.{correlatedBy}
 use Rattle.correlation.specs.Kernel.{kernelSum, kernelAnswer}
 use Rattle.gradient_judge.specs.Gradient.{gradientTo}
-use Rattle.median_row.specs.Around.{one, cellsAround, trueAround, medianAnswer}
+use Rattle.median_mask.specs.Around.{one, cellsAround, trueAround, medianAnswer}
 use Rattle.worked_examples.specs.Examples.{WorkedExamples}
 use borrow.Author.Needs.{needs}
 use Rattle.worked_examples.proofs.worked_examples.Statement.{statement}

@@ -4,7 +4,7 @@ use mathlib.Core.Path.{_≡_}
 use mir.Syntax.{w64}
 use mir.Val.{toZ, ofZ}
 use borrow.Author.Needs.{needs}
-use Rattle.capi.proofs.Coded.{answers-known, answers-unknown}
+use Rattle.codes.proofs.Coded.{answers-known, answers-unknown}
 use Rattle.capi.proofs.grids.suvvokal_convolve.Statement.{statement}
 use Rattle.capi.proofs.grids.suvvokal_convolve.Tie as tie
 

@@ -5,7 +5,7 @@ use mir.Syntax.{w64}
 use mir.Val.{toZ, ofZ}
 use borrow.Author.Needs.{needs}
 use Rattle.gradient_judge.specs.Gradient.{sobelWeights}
-use Rattle.capi.proofs.Coded.{two-known, two-unknown}
+use Rattle.codes.proofs.Coded.{two-known, two-unknown}
 use Rattle.capi.proofs.grids.suvvokal_sobel.Statement.{statement}
 use Rattle.capi.proofs.grids.suvvokal_sobel.Tie as tie
 

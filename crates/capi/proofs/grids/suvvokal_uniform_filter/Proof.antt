@@ -4,7 +4,7 @@ use mathlib.Core.Path.{_≡_}
 use mir.Syntax.{w64}
 use mir.Val.{toZ, ofZ}
 use borrow.Author.Needs.{needs}
-use Rattle.capi.proofs.Coded.{two-known, two-unknown}
+use Rattle.codes.proofs.Coded.{two-known, two-unknown}
 use Rattle.capi.proofs.grids.suvvokal_uniform_filter.Statement.{statement}
 use Rattle.capi.proofs.grids.suvvokal_uniform_filter.Tie as tie
 

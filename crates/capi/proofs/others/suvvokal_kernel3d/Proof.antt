@@ -4,9 +4,9 @@ use mathlib.Core.Path.{refl, ap, _∙_}
 use denote.Ref.{now}
 use borrow.Author.Tests.{eq-eqb, ne-eqb}
 use lib.ListN.{length}
-use Rattle.capi.specs.Codes.{coded}
-use Rattle.capi.specs.Cells.{kernelCells}
-use Rattle.capi.proofs.Coded.{answers-known, answers-unknown}
+use Rattle.codes.specs.Codes.{coded}
+use Rattle.codes.specs.Cells.{kernelCells}
+use Rattle.codes.proofs.Coded.{answers-known, answers-unknown}
 use borrow.Author.Needs.{needs}
 use Rattle.capi.proofs.others.suvvokal_kernel3d.Statement.{statement}
 use Rattle.capi.proofs.others.suvvokal_kernel3d.Tie as tie

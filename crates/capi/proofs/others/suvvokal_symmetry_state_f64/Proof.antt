@@ -2,7 +2,7 @@
 -- Assumes nothing.
 use mathlib.Core.Path.{ap, _∙_}
 use borrow.Author.Needs.{needs}
-use Rattle.capi.specs.Codes.{codeOf}
+use Rattle.codes.specs.Codes.{codeOf}
 use Rattle.capi.proofs.others.suvvokal_symmetry_state_f64.Statement.{statement}
 use Rattle.capi.proofs.others.suvvokal_symmetry_state_f64.Tie as tie
 

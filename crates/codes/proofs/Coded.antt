@@ -1,0 +1,63 @@
+-- A call whose border or mode is a code: under a known code the library's answers stand as they are, and an unknown one gets the judge's number,
+-- or 100, and nothing that was lent changes. n is the greatest code that names something.
+-- Assumes nothing.
+use mathlib.Core.Path.{_≡_, refl, sym, ap, _∙_}
+use mathlib.Core.Bool.{Bool, true, false, cond}
+use mathlib.Core.List.{List, [], _∷_}
+use Prim.Native.Nat.{ℕ, _≤_, _<_}
+use native.Mathlib.Omega.{arith}
+use borrow.Author.Tests.{lt-ltb, le-ltb, eqb-false, ne-eqb}
+use lib.Dec.{T, eqb, ltb}
+use lib.IntN.{ℤ, pos}
+use lib.ListN.{length, replicate}
+use Rattle.numbers.specs.Lists.{Every}
+use Rattle.numbers.specs.Refusal.{Judged, refusalOf, Answers}
+use Rattle.numbers.proofs.Refusal.{judged-append}
+use Rattle.numbers.proofs.Tests.{cond-yes, cond-no}
+use Rattle.codes.specs.Codes.{coded, TwoAnswers}
+
+-- a last condition that does not hold changes no number
+number-known : (js : Judged) (u : Bool) → u ≡ false → refusalOf js ≡ refusalOf (coded js u)
+unfolding coded
+number-known [] u e = sym (cond-no u 100 0 e)
+number-known (j ∷ js) u e = ap (cond (j .0) (j .1)) (number-known js u e)
+
+-- one that holds gives 100 where no other does
+number-unknown : (js : Judged) (u : Bool) → Every (λ j. T (ltb 0 (j .1))) js → {q r : ℕ} → q ≡ refusalOf js → r ≡ cond (eqb q 0) 100 q → u ≡ true
+    → r ≡ refusalOf (coded js u)
+unfolding coded
+number-unknown js u p e f h =
+    let n = refusalOf js in
+    f ∙ ap (λ x. cond (eqb x 0) 100 x) e ∙ ap (λ x. cond (eqb n 0) x n) (sym (cond-yes u 100 0 h)) ∙ sym (judged-append js ((u, 100) ∷ []) p)
+
+-- and never 0
+never-accepted : (q : ℕ) {r : ℕ} → r ≡ cond (eqb q 0) 100 q → r ≡ 0 → ⊥
+never-accepted q f z = go (eqb q 0) refl (sym f ∙ z)
+  where
+    hundred : _≡_ {A = ℕ} 100 0 → ⊥
+    hundred e = omega arith
+
+    go : (t : Bool) → eqb q 0 ≡ t → cond t 100 q ≡ 0 → ⊥
+    go true e = hundred
+    go false e = eqb-false q 0 e
+
+module _ {A : Type 0} (js : Judged) {levels held : List A} (n : ℕ) {code : ℕ} where
+  pub answers-known : {r : ℕ} {left : List A} → code ≤ n → Answers js levels held r left → Answers (coded js (ltb n code)) levels held r left
+  answers-known h a = record { number = a .number ∙ number-known js (ltb n code) (le-ltb n code h); cells = a .cells }
+
+  pub answers-unknown : (q : ℕ) {r : ℕ} → Every (λ j. T (ltb 0 (j .1))) js → n < code → q ≡ refusalOf js → r ≡ cond (eqb q 0) 100 q
+      → Answers (coded js (ltb n code)) levels held r held
+  answers-unknown q {r} p h e f = record {
+    number = number-unknown js (ltb n code) p e f (lt-ltb n code h);
+    cells = sym (cond-no (eqb r 0) levels held (ne-eqb r 0 (never-accepted q f)));
+  }
+
+-- the same of both lent grids
+module _ (js : Judged) {levels second out : List ℤ} (n : ℕ) {code : ℕ} where
+  pub two-known : {r : ℕ} {second′ out′ : List ℤ} → code ≤ n → Answers js levels out r out′ → Answers js (replicate (length second) (pos 0)) second r second′
+      → TwoAnswers (coded js (ltb n code)) levels second out r second′ out′
+  two-known h a b = record { filled = answers-known js n h a; cleared = answers-known js n h b }
+
+  pub two-unknown : (q : ℕ) {r : ℕ} → Every (λ j. T (ltb 0 (j .1))) js → n < code → q ≡ refusalOf js → r ≡ cond (eqb q 0) 100 q
+      → TwoAnswers (coded js (ltb n code)) levels second out r second out
+  two-unknown q p h e f = record { filled = answers-unknown js n q p h e f; cleared = answers-unknown js n q p h e f }

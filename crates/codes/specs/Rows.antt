@@ -1,0 +1,57 @@
+-- Worked rows of codes: what each names, codes that name nothing, and the number that these get. Each holds by computing.
+--   CapiRows   the rows
+use mathlib.Core.Path.{_≡_}
+use mathlib.Core.Bool.{true, false}
+use mathlib.Core.List.{[], _∷_}
+use lib.IntN.{pos}
+use Rattle.numbers.specs.Refusal.{refusalOf}
+use Rattle.border.specs.declared.BorderMode.the-variants as Whole
+use Rattle.border.specs.declared.BorderModeF64.the-variants as F64
+use Rattle.border.specs.declared.PadMode.the-variants as Pad
+use Rattle.symmetry.specs.Class.{classZ}
+use Rattle.codes.specs.Codes.{modeOf, modeOfF64, padModeOf, kernelOf, unknownBorder, unknownPad, unknownKernel, coded, codeOf}
+use Rattle.codes.specs.Cells.{pairsOf, kernelCells}
+use lib.Ieee.{nan}
+
+pub record CapiRows : Type 0 where
+  -- the borders in the order of their codes; 5 and 255 name none
+  pub border-0 : modeOf 0 (pos 7) ≡ Whole.Constant (pos 7)
+  pub border-1 : modeOf 1 (pos 7) ≡ Whole.Mirror
+  pub border-2 : modeOf 2 (pos 7) ≡ Whole.Nearest
+  pub border-3 : modeOf 3 (pos 7) ≡ Whole.Reflect
+  pub border-4 : modeOf 4 (pos 7) ≡ Whole.Wrap
+  pub border-5 : modeOf 5 (pos 7) ≡ Whole.Nearest
+  pub known-4 : unknownBorder 4 ≡ false
+  pub unknown-5 : unknownBorder 5 ≡ true
+  pub unknown-255 : unknownBorder 255 ≡ true
+  -- float borders have the same codes
+  pub float-1 : modeOfF64 1 nan ≡ F64.Mirror
+  pub float-2 : modeOfF64 2 nan ≡ F64.Nearest
+  pub float-3 : modeOfF64 3 nan ≡ F64.Reflect
+  pub float-4 : modeOfF64 4 nan ≡ F64.Wrap
+  -- the padding modes
+  pub pad-0 : padModeOf 0 (pos 7) ≡ Pad.Constant (pos 7)
+  pub pad-1 : padModeOf 1 (pos 7) ≡ Pad.Edge
+  pub pad-2 : padModeOf 2 (pos 7) ≡ Pad.Maximum
+  pub pad-3 : padModeOf 3 (pos 7) ≡ Pad.Mean
+  pub pad-4 : padModeOf 4 (pos 7) ≡ Pad.Median
+  pub pad-5 : padModeOf 5 (pos 7) ≡ Pad.Minimum
+  pub pad-6 : padModeOf 6 (pos 7) ≡ Pad.Reflect
+  pub pad-7 : padModeOf 7 (pos 7) ≡ Pad.Symmetric
+  pub pad-8 : padModeOf 8 (pos 7) ≡ Pad.Wrap
+  pub pad-9 : unknownPad 9 ≡ true
+  -- an unknown code is judged last: 11 before 100
+  pub judged-last : refusalOf (coded ((false, 9) ∷ (true, 11) ∷ []) true) ≡ 11
+  pub judged-alone : refusalOf (coded ((false, 9) ∷ (false, 11) ∷ []) true) ≡ 100
+  pub judged-known : refusalOf (coded ((false, 9) ∷ (false, 11) ∷ []) false) ≡ 0
+  -- pads past the end of a slice are 0
+  pub pairs : pairsOf (1 ∷ []) (2 ∷ 3 ∷ []) ≡ record { left = 1; right = 2 } ∷ record { left = 0; right = 3 } ∷ record { left = 0; right = 0 } ∷ []
+  -- the star: a cross of five in the middle plane, one cell before it and one after
+  pub star : kernelCells (kernelOf 0)
+      ≡ false ∷ false ∷ false ∷ false ∷ true ∷ false ∷ false ∷ false ∷ false
+      ∷ false ∷ true ∷ false ∷ true ∷ true ∷ true ∷ false ∷ true ∷ false
+      ∷ false ∷ false ∷ false ∷ false ∷ true ∷ false ∷ false ∷ false ∷ false ∷ []
+  pub kernel-3 : unknownKernel 3 ≡ true
+  -- 1 2 1 is Symmetric, 1 2 −1 AntiSymmetric, 1 2 neither
+  pub class-1 : codeOf (classZ (pos 1 ∷ pos 2 ∷ pos 1 ∷ [])) ≡ 1
+  pub class-0 : codeOf (classZ (pos 1 ∷ pos 2 ∷ [])) ≡ 0
