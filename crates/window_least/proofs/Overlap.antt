@@ -12,7 +12,8 @@ use lib.ListN.{length, getD}
 use Rattle.numbers.specs.Order.{Total, least}
 use Rattle.numbers.specs.Windows.{windowOf}
 use Rattle.numbers.proofs.Index.{getD-mem, mem-getD}
-use Rattle.numbers.proofs.Least.{lesser-left, lesser-right, least-bound, least-occurs, least-unique-at}
+use Rattle.numbers.proofs.Least.{least-bound, least-occurs, least-unique-at}
+use Rattle.numbers.proofs.Lesser.{lesser-left, lesser-right}
 use Rattle.numbers.proofs.Tests.{cond-ind}
 use Rattle.numbers.proofs.Window.{length-window, getD-window}
 
