@@ -54,9 +54,10 @@ fn fill_lane(
     p: usize,
     s: usize,
     lane: usize,
+    line: &mut [i64],
     out: &mut [i64],
 )
-    requires { ⌜ Filling mode (now shape) (now lefts) (now padded) × (axis < length (now shape)) × (length (now out) ≡ cellCount (now padded)) × (p ≡ lengthOf (now padded) axis) × (s ≡ strideOf (now padded) axis) × (lane < cellCount (now padded) / p) ⌝ }
+    requires { ⌜ Filling mode (now shape) (now lefts) (now padded) × (axis < length (now shape)) × (length (now line) ≡ 1152) × (length (now out) ≡ cellCount (now padded)) × (p ≡ lengthOf (now padded) axis) × (s ≡ strideOf (now padded) axis) × (lane < cellCount (now padded) / p) ⌝ }
     ensures { λ _. ⌜ now (out .exit) ≡ cond (middleFrom (now (shape .entry)) (now (lefts .entry)) (suc axis) (coordinate (now (padded .entry)) (laneBase p s lane))) (filledLane mode p s lane (getD (now (lefts .entry)) axis 0) (lengthOf (now (shape .entry)) axis) (now (out .entry))) (now (out .entry)) ⌝ }
 {
     let first = lanes::first_place(out.len(), p, s, lane);
@@ -70,6 +71,7 @@ fn fill_lane(
         lane,
         lefts[axis],
         shapes::len_of(shape, axis),
+        line,
         out,
     );
 }
@@ -81,9 +83,10 @@ fn fill_axis(
     lefts: &[usize],
     padded: &[usize],
     axis: usize,
+    line: &mut [i64],
     out: &mut [i64],
 )
-    requires { ⌜ Filling mode (now shape) (now lefts) (now padded) × (axis < length (now shape)) × (length (now out) ≡ cellCount (now padded)) ⌝ }
+    requires { ⌜ Filling mode (now shape) (now lefts) (now padded) × (axis < length (now shape)) × (length (now line) ≡ 1152) × (length (now out) ≡ cellCount (now padded)) ⌝ }
     ensures { λ _. ⌜ Fills mode (now (shape .entry)) (now (lefts .entry)) (now (padded .entry)) axis (suc axis) (now (out .entry)) (now (out .exit)) ⌝ }
 {
     let p = shapes::len_of(padded, axis);
@@ -95,8 +98,27 @@ fn fill_axis(
     let count = out.len() / p;
     let mut lane = 0;
     while lane < count {
-        fill_lane(mode, shape, lefts, padded, axis, p, s, lane, out);
+        fill_lane(mode, shape, lefts, padded, axis, p, s, lane, line, out);
         lane += 1;
+    }
+}
+
+// Fills every axis in rising order; the line is a buffer of 1,152 cells.
+fn fill_in(
+    mode: border::PadMode,
+    shape: &[usize],
+    lefts: &[usize],
+    padded: &[usize],
+    line: &mut [i64],
+    out: &mut [i64],
+)
+    requires { ⌜ Filling mode (now shape) (now lefts) (now padded) × (length (now line) ≡ 1152) × (length (now out) ≡ cellCount (now padded)) ⌝ }
+    ensures { λ _. ⌜ Fills mode (now (shape .entry)) (now (lefts .entry)) (now (padded .entry)) 0 (length (now (shape .entry))) (now (out .entry)) (now (out .exit)) ⌝ }
+{
+    let mut axis = 0;
+    while axis < shape.len() {
+        fill_axis(mode, shape, lefts, padded, axis, line, out);
+        axis += 1;
     }
 }
 
@@ -118,9 +140,6 @@ pub fn fill_axes(
     requires { ⌜ Filling mode (now shape) (now lefts) (now padded) × (length (now out) ≡ cellCount (now padded)) ⌝ }
     ensures { λ _. ⌜ Fills mode (now (shape .entry)) (now (lefts .entry)) (now (padded .entry)) 0 (length (now (shape .entry))) (now (out .entry)) (now (out .exit)) ⌝ }
 {
-    let mut axis = 0;
-    while axis < shape.len() {
-        fill_axis(mode, shape, lefts, padded, axis, out);
-        axis += 1;
-    }
+    let mut line = [0; 1152];
+    fill_in(mode, shape, lefts, padded, &mut line, out);
 }
