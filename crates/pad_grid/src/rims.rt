@@ -1,4 +1,5 @@
-// The rims of a padded grid, axis by axis in rising order: each lane is filled whose later coordinates are in the middle, so that no lent cell is ever read.
+// The rims of a padded grid, axis by axis in rising order. Under a mode that takes one level for a lane, each lane is filled whose later coordinates are in
+// the middle, so that no lent cell is ever read; the modes that copy cells go run by run.
 ghost use mathlib.Core.Path.{_≡_};
 ghost use mathlib.Core.Bool.{cond};
 ghost use Prim.Native.Nat.{suc, _/_, _≤_, _<_};
@@ -9,6 +10,7 @@ ghost use Rattle.pad_axis.specs.Fill.{filledLane};
 ghost use Rattle.pad_judge.specs.Pads.{inMiddle, middleFrom};
 ghost use Rattle.pad_grid.specs.Frame.{Framed, Filling};
 ghost use Rattle.pad_grid.specs.Filled.{Fills};
+use crate::runs::copy_axes;
 
 // Whether a place of the padded grid is in the middle on an axis.
 fn on_middle(shape: &[usize], lefts: &[usize], padded: &[usize], axis: usize, place: usize) -> bool
@@ -122,6 +124,21 @@ fn fill_in(
     }
 }
 
+// Fills every axis under a mode that takes one level for a lane.
+fn fill_levels(
+    mode: border::PadMode,
+    shape: &[usize],
+    lefts: &[usize],
+    padded: &[usize],
+    out: &mut [i64],
+)
+    requires { ⌜ Filling mode (now shape) (now lefts) (now padded) × (length (now out) ≡ cellCount (now padded)) ⌝ }
+    ensures { λ _. ⌜ Fills mode (now (shape .entry)) (now (lefts .entry)) (now (padded .entry)) 0 (length (now (shape .entry))) (now (out .entry)) (now (out .exit)) ⌝ }
+{
+    let mut line = [0; 1152];
+    fill_in(mode, shape, lefts, padded, &mut line, out);
+}
+
 // Fills every axis: where the middle held its levels, every place then does.
 //
 // * `mode` - the padding mode.
@@ -140,6 +157,11 @@ pub fn fill_axes(
     requires { ⌜ Filling mode (now shape) (now lefts) (now padded) × (length (now out) ≡ cellCount (now padded)) ⌝ }
     ensures { λ _. ⌜ Fills mode (now (shape .entry)) (now (lefts .entry)) (now (padded .entry)) 0 (length (now (shape .entry))) (now (out .entry)) (now (out .exit)) ⌝ }
 {
-    let mut line = [0; 1152];
-    fill_in(mode, shape, lefts, padded, &mut line, out);
+    match mode {
+        border::PadMode::Edge => copy_axes(border::Along::Nearest, shape, lefts, padded, out),
+        border::PadMode::Reflect => copy_axes(border::Along::Mirror, shape, lefts, padded, out),
+        border::PadMode::Symmetric => copy_axes(border::Along::Reflect, shape, lefts, padded, out),
+        border::PadMode::Wrap => copy_axes(border::Along::Wrap, shape, lefts, padded, out),
+        _ => fill_levels(mode, shape, lefts, padded, out),
+    }
 }
