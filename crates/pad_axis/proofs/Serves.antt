@@ -3,18 +3,21 @@
 use mathlib.Core.Path.{_≡_, refl, sym, ap, _∙_}
 use mathlib.Core.Bool.{Bool, true, false, _&&_, not, cond, true≢false}
 use mathlib.Core.List.{List, []}
-use Prim.Native.Nat.{ℕ, _+_, _-_, _≤_, _<_}
+use Prim.Native.Nat.{ℕ, _+_, _-_, _*_, _≤_, _<_}
+use native.Mathlib.Nat.{mul-one}
 use native.Mathlib.Omega.{arith}
 use borrow.Author.Tests.{leb-true}
 use lib.Dec.{leb}
 use lib.IntN.{ℤ, pos}
-use lib.ListN.{length, take, drop}
+use lib.ListN.{length, getD, take, drop, length-take, length-drop}
+use lib.Seq.{getD-take, getD-drop, ext-getD}
 use Rattle.numbers.proofs.Tests.{and-true, cond-yes, cond-no}
-use Rattle.lanes.specs.Lanes.{lane, laneInside, withLane, readLane}
+use Rattle.lanes.specs.Lanes.{lane, laneBase, laneInside, withLane, readLane}
+use Rattle.lanes.proofs.Cells.{lane-inside, inside-whole}
 use Rattle.border.specs.declared.PadMode.{PadMode}
 use Rattle.pad_line.specs.Line.{paddedLine, badPad}
 use Rattle.pad_axis.specs.Fill.{rimOf, answeredRim, laneServes, filledLane}
-use Rattle.pad_axis.proofs.Rims.{ownOf}
+use Rattle.pad_axis.proofs.Rims.{ownOf, length-own, getD-own}
 
 pub record Serving (mode : PadMode) (p s l count left n : ℕ) : Type 0 where
   pub inside : laneInside p s l count ≡ true
@@ -72,3 +75,26 @@ pub own-read : (s l left n : ℕ) (g held : List ℤ) {line : List ℤ} → line
 own-read s l left n g held e h =
     let m : left + n - left ≡ n = omega arith in
     (λ j. take (m j) (drop left ((e ∙ cond-yes (laneInside (length held) s l (length g)) (lane (pos 0) (length held) s l g) held h) j)))
+
+-- ---- the own cells of a lane whose cells stand side by side, as a part of the grid
+module _ (p s l left n : ℕ) (g : List ℤ) {at : ℕ} (e : s ≡ 1) (b : at ≡ laneBase p s l) (h : laneInside p s l (length g) ≡ true) (room : left + n ≤ p) where
+  pub beside-whole : at + left + n ≤ length g
+  beside-whole =
+      let w = inside-whole (lane-inside p s l (length g) h) in
+      let q : p * s ≡ p = ap (λ x. p * x) e ∙ mul-one p in
+      omega arith
+
+  pub own-beside : take (at + left + n - (at + left)) (drop (at + left) g) ≡ ownOf (pos 0) p s l left n g
+  own-beside = ext-getD (pos 0) (take (at + left + n - (at + left)) (drop (at + left) g)) (ownOf (pos 0) p s l left n g) (long ∙ sym (length-own (pos 0) p s l left n g room)) (λ i c. cells i (omega (arith, long)))
+    where
+      long : length (take (at + left + n - (at + left)) (drop (at + left) g)) ≡ n
+      long = simp (length-take, length-drop) (omega (arith, beside-whole))
+
+      cells : (i : ℕ) → i < n → getD (take (at + left + n - (at + left)) (drop (at + left) g)) i (pos 0) ≡ getD (ownOf (pos 0) p s l left n g) i (pos 0)
+      cells i c =
+          let q : (left + i) * s ≡ left + i = ap (λ x. (left + i) * x) e ∙ mul-one (left + i) in
+          let r : at + left + i ≡ laneBase p s l + (left + i) * s = omega arith in
+          getD-take (at + left + n - (at + left)) (drop (at + left) g) i (pos 0) (omega arith)
+          ∙ getD-drop (at + left) g i (pos 0)
+          ∙ ap (λ x. getD g x (pos 0)) r
+          ∙ sym (getD-own (pos 0) p s l left n g room i c)

@@ -114,9 +114,10 @@ fn level_by(
     level_of(statistic, &line[left..e])
 }
 
-// The same with a line that may be longer.
+// The same with a line that may be longer. Where the cells of the lane stand side by side, its own are a part of the grid, and nothing is read into the line.
 fn level_in(
     statistic: Statistic,
+    base: usize,
     p: usize,
     s: usize,
     l: usize,
@@ -125,30 +126,18 @@ fn level_in(
     grid: &[i64],
     line: &mut [i64],
 ) -> i64
-    requires { ⌜ (laneInside p s l (length (now grid)) ≡ true) × (left + n ≤ p) × (p ≤ length (now line)) ⌝ }
+    requires { ⌜ (laneInside p s l (length (now grid)) ≡ true) × (base ≡ laneBase p s l) × (left + n ≤ p) × (p ≤ length (now line)) ⌝ }
     ensures { λ r. ⌜ r ≡ statisticOf statistic (take n (drop left (lane (pos 0) p s l (now (grid .entry))))) ⌝ }
 {
+    if s == 1 {
+        let a = base + left;
+        let e = a + n;
+        return level_of(statistic, &grid[a..e]);
+    }
     level_by(statistic, s, l, left, n, grid, &mut line[..p])
 }
 
-// The same with a line of its own.
-fn own_level(
-    statistic: Statistic,
-    p: usize,
-    s: usize,
-    l: usize,
-    left: usize,
-    n: usize,
-    grid: &[i64],
-) -> i64
-    requires { ⌜ (laneInside p s l (length (now grid)) ≡ true) × (left + n ≤ p) × (p ≤ 1152) ⌝ }
-    ensures { λ r. ⌜ r ≡ statisticOf statistic (take n (drop left (lane (pos 0) p s l (now (grid .entry))))) ⌝ }
-{
-    let mut line = [0; 1152];
-    level_in(statistic, p, s, l, left, n, grid, &mut line)
-}
-
-// Fills both rims of lane `l` with the level of its own cells; the arguments are those of `fill_level`.
+// Fills both rims of lane `l` with the level of its own cells; the arguments are those of `fill_level`, and a buffer no shorter than the lane.
 fn fill_statistic(
     statistic: Statistic,
     base: usize,
@@ -157,12 +146,13 @@ fn fill_statistic(
     l: usize,
     left: usize,
     n: usize,
+    line: &mut [i64],
     out: &mut [i64],
 )
-    requires { ⌜ (laneInside p s l (length (now out)) ≡ true) × (base ≡ laneBase p s l) × (left + n ≤ p) × (p ≤ 1152) ⌝ }
+    requires { ⌜ (laneInside p s l (length (now out)) ≡ true) × (base ≡ laneBase p s l) × (left + n ≤ p) × (p ≤ length (now line)) ⌝ }
     ensures { λ _. ⌜ now (out .exit) ≡ withLane (pos 0) p s l (paddedLine (pos 0) (constant (statisticOf statistic (take n (drop left (lane (pos 0) p s l (now (out .entry))))))) left (p - (left + n)) (take n (drop left (lane (pos 0) p s l (now (out .entry)))))) (now (out .entry)) ⌝ }
 {
-    let c = own_level(statistic, p, s, l, left, n, out);
+    let c = level_in(statistic, base, p, s, l, left, n, out, line);
     fill_level(c, base, p, s, l, left, n, out);
 }
 
@@ -207,6 +197,7 @@ fn serves(
 // * `p`, `s` - the cells of the lane with both rims, and how many places apart they stand.
 // * `l` - the number of the lane, counted from 0 in stored order of the lanes' first cells.
 // * `left`, `n` - the place in the lane where its own cells start, and how many they are.
+// * `line` - a buffer of 1,152 cells; what it holds affects nothing.
 // * `out` - the cells of the grid.
 //
 // Where the lane is not inside the grid or over 1,152 cells, or the mode cannot fill a rim, the grid stays as it was.
@@ -218,8 +209,10 @@ pub fn fill_lane(
     l: usize,
     left: usize,
     n: usize,
+    line: &mut [i64],
     out: &mut [i64],
 )
+    requires { ⌜ length (now line) ≡ 1152 ⌝ }
     ensures { λ _. ⌜ now (out .exit) ≡ filledLane mode p s l left n (now (out .entry)) ⌝ }
 {
     let base = lanes::first_place(out.len(), p, s, l);
@@ -229,10 +222,40 @@ pub fn fill_lane(
     match mode {
         border::PadMode::Constant(c) => fill_level(c, base, p, s, l, left, n, out),
         border::PadMode::Edge => fill_along(border::Along::Nearest, base, p, s, l, left, n, out),
-        border::PadMode::Maximum => fill_statistic(Statistic::Maximum, base, p, s, l, left, n, out),
-        border::PadMode::Mean => fill_statistic(Statistic::Mean, base, p, s, l, left, n, out),
-        border::PadMode::Median => fill_statistic(Statistic::Median, base, p, s, l, left, n, out),
-        border::PadMode::Minimum => fill_statistic(Statistic::Minimum, base, p, s, l, left, n, out),
+        border::PadMode::Maximum => fill_statistic(
+            Statistic::Maximum,
+            base,
+            p,
+            s,
+            l,
+            left,
+            n,
+            line,
+            out,
+        ),
+        border::PadMode::Mean => fill_statistic(Statistic::Mean, base, p, s, l, left, n, line, out),
+        border::PadMode::Median => fill_statistic(
+            Statistic::Median,
+            base,
+            p,
+            s,
+            l,
+            left,
+            n,
+            line,
+            out,
+        ),
+        border::PadMode::Minimum => fill_statistic(
+            Statistic::Minimum,
+            base,
+            p,
+            s,
+            l,
+            left,
+            n,
+            line,
+            out,
+        ),
         border::PadMode::Reflect => fill_along(border::Along::Mirror, base, p, s, l, left, n, out),
         border::PadMode::Symmetric => fill_along(
             border::Along::Reflect,

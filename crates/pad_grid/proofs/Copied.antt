@@ -28,20 +28,20 @@ use Rattle.pad_grid.proofs.Row.{target-row}
 abbrev pub onRow : ℕ → ℕ → ℕ → Bool
 onRow at n k = leb at k && ltb k (at + n)
 
-row-yes : (at n k : ℕ) → at ≤ k → k < at + n → onRow at n k ≡ true
+pub row-yes : (at n k : ℕ) → at ≤ k → k < at + n → onRow at n k ≡ true
 row-yes at n k h l = (λ j. le-leb at k h j && lt-ltb k (at + n) l j)
 
-row-in : (at n k : ℕ) → onRow at n k ≡ true → (at ≤ k) × (k < at + n)
+pub row-in : (at n k : ℕ) → onRow at n k ≡ true → (at ≤ k) × (k < at + n)
 row-in at n k e = let p = and-true (leb at k) (ltb k (at + n)) e in (leb-true at k (p .0), ltb-true k (at + n) (p .1))
 
-row-empty : (at k : ℕ) → onRow at 0 k ≡ false
+pub row-empty : (at k : ℕ) → onRow at 0 k ≡ false
 row-empty at k = go (onRow at 0 k) refl
   where
     go : (t : Bool) → onRow at 0 k ≡ t → t ≡ false
     go true e = absurd (omega (arith, row-in at 0 k e .0, row-in at 0 k e .1))
     go false e = refl
 
-row-longer : (at n k : ℕ) → onRow at (n + 1) k ≡ eqb k (at + n) || onRow at n k
+pub row-longer : (at n k : ℕ) → onRow at (n + 1) k ≡ eqb k (at + n) || onRow at n k
 row-longer at n k = ap (λ x. leb at k && ltb k x) (one at n) ∙ ap (λ t. leb at k && t) (ltb-more k (at + n)) ∙ go (leb at k) refl
   where
     one : (at n : ℕ) → at + (n + 1) ≡ at + n + 1
@@ -78,7 +78,7 @@ unfolding rowSet
 row-all {cells} {from} {at} {out₀} {out} {j} n e S = stored-table (pos 0) (cellOn cells from at) (onRow at n) (subst (RowStored cells from at out₀ out) e S .stored)
 
 -- ---- stores over stores: where the later ones agree with what belongs there, and elsewhere nothing new is stored
-stored-over : {A : Type 0} (d : A) (P Q R : ℕ → Bool) (f g : ℕ → A) {l₀ l₁ l₂ : List A} → Stored d P g l₀ l₁ → Stored d Q f l₁ l₂
+pub stored-over : {A : Type 0} (d : A) (P Q R : ℕ → Bool) (f g : ℕ → A) {l₀ l₁ l₂ : List A} → Stored d P g l₀ l₁ → Stored d Q f l₁ l₂
     → ((k : ℕ) → k < length l₀ → Q k ≡ true → (R k ≡ true) × (f k ≡ g k)) → ((k : ℕ) → k < length l₀ → Q k ≡ false → R k ≡ P k) → Stored d R g l₀ l₂
 stored-over d P Q R f g {l₀} {l₁} {l₂} S U on off = record {
   kept = U .kept ∙ S .kept;

@@ -9,3 +9,6 @@ pub mod Targets
 pub mod Row
 pub mod RowPlace
 pub mod Copied
+pub mod RunByRun
+pub mod CopiedRims
+pub mod CopiedAxis

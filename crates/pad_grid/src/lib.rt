@@ -4,6 +4,7 @@ ghost use Rattle.pad_grid.specs.Rows.{PadGridRows};
 mod frame;
 mod middle;
 mod rims;
+mod runs;
 
 pub use frame::set_frame;
 pub use middle::copy_middle;

@@ -1,4 +1,5 @@
-// The rims of a padded grid, axis by axis in rising order: each lane is filled whose later coordinates are in the middle, so that no lent cell is ever read.
+// The rims of a padded grid, axis by axis in rising order. Under a mode that takes one level for a lane, each lane is filled whose later coordinates are in
+// the middle, so that no lent cell is ever read; the modes that copy cells go run by run.
 ghost use mathlib.Core.Path.{_≡_};
 ghost use mathlib.Core.Bool.{cond};
 ghost use Prim.Native.Nat.{suc, _/_, _≤_, _<_};
@@ -9,6 +10,7 @@ ghost use Rattle.pad_axis.specs.Fill.{filledLane};
 ghost use Rattle.pad_judge.specs.Pads.{inMiddle, middleFrom};
 ghost use Rattle.pad_grid.specs.Frame.{Framed, Filling};
 ghost use Rattle.pad_grid.specs.Filled.{Fills};
+use crate::runs::copy_axes;
 
 // Whether a place of the padded grid is in the middle on an axis.
 fn on_middle(shape: &[usize], lefts: &[usize], padded: &[usize], axis: usize, place: usize) -> bool
@@ -54,9 +56,10 @@ fn fill_lane(
     p: usize,
     s: usize,
     lane: usize,
+    line: &mut [i64],
     out: &mut [i64],
 )
-    requires { ⌜ Filling mode (now shape) (now lefts) (now padded) × (axis < length (now shape)) × (length (now out) ≡ cellCount (now padded)) × (p ≡ lengthOf (now padded) axis) × (s ≡ strideOf (now padded) axis) × (lane < cellCount (now padded) / p) ⌝ }
+    requires { ⌜ Filling mode (now shape) (now lefts) (now padded) × (axis < length (now shape)) × (length (now line) ≡ 1152) × (length (now out) ≡ cellCount (now padded)) × (p ≡ lengthOf (now padded) axis) × (s ≡ strideOf (now padded) axis) × (lane < cellCount (now padded) / p) ⌝ }
     ensures { λ _. ⌜ now (out .exit) ≡ cond (middleFrom (now (shape .entry)) (now (lefts .entry)) (suc axis) (coordinate (now (padded .entry)) (laneBase p s lane))) (filledLane mode p s lane (getD (now (lefts .entry)) axis 0) (lengthOf (now (shape .entry)) axis) (now (out .entry))) (now (out .entry)) ⌝ }
 {
     let first = lanes::first_place(out.len(), p, s, lane);
@@ -70,6 +73,7 @@ fn fill_lane(
         lane,
         lefts[axis],
         shapes::len_of(shape, axis),
+        line,
         out,
     );
 }
@@ -81,9 +85,10 @@ fn fill_axis(
     lefts: &[usize],
     padded: &[usize],
     axis: usize,
+    line: &mut [i64],
     out: &mut [i64],
 )
-    requires { ⌜ Filling mode (now shape) (now lefts) (now padded) × (axis < length (now shape)) × (length (now out) ≡ cellCount (now padded)) ⌝ }
+    requires { ⌜ Filling mode (now shape) (now lefts) (now padded) × (axis < length (now shape)) × (length (now line) ≡ 1152) × (length (now out) ≡ cellCount (now padded)) ⌝ }
     ensures { λ _. ⌜ Fills mode (now (shape .entry)) (now (lefts .entry)) (now (padded .entry)) axis (suc axis) (now (out .entry)) (now (out .exit)) ⌝ }
 {
     let p = shapes::len_of(padded, axis);
@@ -95,9 +100,43 @@ fn fill_axis(
     let count = out.len() / p;
     let mut lane = 0;
     while lane < count {
-        fill_lane(mode, shape, lefts, padded, axis, p, s, lane, out);
+        fill_lane(mode, shape, lefts, padded, axis, p, s, lane, line, out);
         lane += 1;
     }
+}
+
+// Fills every axis in rising order; the line is a buffer of 1,152 cells.
+fn fill_in(
+    mode: border::PadMode,
+    shape: &[usize],
+    lefts: &[usize],
+    padded: &[usize],
+    line: &mut [i64],
+    out: &mut [i64],
+)
+    requires { ⌜ Filling mode (now shape) (now lefts) (now padded) × (length (now line) ≡ 1152) × (length (now out) ≡ cellCount (now padded)) ⌝ }
+    ensures { λ _. ⌜ Fills mode (now (shape .entry)) (now (lefts .entry)) (now (padded .entry)) 0 (length (now (shape .entry))) (now (out .entry)) (now (out .exit)) ⌝ }
+{
+    let mut axis = 0;
+    while axis < shape.len() {
+        fill_axis(mode, shape, lefts, padded, axis, line, out);
+        axis += 1;
+    }
+}
+
+// Fills every axis under a mode that takes one level for a lane.
+fn fill_levels(
+    mode: border::PadMode,
+    shape: &[usize],
+    lefts: &[usize],
+    padded: &[usize],
+    out: &mut [i64],
+)
+    requires { ⌜ Filling mode (now shape) (now lefts) (now padded) × (length (now out) ≡ cellCount (now padded)) ⌝ }
+    ensures { λ _. ⌜ Fills mode (now (shape .entry)) (now (lefts .entry)) (now (padded .entry)) 0 (length (now (shape .entry))) (now (out .entry)) (now (out .exit)) ⌝ }
+{
+    let mut line = [0; 1152];
+    fill_in(mode, shape, lefts, padded, &mut line, out);
 }
 
 // Fills every axis: where the middle held its levels, every place then does.
@@ -118,9 +157,11 @@ pub fn fill_axes(
     requires { ⌜ Filling mode (now shape) (now lefts) (now padded) × (length (now out) ≡ cellCount (now padded)) ⌝ }
     ensures { λ _. ⌜ Fills mode (now (shape .entry)) (now (lefts .entry)) (now (padded .entry)) 0 (length (now (shape .entry))) (now (out .entry)) (now (out .exit)) ⌝ }
 {
-    let mut axis = 0;
-    while axis < shape.len() {
-        fill_axis(mode, shape, lefts, padded, axis, out);
-        axis += 1;
+    match mode {
+        border::PadMode::Edge => copy_axes(border::Along::Nearest, shape, lefts, padded, out),
+        border::PadMode::Reflect => copy_axes(border::Along::Mirror, shape, lefts, padded, out),
+        border::PadMode::Symmetric => copy_axes(border::Along::Reflect, shape, lefts, padded, out),
+        border::PadMode::Wrap => copy_axes(border::Along::Wrap, shape, lefts, padded, out),
+        _ => fill_levels(mode, shape, lefts, padded, out),
     }
 }

@@ -3,17 +3,26 @@
 use mathlib.Core.Path.{refl}
 use Rattle.numbers.specs.Lists.{tabulate}
 use Rattle.array.specs.Grid.{placeOf, coordinate}
+use Rattle.lanes.specs.Lanes.{laneAt}
+use Rattle.border.specs.Border.{cellFor, extendedLane}
+use Rattle.pad_line.specs.Line.{paddedAt}
 use Rattle.pad_grid.specs.Frame.{rowSet, middleSet}
+use Rattle.pad_grid.specs.Runs.{coordinateSet, rimSet}
 use Rattle.pad_grid.proofs.rows.Statement.{statement}
 use Rattle.pad_grid.proofs.rows.Tie as tie
 
 returns : tie.Need-returns
-unfolding tabulate placeOf coordinate rowSet middleSet
+unfolding tabulate placeOf coordinate rowSet middleSet laneAt extendedLane cellFor paddedAt coordinateSet rimSet
 returns c = record {
   row = refl;
   targets = refl;
   row-set = refl;
   middle = refl;
+  reads-before = refl;
+  reads-after = refl;
+  coordinate-set = refl;
+  rim-before = refl;
+  rim-after = refl;
 }
 
 pub rows-spec : {M : Type 1} → statement M

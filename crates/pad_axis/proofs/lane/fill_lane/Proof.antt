@@ -2,7 +2,8 @@
 -- Assumes nothing.
 use mathlib.Core.Path.{_≡_, ap, _∙_}
 use mathlib.Core.List.{List}
-use Prim.Native.Nat.{_+_, _-_}
+use Prim.Native.Nat.{_+_, _-_, _≤_}
+use native.Mathlib.Omega.{arith}
 use denote.Ref.{now}
 use lib.IntN.{ℤ, pos}
 use lib.ListN.{length}
@@ -39,6 +40,10 @@ based c =
     let a = c .before .before .before .args in
     c .before .before .first-place .ensures ∙ cond-yes (laneInside (a .p) (a .s) (a .l) (length (now (a .out)))) (laneBase (a .p) (a .s) (a .l)) (length (now (a .out))) (served c .inside)
 
+-- the lane is no longer than the buffer
+lent : (c : tie.Else1) → let a = c .before .before .before .args in a .p ≤ length (now (a .line))
+lent c = omega (arith, served c .short, c .before .before .before .pre)
+
 -- the grid with the lane's own cells extended by a border
 abbrev extended : tie.Else1 → Border ℤ → List ℤ
 extended c b =
@@ -71,25 +76,25 @@ enum-told-2 : tie.Need-enum-told-2
 enum-told-2 c = search needs
 
 fill-statistic-requires : tie.Need-fill-statistic-requires
-fill-statistic-requires c κs = let S = served (c .before .before .before) in (S .inside, based (c .before .before .before), S .room, S .short)
+fill-statistic-requires c κs = let e = c .before .before .before .before in (served e .inside, based e, served e .room, lent e)
 
 enum-told-3 : tie.Need-enum-told-3
 enum-told-3 c = search needs
 
 fill-statistic-requires-2 : tie.Need-fill-statistic-requires-2
-fill-statistic-requires-2 c κs = let S = served (c .before .before .before) in (S .inside, based (c .before .before .before), S .room, S .short)
+fill-statistic-requires-2 c κs = let e = c .before .before .before .before in (served e .inside, based e, served e .room, lent e)
 
 enum-told-4 : tie.Need-enum-told-4
 enum-told-4 c = search needs
 
 fill-statistic-requires-3 : tie.Need-fill-statistic-requires-3
-fill-statistic-requires-3 c κs = let S = served (c .before .before .before) in (S .inside, based (c .before .before .before), S .room, S .short)
+fill-statistic-requires-3 c κs = let e = c .before .before .before .before in (served e .inside, based e, served e .room, lent e)
 
 enum-told-5 : tie.Need-enum-told-5
 enum-told-5 c = search needs
 
 fill-statistic-requires-4 : tie.Need-fill-statistic-requires-4
-fill-statistic-requires-4 c κs = let S = served (c .before .before .before) in (S .inside, based (c .before .before .before), S .room, S .short)
+fill-statistic-requires-4 c κs = let e = c .before .before .before .before in (served e .inside, based e, served e .room, lent e)
 
 enum-told-6 : tie.Need-enum-told-6
 enum-told-6 c = search needs
@@ -134,41 +139,53 @@ returns-3 c = filled (c .before .before .before .before .before) (rw (c .before 
 same-length-3 : tie.Need-same-length-3
 same-length-3 c = search needs
 
-returns-4 : tie.Need-returns-4
-returns-4 c = filled (c .before .before .before .before .before) (rw (c .before .before .before .enum-told2 .given .1) (c .before .fill-statistic .ensures))
-
 same-length-4 : tie.Need-same-length-4
 same-length-4 c = search needs
 
-returns-5 : tie.Need-returns-5
-returns-5 c = filled (c .before .before .before .before .before) (rw (c .before .before .before .enum-told3 .given .1) (c .before .fill-statistic2 .ensures))
+returns-4 : tie.Need-returns-4
+returns-4 c = filled (c .before .before .before .before .before .before .before) (rw (c .before .before .before .before .before .enum-told2 .given .1) (c .before .before .fill-statistic .ensures))
 
 same-length-5 : tie.Need-same-length-5
 same-length-5 c = search needs
 
-returns-6 : tie.Need-returns-6
-returns-6 c = filled (c .before .before .before .before .before) (rw (c .before .before .before .enum-told4 .given .1) (c .before .fill-statistic3 .ensures))
-
 same-length-6 : tie.Need-same-length-6
 same-length-6 c = search needs
 
-returns-7 : tie.Need-returns-7
-returns-7 c = filled (c .before .before .before .before .before) (rw (c .before .before .before .enum-told5 .given .1) (c .before .fill-statistic4 .ensures))
+returns-5 : tie.Need-returns-5
+returns-5 c = filled (c .before .before .before .before .before .before .before) (rw (c .before .before .before .before .before .enum-told3 .given .1) (c .before .before .fill-statistic2 .ensures))
 
 same-length-7 : tie.Need-same-length-7
 same-length-7 c = search needs
 
+same-length-8 : tie.Need-same-length-8
+same-length-8 c = search needs
+
+returns-6 : tie.Need-returns-6
+returns-6 c = filled (c .before .before .before .before .before .before .before) (rw (c .before .before .before .before .before .enum-told4 .given .1) (c .before .before .fill-statistic3 .ensures))
+
+same-length-9 : tie.Need-same-length-9
+same-length-9 c = search needs
+
+same-length-10 : tie.Need-same-length-10
+same-length-10 c = search needs
+
+returns-7 : tie.Need-returns-7
+returns-7 c = filled (c .before .before .before .before .before .before .before) (rw (c .before .before .before .before .before .enum-told5 .given .1) (c .before .before .fill-statistic4 .ensures))
+
+same-length-11 : tie.Need-same-length-11
+same-length-11 c = search needs
+
 returns-8 : tie.Need-returns-8
 returns-8 c = filled (c .before .before .before .before .before) (rw (c .before .before .before .enum-told6 .given .1) (c .before .fill-along2 .ensures))
 
-same-length-8 : tie.Need-same-length-8
-same-length-8 c = search needs
+same-length-12 : tie.Need-same-length-12
+same-length-12 c = search needs
 
 returns-9 : tie.Need-returns-9
 returns-9 c = filled (c .before .before .before .before .before) (rw (c .before .before .before .enum-told7 .given .1) (c .before .fill-along3 .ensures))
 
-same-length-9 : tie.Need-same-length-9
-same-length-9 c = search needs
+same-length-13 : tie.Need-same-length-13
+same-length-13 c = search needs
 
 returns-10 : tie.Need-returns-10
 returns-10 c = filled (c .before .before .before .before .before) (rw (c .before .before .before .enum-told8 .given .1) (c .before .fill-along4 .ensures))
@@ -203,16 +220,20 @@ fill-lane-spec =
     same-length-2
     returns-3
     same-length-3
-    returns-4
     same-length-4
-    returns-5
+    returns-4
     same-length-5
-    returns-6
     same-length-6
-    returns-7
+    returns-5
     same-length-7
-    returns-8
     same-length-8
-    returns-9
+    returns-6
     same-length-9
+    same-length-10
+    returns-7
+    same-length-11
+    returns-8
+    same-length-12
+    returns-9
+    same-length-13
     returns-10)

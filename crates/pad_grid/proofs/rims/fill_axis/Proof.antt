@@ -1,8 +1,9 @@
 -- `pad_grid::rims::fill_axis` meets its contract: lane by lane, more places hold their levels.
 -- Assumes nothing.
-use mathlib.Core.Path.{sym, subst, _∙_}
+use mathlib.Core.Path.{_≡_, sym, subst, _∙_}
 use Prim.Native.Nat.{ℕ, _-_, _<_}
 use native.Mathlib.Omega.{arith}
+use lib.ListN.{length}
 use Rattle.pad_grid.proofs.Room.{padded-few, axis-length}
 use Rattle.pad_grid.proofs.Lanes.{OnAxis, Along, on-axis, axis-full, along-none, along-more, along-all}
 use borrow.Author.Needs.{needs}
@@ -10,10 +11,10 @@ use Rattle.pad_grid.proofs.rims.fill_axis.Statement.{statement}
 use Rattle.pad_grid.proofs.rims.fill_axis.Tie as tie
 
 abbrev Inv-loop : tie.InvT-loop
-Inv-loop mode shape lefts padded axis out₀ p s count lane₀ out lane = OnAxis padded axis p s count × Along mode shape lefts padded axis out₀ lane out
+Inv-loop mode shape lefts padded axis line₀ out₀ p s count lane₀ line out lane = OnAxis padded axis p s count × Along mode shape lefts padded axis out₀ lane out × (length line ≡ 1152)
 
 abbrev μ-loop : tie.MeasureT-loop
-μ-loop mode shape lefts padded axis out₀ p s count lane₀ out lane = count - lane
+μ-loop mode shape lefts padded axis line₀ out₀ p s count lane₀ line out lane = count - lane
 
 len-of-requires : tie.Need-len-of-requires Inv-loop μ-loop
 len-of-requires c κs = search needs
@@ -37,28 +38,32 @@ div-count c =
 loop-holds : tie.Need-loop-holds Inv-loop μ-loop
 loop-holds c =
     let s = c .before .before .before .before .before .before .before in
-    (on-axis (s .pre .0 .framed) (c .before .before .before .len-of .ensures) (c .stride-of .ensures) (s .pre .2), along-none (s .pre .2))
+    (on-axis (s .pre .0 .framed) (c .before .before .before .len-of .ensures) (c .stride-of .ensures) (s .pre .3), along-none (s .pre .3), s .pre .2)
 
 fill-lane-requires : tie.Need-fill-lane-requires Inv-loop μ-loop
 fill-lane-requires c κs =
-    let s = c .before .before .before .before .before .before .before .before .before .before in
-    let L = c .before .before .loop in
+    let s = c .before .before .before .before .before .before .before .before .before .before .before in
+    let L = c .before .before .before .loop in
     let O = L .inv .0 in
-    (s .pre .0, s .pre .1, L .inv .1 .count, O .long, O .apart, omega (arith, O .split))
+    (s .pre .0, s .pre .1, L .inv .2, L .inv .1 .count, O .long, O .apart, omega (arith, O .split))
 
 add-lane : tie.Need-add-lane Inv-loop μ-loop
-add-lane c = let O = c .before .before .before .before .loop .inv .0 in record { fits = omega (arith, O .few) }
+add-lane c = let O = c .before .before .before .before .before .before .loop .inv .0 in record { fits = omega (arith, O .few) }
 
 loop-less : tie.Need-loop-less Inv-loop μ-loop
 loop-less c = search needs
 
 loop-again : tie.Need-loop-again Inv-loop μ-loop
 loop-again c =
-    let L = c .before .before .before .before .loop in
-    (L .inv .0, along-more (L .inv .0) (omega arith) (L .inv .1) (c .before .fill-lane .kept .1 .1 .1 .1 .1 .1 .1 .1 .0) (c .before .fill-lane .ensures))
+    let L = c .before .before .before .before .before .before .loop in
+    let f = c .before .before .fill-lane in
+    (L .inv .0, along-more (L .inv .0) (omega arith) (L .inv .1) (f .kept .1 .1 .1 .1 .1 .1 .1 .1 .1 .0) (f .ensures), f .kept .1 .1 .1 .1 .1 .1 .1 .1 .0 ∙ L .inv .2)
 
 same-length : tie.Need-same-length Inv-loop μ-loop
 same-length c = search needs
+
+same-length-2 : tie.Need-same-length-2 Inv-loop μ-loop
+same-length-2 c = search needs
 
 returns-2 : tie.Need-returns-2 Inv-loop μ-loop
 returns-2 c =
@@ -83,4 +88,5 @@ fill-axis-spec =
     loop-less
     loop-again
     same-length
+    same-length-2
     returns-2)
