@@ -5,8 +5,11 @@ use Prim.Native.Nat.{_<_, _^_}
 use lib.IntN.{ℤ}
 use lib.Signed.{mag}
 use mir.Facts.{toZ-ofZ}
-use mir.Syntax.{w64}
-use mir.Val.{toZ, ofZ}
+use mir.Syntax.{Width, w64}
+use mir.Val.{toZ, ofZ, hbits}
+
+pub read-at : (w : Width) {z x : ℤ} → mag z < 2 ^ hbits w → z ≡ x → toZ w (ofZ w z) ≡ x
+read-at w h e = toZ-ofZ {w = w} (record { sfits = h }) ∙ e
 
 pub read : {z x : ℤ} → mag z < 2 ^ 63 → z ≡ x → toZ w64 (ofZ w64 z) ≡ x
-read h e = toZ-ofZ {w = w64} (record { sfits = h }) ∙ e
+read h e = read-at w64 h e

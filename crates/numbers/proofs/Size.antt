@@ -1,20 +1,20 @@
--- The size of a whole number, where omega reads: a bound on the size of a sum, a product and the sum of a list, and when a number fits 64 bits.
+-- The size of a whole number, where omega reads: a bound on the size of a sum, a product and the sum of a list, and when a number fits a width.
 -- Every bound that keeps a partial sum inside 64 bits rests on size-sum.
 -- Assumes nothing.
 use mathlib.Core.Path.{_≡_, refl, sym, ap, _∙_}
 use mathlib.Core.Bool.{false, _||_}
 use mathlib.Core.List.{List, [], _∷_}
 use Prim.Native.Nat.{ℕ, zero, suc, _+_, _-_, _*_, _^_, _≤_, _<_, zero-le}
-use native.Mathlib.Nat.{mul-le-mul, suc-mul}
+use native.Mathlib.Nat.{mul-le-mul, suc-mul, le-trans, lt-of-le-of-lt}
 use native.Mathlib.Omega.{arith}
 use borrow.Author.Tests.{ltb-false, le-ltb, lt-ltb}
-use lib.Dec.{ltb, ltb→lt, leb·suc-suc}
+use lib.Dec.{ltb, ltb→lt, leb→le, leb·suc-suc}
 use lib.IntN.{ℤ, pos, negsuc, negℤ, natAbs, subℕ, _+ℤ_, _*ℤ_}
 use lib.ListN.{length, getD}
-use lib.Signed.{ltZ, mag}
+use lib.Signed.{ltZ, mag, _≤ℤ_}
 use mir.Facts.{toZ-ofZ}
-use mir.Syntax.{w64}
-use mir.Val.{SFits, toZ, ofZ}
+use mir.Syntax.{Width, w64}
+use mir.Val.{SFits, toZ, ofZ, hbits}
 use Rattle.numbers.proofs.Any.{any-none, every-imp, every-getD}
 use Rattle.numbers.proofs.Tests.{cond-ind, or-no, or-none}
 use Rattle.numbers.specs.Lists.{anyOf, Every}
@@ -63,6 +63,13 @@ size-neg {a} {p} h = record { size = omega (arith, natAbs-neg a, h .size) }
 pub size-le : {a : ℤ} {p q : ℕ} → Size a p → p ≤ q → Size a q
 size-le {a} {p} {q} h l = record { size = omega (arith, h .size) }
 
+-- between two numbers of size at most p, both included
+pub size-between : (a b z : ℤ) {p : ℕ} → Size a p → Size b p → a ≤ℤ z → z ≤ℤ b → Size z p
+size-between a (pos b) (pos z) h k l m = record { size = omega (arith, leb→le z b (m .le), k .size) }
+size-between a (negsuc b) (pos z) h k l m = absurd (m .le)
+size-between (pos a) b (negsuc z) h k l m = absurd (l .le)
+size-between (negsuc a) b (negsuc z) h k l m = record { size = omega (arith, leb→le z a (l .le), h .size) }
+
 -- the sum of n members of size at most p is at most n times p in size
 pub size-sum : (p : ℕ) (xs : List ℤ) → Every (λ x. Size x p) xs → Size (sumOf xs) (length xs * p)
 size-sum p [] h = record { size = omega arith }
@@ -99,13 +106,16 @@ member-sized p l h k = every-getD (λ x. Size x p) l (pos 0) (size-zero p) h k
 pub tested-sized : (p : ℕ) (l : List ℤ) → anyOf (outsideZ (negℤ (pos p)) (pos p)) l ≡ false → Sized p l
 tested-sized p l e = every-imp _ _ l (λ x h. size-inside p x h) (any-none (outsideZ (negℤ (pos p)) (pos p)) l e)
 
--- ---- to 64 bits
+-- ---- to a width
 mag-le : (z : ℤ) → mag z ≤ natAbs z
 mag-le (pos n) = omega arith
 mag-le (negsuc n) = omega arith
 
+pub fits-at : (w : Width) {a : ℤ} {p : ℕ} → Size a p → p < 2 ^ hbits w → SFits w a
+fits-at w {a} {p} h l = record { sfits = lt-of-le-of-lt (le-trans (mag-le a) (h .size)) l }
+
 pub fits-size : {a : ℤ} {p : ℕ} → Size a p → p < 2 ^ 63 → SFits w64 a
-fits-size {a} {p} h l = record { sfits = omega (arith, mag-le a, h .size) }
+fits-size h l = fits-at w64 h l
 
 pub beyond-sized : (z : ℤ) {p : ℕ} → Size z p → p < 2 ^ 63 → beyond z ≡ false
 beyond-sized (pos x) h l = le-ltb (2 ^ 63 - 1) x (omega (arith, h .size))

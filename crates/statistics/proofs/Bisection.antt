@@ -3,11 +3,11 @@
 use mathlib.Core.Path.{_≡_, refl, sym, ap, subst}
 use mathlib.Core.Bool.{Bool, true, false}
 use mathlib.Core.List.{List}
-use Prim.Native.Nat.{ℕ, _≤_, _<_}
+use Prim.Native.Nat.{ℕ, _≤_, _<_, zero-le}
 use native.Mathlib.Nat.{not-le-of-lt, lt-of-not-le}
 use native.Mathlib.Omega.{arith}
 use lib.Dec.{T}
-use lib.IntN.{ℤ, pos, natAbs, negℤ, _+ℤ_, _-ℤ_}
+use lib.IntN.{ℤ, pos, natAbs, negℤ, _+ℤ_, _-ℤ_, +ℤ-idr}
 use lib.ListN.{length}
 use lib.Signed.{leZ, _≤ℤ_, leZ-yes}
 use Rattle.numbers.specs.Order.{Total, least, atLeast}
@@ -15,7 +15,7 @@ use Rattle.numbers.proofs.Any.{every-at, every-mem}
 use Rattle.numbers.proofs.IntOrder.{≤ℤ-trans, total-≤, total-≥, pos-≤, ≤-pos}
 use Rattle.numbers.proofs.IntSum.{above-by, +ℤ-mono-right, +ℤ-cancel-left}
 use Rattle.numbers.proofs.Least.{least-bound}
-use Rattle.numbers.proofs.Size.{natAbs-add, natAbs-neg}
+use Rattle.numbers.proofs.Size.{natAbs-add, natAbs-neg, size-between}
 use Rattle.statistics.specs.Sorting.{sorted, atMost}
 use Rattle.statistics.specs.Statistics.{minimumOf, maximumOf, ranked, unserved}
 use Rattle.statistics.proofs.Sorting.{length-sorted, every-sorted}
@@ -91,3 +91,13 @@ ends l k {low} {high} e b p q = record {
 -- and how far they are apart
 pub ends-apart : {l : List ℤ} {k : ℕ} {low high : ℤ} → Ends l k low high → natAbs (high -ℤ low) ≤ 4294967294
 ends-apart {l} {k} {low} {high} E = omega (arith, natAbs-add high (negℤ low), natAbs-neg low, E .low-size, E .high-size)
+
+-- a level no further above the least than the greatest is
+pub offset-size : {l : List ℤ} {k : ℕ} {low high : ℤ} → Ends l k low high → (m : ℕ) → m ≤ natAbs (high -ℤ low) → natAbs (low +ℤ pos m) ≤ 2147483647
+offset-size {l} {k} {low} {high} E m h = size-between low high (low +ℤ pos m) (record { size = E .low-size }) (record { size = E .high-size }) from to .size
+  where
+    from : low ≤ℤ (low +ℤ pos m)
+    from = subst (λ (z : ℤ). z ≤ℤ (low +ℤ pos m)) (+ℤ-idr low) (+ℤ-mono-right low (pos-≤ zero-le))
+
+    to : (low +ℤ pos m) ≤ℤ high
+    to = subst (λ (z : ℤ). (low +ℤ pos m) ≤ℤ z) (sym (above-by low high (E .low-high))) (+ℤ-mono-right low (pos-≤ h))

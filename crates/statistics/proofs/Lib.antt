@@ -4,6 +4,7 @@ pub mod Extremes
 pub mod Running
 pub mod Sorting
 pub mod Rank
+pub mod NextRank
 pub mod Served
 pub mod Sizes
 pub mod Offset

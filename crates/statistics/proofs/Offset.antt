@@ -1,18 +1,18 @@
 -- Levels by how far they are above a low one, as the machine computes it: a difference cast to an unsigned number, and back.
--- Two levels are apart by less than 2^32, so nothing leaves 64 bits.
+-- Two levels are apart by less than 2^32, so nothing leaves 64 bits, and a level itself fits 32.
 -- Assumes nothing.
 use mathlib.Core.Path.{_≡_, subst⁻¹, _∙_}
-use Prim.Native.Nat.{ℕ, _≤_}
+use Prim.Native.Nat.{ℕ, _≤_, _<_, _^_}
 use native.Mathlib.Omega.{arith}
 use lib.Dec.{T}
 use lib.IntN.{ℤ, pos, natAbs, _+ℤ_, _-ℤ_}
 use lib.Signed.{nonNeg, _≤ℤ_, yes-nonNeg}
 use mir.Facts.{fits-natAbs, toZ-pos}
-use mir.Syntax.{w64}
-use mir.Val.{toZ, ofZ, SFits, Fits}
+use mir.Syntax.{Width, w64}
+use mir.Val.{toZ, ofZ, SFits, Fits, hbits}
 use mir.ValLaws.{toZ-ofZ}
 use Rattle.numbers.proofs.IntSum.{difference-above}
-use Rattle.numbers.proofs.Size.{Size, size-add, size-neg, fits-size}
+use Rattle.numbers.proofs.Size.{Size, size-add, size-neg, fits-at, fits-size}
 
 -- what the machine reads back
 abbrev read : ℤ → ℤ
@@ -27,6 +27,14 @@ sized z h = record { size = h }
 
 read-level : (z : ℤ) → natAbs z ≤ 2147483647 → read z ≡ z
 read-level z h = toZ-ofZ w64 z (fits-size (sized z h) (omega arith))
+
+-- ---- a level at a width of at least 32 bits: it fits, and is what is read back
+module _ (w : Width) (wide : 2147483647 < 2 ^ hbits w) (z : ℤ) {x : ℤ} (h : natAbs z ≤ 2147483647) (e : x ≡ z) where
+  pub level-fits : SFits w x
+  level-fits = subst⁻¹ (SFits w) e (fits-at w (sized z h) wide)
+
+  pub level-read : toZ w (ofZ w x) ≡ z
+  level-read = toZ-ofZ w x level-fits ∙ e
 
 module _ (low : ℤ) (h : natAbs low ≤ 2147483647) where
   -- ---- how far high is above low

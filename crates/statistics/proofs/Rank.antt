@@ -21,7 +21,7 @@ chosen : {A : Type 0} (t : Bool) (x y : A) → T t → cond t x y ≡ x
 chosen true x y h = refl
 chosen false x y h = absurd h
 
-passed : {A : Type 0} (t : Bool) (x y : A) → T (not t) → cond t x y ≡ y
+pub passed : {A : Type 0} (t : Bool) (x y : A) → T (not t) → cond t x y ≡ y
 passed true x y h = absurd h
 passed false x y h = refl
 

@@ -9,7 +9,7 @@ use lib.IntN.{pos}
 use lib.ListN.{replicate}
 use lib.Signed.{leZ}
 use Rattle.numbers.specs.Rows.{minus, wholes}
-use Rattle.statistics.specs.Sorting.{sorted, atMost}
+use Rattle.statistics.specs.Sorting.{sorted, atMost, leastAbove}
 use Rattle.statistics.specs.Statistics.{minimumOf, maximumOf, meanOf, medianOf, unserved, answered}
 
 abbrev pub limit : ℕ
@@ -36,6 +36,8 @@ pub record StatisticsRows : Type 0 where
   -- sorting, and the count that a rank goes by
   pub rising : sorted leZ (pos 3 ∷ minus 1 ∷ pos 2 ∷ minus 1 ∷ []) ≡ minus 1 ∷ minus 1 ∷ pos 2 ∷ pos 3 ∷ []
   pub counted : map (λ z. atMost leZ z (wholes (2 ∷ 9 ∷ 1 ∷ 2 ∷ []))) (wholes (0 ∷ 2 ∷ 9 ∷ [])) ≡ 0 ∷ 3 ∷ 4 ∷ []
+  -- the least level above 2: not one at most 2, and the given level where there is none
+  pub above-two : map (leastAbove leZ (pos 2) (pos 9)) (wholes (5 ∷ 2 ∷ 3 ∷ 1 ∷ []) ∷ wholes (2 ∷ 1 ∷ []) ∷ []) ≡ pos 3 ∷ pos 9 ∷ []
   -- both limits of a level and the most cells are served, one more is not
   pub levels-served : map unserved ((pos limit ∷ minus limit ∷ []) ∷ (pos 0 ∷ pos 2147483648 ∷ []) ∷ (minus 2147483648 ∷ pos 0 ∷ []) ∷ [] ∷ []) ≡ false ∷ true ∷ true ∷ false ∷ []
   pub cells-served : map (λ n. unserved (replicate n (pos 1))) (1024 ∷ 1025 ∷ []) ≡ false ∷ true ∷ []

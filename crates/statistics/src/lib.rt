@@ -1,14 +1,13 @@
 // One level out of a line of whole levels: what padding's modes Maximum, Minimum, Mean and Median fill a lane with.
+mod middle;
+
 ghost use mathlib.Core.Path.{_≡_};
 ghost use mathlib.Core.Bool.{true, false, cond};
-ghost use Prim.Native.Nat.{_≤_, _<_};
-ghost use lib.IntN.{pos, natAbs, _+ℤ_, _-ℤ_};
-ghost use lib.ListN.{length, drop};
-ghost use lib.Signed.{leZ, _≤ℤ_};
+ghost use lib.ListN.{drop};
+ghost use lib.Signed.{leZ};
 ghost use Rattle.numbers.specs.Order.{atLeast, leastFrom};
 ghost use Rattle.numbers.specs.Sums.{sumOf};
-ghost use Rattle.statistics.specs.Sorting.{atMost};
-ghost use Rattle.statistics.specs.Statistics.{minimumOf, maximumOf, meanOf, medianOf, ranked, unserved, answered};
+ghost use Rattle.statistics.specs.Statistics.{minimumOf, maximumOf, meanOf, medianOf, unserved, answered};
 ghost use Rattle.statistics.specs.Rows.{StatisticsRows};
 
 // The limits of a line that mean and median serve: its cells, and the size of a level.
@@ -170,62 +169,6 @@ pub fn mean(line: &[i64]) -> i64
     sum(line) / (n as i64)
 }
 
-// How many levels are at most z.
-fn count_at_most(line: &[i64], z: i64) -> usize
-    ensures { λ r. ⌜ r ≡ atMost leZ z (now (line .entry)) ⌝ }
-{
-    let mut count = 0;
-    let mut j = 0;
-    while j < line.len() {
-        let x = line[j];
-        if x <= z {
-            count += 1;
-        }
-        j += 1;
-    }
-    count
-}
-
-// How far level `high` is above level `low`: below 2^32.
-fn distance(low: i64, high: i64) -> usize
-    requires { ⌜ natAbs low ≤ 2147483647 ⌝ }
-    requires { ⌜ natAbs high ≤ 2147483647 ⌝ }
-    requires { ⌜ low ≤ℤ high ⌝ }
-    ensures { λ r. ⌜ r ≡ natAbs (high -ℤ low) ⌝ }
-{
-    (high - low) as usize
-}
-
-// The level `offset` above `low`.
-fn above(low: i64, offset: usize) -> i64
-    requires { ⌜ natAbs low ≤ 2147483647 ⌝ }
-    requires { ⌜ offset ≤ 4294967294 ⌝ }
-    ensures { λ r. ⌜ r ≡ low +ℤ pos offset ⌝ }
-{
-    low + offset as i64
-}
-
-// The level at place k of the sorted line, found without sorting: the least one with more than k levels at or below it.
-// It is bisected between the least level of the line and the greatest, by `from` and `to`, offsets from the least.
-fn level_of_rank(line: &[i64], k: usize) -> i64
-    requires { ⌜ unserved (now line) ≡ false ⌝ }
-    requires { ⌜ k < length (now line) ⌝ }
-    ensures { λ r. ⌜ r ≡ ranked (now (line .entry)) k ⌝ }
-{
-    let low = minimum(line);
-    let mut from = 0;
-    let mut to = distance(low, maximum(line));
-    while from < to {
-        let middle = from + (to - from) / 2;
-        if count_at_most(line, above(low, middle)) <= k {
-            from = middle + 1;
-        } else {
-            to = middle;
-        }
-    }
-    above(low, from)
-}
-
 // The middle level of the sorted line; of an even number of levels the two middle levels' sum over 2, cut toward zero.
 //
 // * `line` - up to 1,024 levels in -(2^31 - 1)..2^31 - 1.
@@ -241,13 +184,10 @@ pub fn median(line: &[i64]) -> i64
     if not_served(line) {
         return 0;
     }
-    let h = (n - 1) / 2;
-    let lower = level_of_rank(line, h);
-    if n % 2 == 1 {
-        return lower;
+    if n <= 128 {
+        return middle::of_few(line);
     }
-    let upper = level_of_rank(line, h + 1);
-    (lower + upper) / 2
+    middle::of_many(line)
 }
 
 // Worked rows of this crate's definitions. Refuses nothing.

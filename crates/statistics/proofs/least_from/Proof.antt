@@ -3,6 +3,7 @@
 -- Assumes nothing.
 use Prim.Native.Nat.{_-_}
 use mathlib.Core.Path.{_≡_, ap, _∙_}
+use borrow.Author.Needs.{needs}
 use lib.IntN.{pos}
 use lib.ListN.{length, drop}
 use lib.Signed.{leZ}
@@ -11,7 +12,6 @@ use mir.Val.{toZ}
 use mir.ValLaws.{toZ-ofZ}
 use Rattle.numbers.specs.Order.{leastFrom}
 use Rattle.statistics.proofs.Extremes.{next-read, least-more, least-last}
-use borrow.Author.Needs.{needs}
 use Rattle.statistics.proofs.least_from.Statement.{statement}
 use Rattle.statistics.proofs.least_from.Tie as tie
 

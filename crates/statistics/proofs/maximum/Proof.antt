@@ -8,10 +8,10 @@ use lib.IntN.{pos}
 use lib.ListN.{length, drop}
 use mir.Syntax.{w64}
 use mir.Val.{toZ, ofZ}
-use Rattle.numbers.specs.Order.{atLeast, leastFrom}
 use Rattle.numbers.proofs.IntOrder.{total-≥}
 use Rattle.numbers.proofs.Lesser.{lesser}
 use Rattle.numbers.proofs.Read.{read}
+use Rattle.numbers.specs.Order.{atLeast, leastFrom}
 use Rattle.statistics.proofs.Extremes.{next-read, least-none, four, Four, four-first, four-more}
 use Rattle.statistics.proofs.maximum.Statement.{statement}
 use Rattle.statistics.proofs.maximum.Tie as tie

@@ -9,10 +9,10 @@ use lib.ListN.{length, drop}
 use lib.Signed.{leZ}
 use mir.Syntax.{w64}
 use mir.Val.{toZ, ofZ}
-use Rattle.numbers.specs.Order.{leastFrom}
 use Rattle.numbers.proofs.IntOrder.{total-≤}
 use Rattle.numbers.proofs.Lesser.{lesser}
 use Rattle.numbers.proofs.Read.{read}
+use Rattle.numbers.specs.Order.{leastFrom}
 use Rattle.statistics.proofs.Extremes.{next-read, least-none, four, Four, four-first, four-more}
 use Rattle.statistics.proofs.minimum.Statement.{statement}
 use Rattle.statistics.proofs.minimum.Tie as tie

@@ -3,11 +3,11 @@
 -- Assumes nothing.
 use Prim.Native.Nat.{_≤_, _-_}
 use mathlib.Core.Path.{sym}
+use borrow.Author.Needs.{needs}
 use lib.ListN.{length}
 use Rattle.numbers.proofs.Seen.{Seen, seen-none, seen-size, seen-all}
 use Rattle.statistics.specs.Statistics.{outsideLevels}
 use Rattle.statistics.proofs.Served.{unserved-long, unserved-short}
-use borrow.Author.Needs.{needs}
 use Rattle.statistics.proofs.not_served.Statement.{statement}
 use Rattle.statistics.proofs.not_served.Tie as tie
 

@@ -24,6 +24,7 @@ returns c = record {
   median-few = refl;
   rising = refl;
   counted = refl;
+  above-two = refl;
   levels-served = refl;
   cells-served = refl;
   answers = refl;

@@ -3,8 +3,8 @@
 use mathlib.Core.Path.{ap}
 use lib.IntN.{natAbs}
 use Rattle.statistics.proofs.Offset.{distance-fits, distance-read, distance-casts}
-use Rattle.statistics.proofs.distance.Statement.{statement}
-use Rattle.statistics.proofs.distance.Tie as tie
+use Rattle.statistics.proofs.middle.distance.Statement.{statement}
+use Rattle.statistics.proofs.middle.distance.Tie as tie
 
 sub-result : tie.Need-sub-result
 sub-result c = distance-fits (c .args .low) (c .pre .0) (c .args .high) (c .pre .1 .0)

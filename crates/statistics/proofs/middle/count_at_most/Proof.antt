@@ -1,5 +1,5 @@
 -- `count_at_most` meets its contract. The loop's invariant: `count` and the count of the levels from `j` on are the count of all.
--- The measure is what is left of the line.
+-- The measure is what is left of the levels.
 -- Assumes nothing.
 use Prim.Native.Nat.{ℕ, _+_, _≤_, _-_}
 use mathlib.Core.Logic.{⊎-elim}
@@ -10,20 +10,20 @@ use borrow.Author.Needs.{needs}
 use lib.IntN.{pos}
 use lib.ListN.{length, drop, getD}
 use lib.Signed.{leZ}
-use mir.Syntax.{w64}
+use mir.Syntax.{w32}
 use mir.Val.{toZ, ofZ}
 use mir.ValLaws.{toZ-ofZ}
-use Rattle.numbers.proofs.Read.{read}
+use Rattle.numbers.proofs.Read.{read-at}
 use Rattle.statistics.specs.Sorting.{atMost}
 use Rattle.statistics.proofs.Running.{count-hit, count-miss, count-last}
-use Rattle.statistics.proofs.count_at_most.Statement.{statement}
-use Rattle.statistics.proofs.count_at_most.Tie as tie
+use Rattle.statistics.proofs.middle.count_at_most.Statement.{statement}
+use Rattle.statistics.proofs.middle.count_at_most.Tie as tie
 
 abbrev Inv-loop : tie.InvT-loop
-Inv-loop line z count₀ j₀ count j = (j ≤ length line) × (count ≤ j) × (count + atMost leZ (toZ w64 z) (drop j line) ≡ atMost leZ (toZ w64 z) line)
+Inv-loop levels z count₀ j₀ count j = (j ≤ length levels) × (count ≤ j) × (count + atMost leZ (toZ w32 z) (drop j levels) ≡ atMost leZ (toZ w32 z) levels)
 
 abbrev μ-loop : tie.MeasureT-loop
-μ-loop line z count₀ j₀ count j = length line - j
+μ-loop levels z count₀ j₀ count j = length levels - j
 
 loop-holds : tie.Need-loop-holds Inv-loop μ-loop
 loop-holds c = (search needs, search needs, zero-add _)
@@ -46,9 +46,9 @@ loop-less c = search needs
 loop-again : tie.Need-loop-again Inv-loop μ-loop
 loop-again c =
     let k = c .before .before .before in
-    let l = k .before .args .line .now in
-    let e : toZ w64 (ofZ w64 (getD l (k .loop .j) (pos 0))) ≡ getD l (k .loop .j) (pos 0) = read (c .before .x .given) refl in
-    let left : ℕ → ℕ = λ n. n + atMost leZ (toZ w64 (ofZ w64 (k .before .args .z))) (drop (k .loop .j + 1) l) in
+    let l = k .before .args .levels .now in
+    let e : toZ w32 (ofZ w32 (getD l (k .loop .j) (pos 0))) ≡ getD l (k .loop .j) (pos 0) = read-at w32 (c .before .x .given) refl in
+    let left : ℕ → ℕ = λ n. n + atMost leZ (toZ w32 (ofZ w32 (k .before .args .z))) (drop (k .loop .j + 1) l) in
     ⊎-elim
     (λ a. (search needs, omega (arith, a .1), ap left (a .1) ∙ count-hit leZ _ l (k .loop .j) _ _ (k .loop .inv .2) (pos 0) (omega arith) (rw e at (a .0 .taken))))
     (λ a. (search needs, omega (arith, a .1), ap left (a .1) ∙ count-miss leZ _ l (k .loop .j) _ _ (k .loop .inv .2) (pos 0) (omega arith) (rw e at (a .0 .left))))
@@ -57,7 +57,7 @@ loop-again c =
 returns : tie.Need-returns Inv-loop μ-loop
 returns c =
     let a = c .before .before .args in
-    count-last leZ _ _ _ _ _ (c .before .loop .inv .2) (c .loop-test .left) ∙ ap (λ y. atMost leZ y (a .line .now)) (toZ-ofZ w64 (a .z) (c .before .before .fits .z))
+    count-last leZ _ _ _ _ _ (c .before .loop .inv .2) (c .loop-test .left) ∙ ap (λ y. atMost leZ y (a .levels .now)) (toZ-ofZ w32 (a .z) (c .before .before .fits .z))
 
 pub count-at-most-spec : {M : Type 1} → statement M
 count-at-most-spec =
