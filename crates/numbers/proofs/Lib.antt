@@ -18,3 +18,4 @@ pub mod Window
 pub mod Read
 pub mod Sign
 pub mod Partial
+pub mod Reciprocal

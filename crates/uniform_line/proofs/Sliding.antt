@@ -1,13 +1,13 @@
 -- The running sum of a window: one cell enters, one leaves, and every sum on the way fits 64 bits, since a window has at most 65 cells.
 -- Assumes nothing.
-use Prim.Native.Nat.{ℕ, suc, _+_, _-_, _*_, _≤_}
+use Prim.Native.Nat.{ℕ, suc, _+_, _-_, _*_, _^_, _≤_, _<_}
 use mathlib.Core.Path.{_≡_, sym, ap, subst, _∙_}
 use mathlib.Core.Bool.{false}
 use mathlib.Core.List.{List}
 use native.Mathlib.Nat.{add-zero}
 use native.Mathlib.Numerals.{add-one}
 use native.Mathlib.Omega.{arith}
-use lib.IntN.{ℤ, pos, _+ℤ_, _-ℤ_, +ℤ-negℤ-cancel}
+use lib.IntN.{ℤ, pos, natAbs, _+ℤ_, _-ℤ_, +ℤ-negℤ-cancel}
 use lib.ListN.{getD}
 use mir.Syntax.{w64}
 use mir.Val.{SFits}
@@ -72,6 +72,12 @@ module _ (s : List ℤ) (levels : anyOf badLevel s ≡ false) where
     -- the cell that enters
     pub total-read : read (t +ℤ read (getD s (i + k) (pos 0))) ≡ windowSum s (k + 1) i
     total-read = computed-read (sum-computed (i + k)) ∙ sum-enters s k i
+
+    -- and its size is far below 2^63
+    pub total-small : (m : ℕ) → natAbs (read (t +ℤ read (getD s m (pos 0)))) < 2 ^ 63
+    total-small m =
+        let z : Size (windowSum s k i +ℤ getD s m (pos 0)) (k * 2147483647 + 2147483647) = size-add (sum-size 2147483647 s sized k i) (member-sized 2147483647 s sized m) in
+        omega (arith, ap natAbs (computed-read (sum-computed m)), z .size)
 
     -- the cell that leaves: whichever it is, the difference fits
     pub left-computed : (m n : ℕ)

@@ -13,23 +13,26 @@ use mir.Val.{toZ}
 use Rattle.numbers.proofs.Read.{read}
 use Rattle.numbers.proofs.Stored.{Stored, front-none, front-more, front-all}
 use Rattle.uniform_line.specs.Mean.{windowSum, cut}
-use Rattle.uniform_line.proofs.Sliding.{first-averaged, sum-computed, left-computed, mean-read, left-read}
+use Rattle.uniform_line.proofs.Sliding.{first-averaged, sum-computed, total-small, left-computed, mean-read, left-read}
 use borrow.Author.Needs.{needs}
 use Rattle.uniform_line.proofs.uniform_line.Statement.{statement}
 use Rattle.uniform_line.proofs.uniform_line.Tie as tie
 
 abbrev Inv-loop : tie.InvT-loop
-Inv-loop line size out₀ before sum₀ n i₀ out sum i =
+Inv-loop line size out₀ before reciprocal sum₀ n i₀ out sum i =
     (i ≤ n) × (n ≡ length out₀) × (toZ w64 sum ≡ windowSum line before i) × Stored (pos 0) (λ k. ltb k i) (λ k. cut (windowSum line size k) size) out₀ out
 
 abbrev μ-loop : tie.MeasureT-loop
-μ-loop line size out₀ before sum₀ n i₀ out sum i = n - i
+μ-loop line size out₀ before reciprocal sum₀ n i₀ out sum i = n - i
 
 sub-before : tie.Need-sub-before Inv-loop μ-loop
 sub-before c = search needs
 
+reciprocal-of-requires : tie.Need-reciprocal-of-requires Inv-loop μ-loop
+reciprocal-of-requires c κs = (c .pre .some, c .pre .few)
+
 first-sum-requires : tie.Need-first-sum-requires Inv-loop μ-loop
-first-sum-requires c κs = first-averaged (c .pre)
+first-sum-requires c κs = first-averaged (c .before .pre)
 
 loop-holds : tie.Need-loop-holds Inv-loop μ-loop
 loop-holds c = (search needs, refl, search needs, front-none (pos 0) _ _)
@@ -45,12 +48,16 @@ shared-slice-copy-out-total c = search needs
 
 add-total-2 : tie.Need-add-total-2 Inv-loop μ-loop
 add-total-2 c =
-    let s = c .before .before .before .before in
+    let s = c .before .before .before .before .before in
     let l = c .before .before .loop in
     sum-computed (now (s .args .line)) (s .pre .levels) (s .args .size - 1) (l .i) (omega (arith, s .pre .few)) (l .inv .2) _ .fits
 
 cut-mean-requires : tie.Need-cut-mean-requires Inv-loop μ-loop
-cut-mean-requires c κs = search needs
+cut-mean-requires c κs =
+    let r = c .before .before .before .before in
+    let s = r .before in
+    let l = c .before .before .loop in
+    ((s .pre .some, s .pre .few), (r .reciprocal-of .ensures, total-small (now (s .args .line)) (s .pre .levels) (s .args .size - 1) (l .i) (omega (arith, s .pre .few)) (l .inv .2) _))
 
 mul-sum : tie.Need-mul-sum Inv-loop μ-loop
 mul-sum c = search needs
@@ -66,7 +73,7 @@ shared-slice-copy-out-sum c = search needs
 
 sub-sum : tie.Need-sub-sum Inv-loop μ-loop
 sub-sum c =
-    let s = c .before .before .before .before .before .before in
+    let s = c .before .before .before .before .before .before .before in
     let l = c .before .before .before .before .loop in
     left-computed (now (s .args .line)) (s .pre .levels) (s .args .size - 1) (l .i) (omega (arith, s .pre .few)) (l .inv .2) _ _ .fits
 
@@ -78,7 +85,7 @@ loop-less c = search needs
 
 loop-again : tie.Need-loop-again Inv-loop μ-loop
 loop-again c =
-    let s = c .before .before .before .before .before .before in
+    let s = c .before .before .before .before .before .before .before in
     let l = c .before .before .before .before .loop in (
       search needs,
       l .inv .1,
@@ -99,6 +106,7 @@ uniform-line-spec =
     Inv-loop
     μ-loop
     sub-before
+    reciprocal-of-requires
     first-sum-requires
     loop-holds
     add-total
