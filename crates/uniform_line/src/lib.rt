@@ -1,25 +1,11 @@
 // The means of the windows of a line, by a running sum: the cell that enters is added, the cell that leaves is taken away, so that a cell costs the same
 // however long the window is.
 ghost use mathlib.Core.Path.{_≡_};
-ghost use Prim.Native.Nat.{_+_, _≤_, _<_};
+ghost use Prim.Native.Nat.{_≤_, _<_};
 ghost use lib.ListN.{length};
-ghost use Rattle.uniform_line.specs.Mean.{windowSum, cut, means, Averaged};
+ghost use Rattle.uniform_line.specs.Mean.{cut, means, Averaged};
 ghost use Rattle.uniform_line.specs.Rows.{UniformLineRows};
-
-// The sum of the first count cells.
-fn first_sum(line: &[i64], count: usize) -> i64
-    requires { ⌜ Averaged (now line) (count + 1) 0 ⌝ }
-    ensures { λ r. ⌜ r ≡ windowSum (now (line .entry)) count 0 ⌝ }
-{
-    let mut sum = 0;
-    let mut j = 0;
-    while j < count {
-        let z = line[j];
-        sum += z;
-        j += 1;
-    }
-    sum
-}
+use correlate_line::running::first_sum;
 
 // The sum of a window over the number of its cells, cut toward zero.
 fn cut_mean(total: i64, size: usize) -> i64

@@ -12,8 +12,10 @@ use mir.Syntax.{w64}
 use mir.Val.{toZ}
 use Rattle.numbers.proofs.Read.{read}
 use Rattle.numbers.proofs.Stored.{Stored, front-none, front-more, front-all}
-use Rattle.uniform_line.specs.Mean.{windowSum, cut}
-use Rattle.uniform_line.proofs.Sliding.{first-averaged, sum-computed, left-computed, mean-read, left-read}
+use Rattle.correlation.specs.WindowSum.{windowSum}
+use Rattle.correlate_line.proofs.SlidingSum.{sum-computed, left-computed, left-read}
+use Rattle.uniform_line.specs.Mean.{cut}
+use Rattle.uniform_line.proofs.Sliding.{cells, first-summable, mean-read}
 use borrow.Author.Needs.{needs}
 use Rattle.uniform_line.proofs.uniform_line.Statement.{statement}
 use Rattle.uniform_line.proofs.uniform_line.Tie as tie
@@ -29,7 +31,7 @@ sub-before : tie.Need-sub-before Inv-loop μ-loop
 sub-before c = search needs
 
 first-sum-requires : tie.Need-first-sum-requires Inv-loop μ-loop
-first-sum-requires c κs = first-averaged (c .pre)
+first-sum-requires c κs = first-summable (c .pre)
 
 loop-holds : tie.Need-loop-holds Inv-loop μ-loop
 loop-holds c = (search needs, refl, search needs, front-none (pos 0) _ _)
@@ -47,7 +49,7 @@ add-total-2 : tie.Need-add-total-2 Inv-loop μ-loop
 add-total-2 c =
     let s = c .before .before .before .before in
     let l = c .before .before .loop in
-    sum-computed (now (s .args .line)) (s .pre .levels) (s .args .size - 1) (l .i) (omega (arith, s .pre .few)) (l .inv .2) _ .fits
+    sum-computed (now (s .args .line)) (cells (s .pre)) (s .args .size - 1) (l .i) (omega (arith, s .pre .few)) (l .inv .2) _ .fits
 
 cut-mean-requires : tie.Need-cut-mean-requires Inv-loop μ-loop
 cut-mean-requires c κs = search needs
@@ -68,7 +70,7 @@ sub-sum : tie.Need-sub-sum Inv-loop μ-loop
 sub-sum c =
     let s = c .before .before .before .before .before .before in
     let l = c .before .before .before .before .loop in
-    left-computed (now (s .args .line)) (s .pre .levels) (s .args .size - 1) (l .i) (omega (arith, s .pre .few)) (l .inv .2) _ _ .fits
+    left-computed (now (s .args .line)) (cells (s .pre)) (s .args .size - 1) (l .i) (omega (arith, s .pre .few)) (l .inv .2) _ _ .fits
 
 add-i : tie.Need-add-i Inv-loop μ-loop
 add-i c = search needs
@@ -82,7 +84,7 @@ loop-again c =
     let l = c .before .before .before .before .loop in (
       search needs,
       l .inv .1,
-      left-read (now (s .args .line)) (s .pre .levels) (s .args .size - 1) (l .i) (omega (arith, s .pre .few)) (l .inv .2),
+      left-read (now (s .args .line)) (cells (s .pre)) (s .args .size - 1) (l .i) (omega (arith, s .pre .few)) (l .inv .2),
       front-more (pos 0) _ _ (omega arith) (l .inv .3) (read (c .before .cut-mean .ok) (c .before .cut-mean .ensures ∙ mean-read (s .pre) (l .i) (l .inv .2))),
     )
 
