@@ -36,15 +36,15 @@ module _ {w s : List ℤ} {n : ℕ} (W : Weighable w s n) where
   weight-size : (k : ℕ) → Size (getD w k (pos 0)) 65535
   weight-size k = every-getD (λ x. Size x 65535) w (pos 0) (size-zero 65535) (every-imp _ _ w (λ x h. size-inside 65535 x h) (any-none _ w (W .weights))) k
 
-  cell : (k : ℕ) → Computed (getD s k (pos 0)) (getD s k (pos 0))
-  cell k = computed-level (cell-size k) (omega arith)
+  pub cell-held : (k : ℕ) → Computed (getD s k (pos 0)) (getD s k (pos 0))
+  cell-held k = computed-level (cell-size k) (omega arith)
 
-  weight : (k : ℕ) → Computed (getD w k (pos 0)) (getD w k (pos 0))
-  weight k = computed-level (weight-size k) (omega arith)
+  pub weight-held : (k : ℕ) → Computed (getD w k (pos 0)) (getD w k (pos 0))
+  weight-held k = computed-level (weight-size k) (omega arith)
 
   -- ---- a cell times a weight
   pub term : (a k : ℕ) → Computed (read (getD s a (pos 0)) *ℤ read (getD w k (pos 0))) (getD s a (pos 0) *ℤ getD w k (pos 0))
-  term a k = computed _*ℤ_ (cell a) (weight k) (size-cell (2 ^ 38) 65535 w s cell-size weight-size a k) (omega arith)
+  term a k = computed _*ℤ_ (cell-held a) (weight-held k) (size-cell (2 ^ 38) 65535 w s cell-size weight-size a k) (omega arith)
 
   module _ (j : ℕ) {l₀ l : List ℤ} {i : ℕ} (h : j < length w) (e : l₀ ≡ tabulate (plainTo wholeOps w s j) 0 (length l₀)) (p : i < length l₀)
       (S : Stored (pos 0) (λ m. ltb m i) (plainTo wholeOps w s (j + 1)) l₀ l) where
@@ -61,11 +61,11 @@ module _ {w s : List ℤ} {n : ℕ} (W : Weighable w s n) where
   -- ---- two cells, joined, times a weight
   module _ (op : ℤ → ℤ → ℤ) (joins : Joins op) where
     pub pair : (a b : ℕ) → Computed (op (read (getD s a (pos 0))) (read (getD s b (pos 0)))) (op (getD s a (pos 0)) (getD s b (pos 0)))
-    pair a b = computed op (cell a) (cell b) (joins _ _ (2 ^ 38) (cell-size a) (cell-size b)) (omega arith)
+    pair a b = computed op (cell-held a) (cell-held b) (joins _ _ (2 ^ 38) (cell-size a) (cell-size b)) (omega arith)
 
     pub pair-term : (a b k : ℕ)
         → Computed (read (op (read (getD s a (pos 0))) (read (getD s b (pos 0)))) *ℤ read (getD w k (pos 0))) (op (getD s a (pos 0)) (getD s b (pos 0)) *ℤ getD w k (pos 0))
-    pair-term a b k = computed _*ℤ_ (pair a b) (weight k) (size-pair (2 ^ 38) 65535 w s cell-size weight-size op joins a b k) (omega arith)
+    pair-term a b k = computed _*ℤ_ (pair a b) (weight-held k) (size-pair (2 ^ 38) 65535 w s cell-size weight-size op joins a b k) (omega arith)
 
     module _ (j : ℕ) {l₀ l : List ℤ} {i : ℕ} (h : j < length w / 2) (e : l₀ ≡ tabulate (pairsTo wholeOps op w s j) 0 (length l₀)) (p : i < length l₀)
         (S : Stored (pos 0) (λ m. ltb m i) (pairsTo wholeOps op w s (j + 1)) l₀ l) where

@@ -1,2 +1,3 @@
 -- What the line workers suppose.
 pub mod Sizes
+pub mod Raised

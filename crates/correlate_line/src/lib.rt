@@ -1,7 +1,8 @@
-// The weighted sums of a whole line: the weights are taken one after the other, each along the whole row.
+// The weighted sums of a whole line: the weights are taken one after the other, each along the whole row; where they are many and the cells fit 32 bits, four
+// at a time (narrow).
 ghost use mathlib.Core.Path.{_≡_};
 ghost use Prim.Native.Nat.{_+_, _-_, _/_, _<_};
-ghost use lib.IntN.{pos, _+ℤ_, _-ℤ_};
+ghost use lib.IntN.{_+ℤ_, _-ℤ_};
 ghost use lib.ListN.{length};
 ghost use Rattle.numbers.specs.Lists.{tabulate};
 ghost use Rattle.symmetry.specs.Class.{classZ};
@@ -10,17 +11,8 @@ ghost use Rattle.correlation.specs.Weighed.{wholeOps, cellTerm, plainTo, pairsT
 ghost use Rattle.correlate_line.specs.Sizes.{Weighable};
 use symmetry::SymmetryState;
 
-// Sets every cell to 0.
-fn clear_row(out: &mut [i64])
-    ensures { λ _. ⌜ now (out .exit) ≡ tabulate (λ i. pos 0) 0 (length (now (out .entry))) ⌝ }
-{
-    let n = out.len();
-    let mut i = 0;
-    while i < n {
-        out[i] = 0;
-        i += 1;
-    }
-}
+mod narrow;
+pub mod running;
 
 // Sets every cell to cell j of its window times weight j.
 fn set_row(weights: &[i64], line: &[i64], j: usize, out: &mut [i64])
@@ -83,9 +75,9 @@ fn plain_line(weights: &[i64], line: &[i64], out: &mut [i64])
     requires { ⌜ Weighable (now weights) (now line) (length (now out)) ⌝ }
     ensures { λ _. ⌜ now (out .exit) ≡ weighedLine wholeOps NonSymmetric (now (weights .entry)) (now (line .entry)) (length (now (out .entry))) ⌝ }
 {
-    clear_row(out);
+    set_row(weights, line, 0, out);
     let count = weights.len();
-    let mut k = 0;
+    let mut k = 1;
     while k < count {
         add_row(weights, line, k, out);
         k += 1;
@@ -124,11 +116,26 @@ fn antisymmetric_line(weights: &[i64], line: &[i64], out: &mut [i64])
     }
 }
 
+// Whether there are so many weights that raising them and the line pays. Pairs halve the multiplies of the other way.
+fn pays(class: SymmetryState, count: usize) -> bool {
+    match class {
+        SymmetryState::NonSymmetric => count >= 5,
+        SymmetryState::Symmetric => count >= 13,
+        SymmetryState::AntiSymmetric => count >= 13,
+    }
+}
+
 // Sets each cell of out to the weighted sum of its window of the padded line. The class is that of the weights.
 pub fn correlate_line(weights: &[i64], class: SymmetryState, line: &[i64], out: &mut [i64])
     requires { ⌜ Weighable (now weights) (now line) (length (now out)) × (class ≡ classZ (now weights)) ⌝ }
     ensures { λ _. ⌜ now (out .exit) ≡ weighedLine wholeOps NonSymmetric (now (weights .entry)) (now (line .entry)) (length (now (out .entry))) ⌝ }
 {
+    if pays(class, weights.len()) {
+        if narrow::is_narrow(line) {
+            narrow::narrow_line(weights, line, out);
+            return;
+        }
+    }
     match class {
         SymmetryState::NonSymmetric => plain_line(weights, line, out),
         SymmetryState::Symmetric => symmetric_line(weights, line, out),

@@ -122,12 +122,13 @@ fn add_two_pairs(weights: &[f64], line: &[f64], left: usize, right: usize, out: 
 {
     let s0 = weights[left];
     let s1 = weights[left + 1];
+    let inner = right - 1;
     let n = out.len();
     let mut i = 0;
     while i < n {
         out[i] = out[i]
             + (line[i + left] + line[i + right]) * s0
-            + (line[i + left + 1] + line[i + right - 1]) * s1;
+            + (line[i + left + 1] + line[i + inner]) * s1;
         i += 1;
     }
 }
@@ -153,12 +154,13 @@ fn add_two_differences(weights: &[f64], line: &[f64], left: usize, right: usize,
 {
     let s0 = weights[left];
     let s1 = weights[left + 1];
+    let inner = right - 1;
     let n = out.len();
     let mut i = 0;
     while i < n {
         out[i] = out[i]
             + (line[i + left] - line[i + right]) * s0
-            + (line[i + left + 1] - line[i + right - 1]) * s1;
+            + (line[i + left + 1] - line[i + inner]) * s1;
         i += 1;
     }
 }
@@ -180,7 +182,8 @@ fn plain_line(weights: &[f64], line: &[f64], out: &mut [f64])
     }
 }
 
-// The middle cell and then the pairs from the outside in, joined by sum.
+// The middle cell and then the pairs from the outside in, joined by sum. The loop ends by left and right: where it ends by left and a count, LLVM (22) takes
+// the test that line and out do not overlap out of the loop, can't make it for a place that goes down, and leaves the row's loop without vectors.
 fn symmetric_line(weights: &[f64], line: &[f64], out: &mut [f64])
     requires { ⌜ Windows (now weights) (now line) (length (now out)) ⌝ }
     ensures { λ _. ⌜ now (out .exit) ≡ weighedLine floatOps Symmetric (now (weights .entry)) (now (line .entry)) (length (now (out .entry))) ⌝ }
@@ -189,12 +192,12 @@ fn symmetric_line(weights: &[f64], line: &[f64], out: &mut [f64])
     set_row(weights, line, half, out);
     let mut left = 0;
     let mut right = weights.len() - 1;
-    while left + 1 < half {
+    while left + 2 < right {
         add_two_pairs(weights, line, left, right, out);
         left += 2;
         right -= 2;
     }
-    if left < half {
+    if left < right {
         add_pairs(weights, line, left, right, out);
     }
 }
@@ -208,12 +211,12 @@ fn antisymmetric_line(weights: &[f64], line: &[f64], out: &mut [f64])
     set_row(weights, line, half, out);
     let mut left = 0;
     let mut right = weights.len() - 1;
-    while left + 1 < half {
+    while left + 2 < right {
         add_two_differences(weights, line, left, right, out);
         left += 2;
         right -= 2;
     }
-    if left < half {
+    if left < right {
         add_differences(weights, line, left, right, out);
     }
 }

@@ -21,11 +21,6 @@ pub row-held : {A : Type 0} (d : A) (g h : ℕ → A) {l₀ l : List A} {i : ℕ
 row-held d g h {l₀} {l} {i} e b S =
     S .cells i b ∙ cond-no (ltb i i) (h i) (getD l₀ i d) (le-ltb i i (omega arith)) ∙ ap (λ s. getD s i d) e ∙ getD-tabulate g (length l₀) i d b
 
--- one cell more, whatever is made of what the row still holds there
-pub row-turn : {A : Type 0} (d : A) (g h : ℕ → A) (v : A → A) {l₀ l : List A} {i : ℕ} → l₀ ≡ tabulate g 0 (length l₀) → i < length l₀ → Stored d (λ k. ltb k i) h l₀ l → v (g i) ≡ h i
-    → Stored d (λ k. ltb k (i + 1)) h l₀ (set l i (v (getD l i d)))
-row-turn d g h v {l₀} {l} {i} e b S q = front-more d h (v (getD l i d)) b S (ap v (row-held d g h e b S) ∙ q)
-
 -- ---- from one row to the next: a row of n cells, cell i of which is g i
 pub record Row {A : Type 0} (g : ℕ → A) (n : ℕ) (l : List A) : Type 0 where
   pub is : l ≡ tabulate g 0 n
@@ -46,25 +41,41 @@ row-made g n {l} e = let r : Row g n l = record { is = e } in record { is = row-
 
 module _ {A : Type 0} (add : A → A → A) (a : ℕ → A) (f : ℕ → ℕ → A) where
   -- before the first term, and after the last
-  row-start : (n : ℕ) {l : List A} → l ≡ tabulate a 0 n → Row (λ i. summed add (a i) (f i) 0) (length l) l
+  pub row-start : (n : ℕ) {l : List A} → l ≡ tabulate a 0 n → Row (λ i. summed add (a i) (f i) 0) (length l) l
   unfolding summed
   row-start n e = row-made a n e
 
-  row-end : {j k n m : ℕ} {l : List A} → Row (λ i. summed add (a i) (f i) j) n l → j ≡ k → n ≡ m → l ≡ tabulate (λ i. summed add (a i) (f i) k) 0 m
+  pub row-end : {j k n m : ℕ} {l : List A} → Row (λ i. summed add (a i) (f i) j) n l → j ≡ k → n ≡ m → l ≡ tabulate (λ i. summed add (a i) (f i) k) 0 m
   row-end {j} {k} {n} {m} {l} r p q = r .is ∙ (λ t. tabulate (λ i. summed add (a i) (f i) (p t)) 0 (q t))
 
-  -- one cell more
-  pub row-more : (d : A) (j : ℕ) {l₀ l : List A} {i : ℕ} (v : A) → l₀ ≡ tabulate (λ k. summed add (a k) (f k) j) 0 (length l₀) → i < length l₀
-      → Stored d (λ k. ltb k i) (λ k. summed add (a k) (f k) (j + 1)) l₀ l → v ≡ add (getD l i d) (f i j)
-      → Stored d (λ k. ltb k (i + 1)) (λ k. summed add (a k) (f k) (j + 1)) l₀ (set l i v)
-  row-more d j {l₀} {l} {i} v e b S q =
-      front-more d (λ k. summed add (a k) (f k) (j + 1)) v b S
-      (q ∙ ap (λ x. add x (f i j)) (row-held d (λ k. summed add (a k) (f k) j) (λ k. summed add (a k) (f k) (j + 1)) e b S) ∙ summed-more add (a i) (f i) j)
+  -- one cell more, with its next term, its next two, and its next four
+  module _ (d : A) (j : ℕ) {l₀ l : List A} {i : ℕ} (v : A) (e : l₀ ≡ tabulate (λ k. summed add (a k) (f k) j) 0 (length l₀)) (b : i < length l₀) where
+    turn : (n : ℕ) (g : A → A) → g (summed add (a i) (f i) j) ≡ summed add (a i) (f i) n → Stored d (λ k. ltb k i) (λ k. summed add (a k) (f k) n) l₀ l → v ≡ g (getD l i d)
+        → Stored d (λ k. ltb k (i + 1)) (λ k. summed add (a k) (f k) n) l₀ (set l i v)
+    turn n g p S q =
+        front-more d (λ k. summed add (a k) (f k) n) v b S (q ∙ ap g (row-held d (λ k. summed add (a k) (f k) j) (λ k. summed add (a k) (f k) n) e b S) ∙ p)
+
+    pub row-more : Stored d (λ k. ltb k i) (λ k. summed add (a k) (f k) (j + 1)) l₀ l → v ≡ add (getD l i d) (f i j)
+        → Stored d (λ k. ltb k (i + 1)) (λ k. summed add (a k) (f k) (j + 1)) l₀ (set l i v)
+    row-more S q = turn (j + 1) (λ x. add x (f i j)) (summed-more add (a i) (f i) j) S q
+
+    pub row-two : Stored d (λ k. ltb k i) (λ k. summed add (a k) (f k) (j + 2)) l₀ l → v ≡ add (add (getD l i d) (f i j)) (f i (j + 1))
+        → Stored d (λ k. ltb k (i + 1)) (λ k. summed add (a k) (f k) (j + 2)) l₀ (set l i v)
+    row-two S q = turn (j + 2) (λ x. add (add x (f i j)) (f i (j + 1))) (summed-two add (a i) (f i) j) S q
+
+    pub row-four : Stored d (λ k. ltb k i) (λ k. summed add (a k) (f k) (j + 4)) l₀ l → v ≡ add (add (add (add (getD l i d) (f i j)) (f i (j + 1))) (f i (j + 2))) (f i (j + 3))
+        → Stored d (λ k. ltb k (i + 1)) (λ k. summed add (a k) (f k) (j + 4)) l₀ (set l i v)
+    row-four S q = turn (j + 4) (λ x. add (add (add (add x (f i j)) (f i (j + 1))) (f i (j + 2))) (f i (j + 3))) (summed-four add (a i) (f i) j) S q
 
 -- ---- the two loops over the weights: where they start, one cell more of a row with its next term, and where they end
 module _ {A : Type 0} (o : Ops A) (w s : List A) where
-  pub plain-start : (n : ℕ) {l : List A} → l ≡ tabulate (λ i. o .none) 0 n → Row (plainTo o w s 0) (length l) l
-  plain-start n e = row-start (o .sum) (λ i. o .none) (cellTerm o w s) n e
+  -- the first terms alone, where zero adds nothing
+  pub plain-set : ((x : A) → o .sum (o .none) x ≡ x) → (n : ℕ) {l : List A} → l ≡ tabulate (λ i. cellTerm o w s i 0) 0 n → Row (plainTo o w s 1) (length l) l
+  unfolding summed
+  plain-set z n e = row-made (plainTo o w s 1) n (e ∙ ap (λ (g : ℕ → A). tabulate g 0 n) (λ t i. first i t))
+    where
+      first : (i : ℕ) → cellTerm o w s i 0 ≡ plainTo o w s 1 i
+      first i = sym (z (cellTerm o w s i 0)) ∙ summed-more (o .sum) (o .none) (cellTerm o w s i) 0
 
   pub plain-more : (j : ℕ) {l₀ l : List A} {i : ℕ} → l₀ ≡ tabulate (plainTo o w s j) 0 (length l₀) → i < length l₀ → Stored (o .past) (λ k. ltb k i) (plainTo o w s (j + 1)) l₀ l
       → Stored (o .past) (λ k. ltb k (i + 1)) (plainTo o w s (j + 1)) l₀ (set l i (o .sum (getD l i (o .past)) (cellTerm o w s i j)))
@@ -90,9 +101,9 @@ module _ {A : Type 0} (o : Ops A) (w s : List A) where
   -- four terms more
   pub plain-four : (j : ℕ) {l₀ l : List A} {i : ℕ} → l₀ ≡ tabulate (plainTo o w s j) 0 (length l₀) → i < length l₀ → Stored (o .past) (λ k. ltb k i) (plainTo o w s (j + 4)) l₀ l
       → Stored (o .past) (λ k. ltb k (i + 1)) (plainTo o w s (j + 4)) l₀ (set l i (fourMore j (getD l i (o .past)) (i + j) (i + j + 1) (i + j + 2) (i + j + 3)))
-  plain-four j {i = i} e b S =
-      row-turn (o .past) (plainTo o w s j) (plainTo o w s (j + 4)) (λ x. fourMore j x (i + j) (i + j + 1) (i + j + 2) (i + j + 3)) e b S
-      ((λ t. fourMore j (plainTo o w s j i) (i + j) (add-assoc i j 1 t) (add-assoc i j 2 t) (add-assoc i j 3 t)) ∙ summed-four (o .sum) (o .none) (cellTerm o w s i) j)
+  plain-four j {l = l} {i = i} e b S =
+      row-four (o .sum) (λ i. o .none) (cellTerm o w s) (o .past) j _ e b S
+      (λ t. fourMore j (getD l i (o .past)) (i + j) (add-assoc i j 1 t) (add-assoc i j 2 t) (add-assoc i j 3 t))
 
   pub plain-end : {j n m : ℕ} {l : List A} → Row (plainTo o w s j) n l → j ≡ length w → n ≡ m → l ≡ tabulate (plainAt o w s) 0 m
   plain-end r p q = row-end (o .sum) (λ i. o .none) (cellTerm o w s) r p q
@@ -116,14 +127,14 @@ module _ {A : Type 0} (o : Ops A) (w s : List A) where
         (o .product (op (getD s c (o .past)) (getD s d (o .past))) (getD w (j + 1) (o .past)))
 
     -- two pairs more: r is the place that mirrors j, and the place before it mirrors j + 1
-    pub pairs-two : (j r : ℕ) {l₀ l : List A} {i : ℕ} → r ≡ length w - 1 - j → 0 < r → l₀ ≡ tabulate (pairsTo o op w s j) 0 (length l₀) → i < length l₀
+    pub pairs-two : (j r : ℕ) {l₀ l : List A} {i : ℕ} → r ≡ length w - 1 - j → l₀ ≡ tabulate (pairsTo o op w s j) 0 (length l₀) → i < length l₀
         → Stored (o .past) (λ k. ltb k i) (pairsTo o op w s (j + 2)) l₀ l
-        → Stored (o .past) (λ k. ltb k (i + 1)) (pairsTo o op w s (j + 2)) l₀ (set l i (twoMore j (getD l i (o .past)) (i + j) (i + r) (i + j + 1) (i + r - 1)))
-    pairs-two j r {i = i} q p e b S =
-        row-turn (o .past) (pairsTo o op w s j) (pairsTo o op w s (j + 2)) (λ x. twoMore j x (i + j) (i + r) (i + j + 1) (i + r - 1)) e b S
-        ((λ t. twoMore j (pairsTo o op w s j i) (i + j) (i + q t) (add-assoc i j 1 t) (inner t)) ∙ summed-two (o .sum) (cellTerm o w s i (length w / 2)) (pairTerm o op w s i) j)
+        → Stored (o .past) (λ k. ltb k (i + 1)) (pairsTo o op w s (j + 2)) l₀ (set l i (twoMore j (getD l i (o .past)) (i + j) (i + r) (i + j + 1) (i + (r - 1))))
+    pairs-two j r {l = l} {i = i} q e b S =
+        row-two (o .sum) (λ i. cellTerm o w s i (length w / 2)) (pairTerm o op w s) (o .past) j _ e b S
+        (λ t. twoMore j (getD l i (o .past)) (i + j) (i + q t) (add-assoc i j 1 t) (i + inner t))
       where
-        inner : i + r - 1 ≡ i + (length w - 1 - (j + 1))
+        inner : r - 1 ≡ length w - 1 - (j + 1)
         inner = omega arith
 
     pub pairs-end : {j n m : ℕ} {l : List A} → Row (pairsTo o op w s j) n l → j ≡ length w / 2 → n ≡ m → l ≡ tabulate (pairsAt o op w s) 0 m

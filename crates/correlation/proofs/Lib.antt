@@ -2,8 +2,10 @@
 pub mod Summed
 pub mod Along
 pub mod Folded
+pub mod Linear
 pub mod Classes
 pub mod Sizes
+pub mod Sliding
 pub mod KernelSizes
 pub mod Reversed
 pub mod Bounds

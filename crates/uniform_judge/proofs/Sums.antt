@@ -20,8 +20,9 @@ use Rattle.lanes.proofs.Passes.{every-along}
 use Rattle.border.specs.Border.{Border}
 use Rattle.border.specs.Modes.{badConstantBy}
 use Rattle.pad_line.proofs.Sizes.{SizedBorder, constant-sized, line-sized}
-use Rattle.uniform_line.specs.Mean.{windowSum, cut, means}
-use Rattle.uniform_line.proofs.Sliding.{sum-size}
+use Rattle.correlation.specs.WindowSum.{windowSum}
+use Rattle.correlation.proofs.Sliding.{sum-size}
+use Rattle.uniform_line.specs.Mean.{cut, means}
 use Rattle.uniform_judge.specs.Uniform.{paddedFor, windowSums, uniform1d}
 use Rattle.uniform_judge.specs.Judge.{badSums, badSumsFrom}
 use Rattle.uniform_judge.proofs.Window.{size-few}

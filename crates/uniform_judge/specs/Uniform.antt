@@ -12,7 +12,8 @@ use Rattle.lanes.specs.Axes.{overAxes}
 use Rattle.lanes.specs.Lanes.{alongAxis}
 use Rattle.border.specs.Border.{Border}
 use Rattle.pad_line.specs.Line.{paddedLine}
-use Rattle.uniform_line.specs.Mean.{windowSum, means}
+use Rattle.correlation.specs.WindowSum.{windowSum}
+use Rattle.uniform_line.specs.Mean.{means}
 
 abbrev pub paddedFor : Border ℤ → ℕ → List ℤ → List ℤ
 paddedFor b size s = paddedLine (pos 0) b (size / 2) (size - size / 2 - 1) s

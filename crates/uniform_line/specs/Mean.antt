@@ -1,6 +1,5 @@
 -- The mean of each window of a line, from SciPy's page on `uniform_filter1d`. That page does not say how a mean of whole numbers is rounded; document 01
 -- cuts the quotient toward zero. s is the padded line; the window of cell i is its cells from place i on, size of them.
---   windowSum s size i   the sum of the window of cell i
 --   cut total size       total over size, cut toward zero
 --   means s size n       the means of cells 0 to n − 1
 --   Averaged s size n    what the line worker supposes: 1 to 65 cells in a window, n windows inside the line, every cell a level that condition 3 accepts
@@ -8,15 +7,12 @@ use Prim.Native.Nat.{ℕ, _+_, _≤_, _<_}
 use mathlib.Core.Path.{_≡_}
 use mathlib.Core.Bool.{false}
 use mathlib.Core.List.{List}
-use lib.IntN.{ℤ, pos, _+ℤ_}
-use lib.ListN.{length, getD}
+use lib.IntN.{ℤ, pos}
+use lib.ListN.{length}
 use lib.Signed.{quotZ}
 use Rattle.numbers.specs.Lists.{tabulate, anyOf}
 use Rattle.array.specs.Conditions.{badLevel}
-use Rattle.correlation.specs.Weighed.{summed}
-
-abbrev pub windowSum : List ℤ → ℕ → ℕ → ℤ
-windowSum s size i = summed _+ℤ_ (pos 0) (λ j. getD s (i + j) (pos 0)) size
+use Rattle.correlation.specs.WindowSum.{windowSum}
 
 abbrev pub cut : ℤ → ℕ → ℤ
 cut total size = quotZ total (pos size)

@@ -4,7 +4,8 @@ use mathlib.Core.Path.{_≡_}
 use mathlib.Core.List.{[], _∷_}
 use lib.IntN.{pos}
 use Rattle.numbers.specs.Rows.{wholes, minus}
-use Rattle.uniform_line.specs.Mean.{windowSum, cut, means}
+use Rattle.correlation.specs.WindowSum.{windowSum}
+use Rattle.uniform_line.specs.Mean.{cut, means}
 
 pub record UniformLineRows : Type 0 where
   -- the windows of three cells of 1 2 4 8

@@ -4,23 +4,9 @@ ghost use mathlib.Core.Path.{_≡_};
 ghost use Prim.Native.Nat.{_+_, _/_, _^_, _≤_, _<_};
 ghost use lib.IntN.{natAbs};
 ghost use lib.ListN.{length};
-ghost use Rattle.uniform_line.specs.Mean.{windowSum, cut, means, Averaged};
+ghost use Rattle.uniform_line.specs.Mean.{cut, means, Averaged};
 ghost use Rattle.uniform_line.specs.Rows.{UniformLineRows};
-
-// The sum of the first count cells.
-fn first_sum(line: &[i64], count: usize) -> i64
-    requires { ⌜ Averaged (now line) (count + 1) 0 ⌝ }
-    ensures { λ r. ⌜ r ≡ windowSum (now (line .entry)) count 0 ⌝ }
-{
-    let mut sum = 0;
-    let mut j = 0;
-    while j < count {
-        let z = line[j];
-        sum += z;
-        j += 1;
-    }
-    sum
-}
+use correlate_line::running::first_sum;
 
 // What a division by size is a multiplication by: 2^35 over size, and one more.
 fn reciprocal_of(size: usize) -> u64

@@ -1,4 +1,4 @@
--- `correlate_line::correlate_line` meets its contract: each class sums in its own way, and all three are the plain sum.
+-- `correlate_line::correlate_line` meets its contract: each class sums in its own way, raised or not, and all are the plain sum.
 -- Assumes nothing.
 use mathlib.Core.Path.{sym, _∙_}
 use denote.Ref.{now}
@@ -8,6 +8,21 @@ use Rattle.correlation.proofs.Classes.{weighed-line}
 use borrow.Author.Needs.{needs}
 use Rattle.correlate_line.proofs.correlate_line.Statement.{statement}
 use Rattle.correlate_line.proofs.correlate_line.Tie as tie
+
+pays-requires : tie.Need-pays-requires
+pays-requires c κs = search needs
+
+is-narrow-requires : tie.Need-is-narrow-requires
+is-narrow-requires c κs = search needs
+
+narrow-line-requires : tie.Need-narrow-line-requires
+narrow-line-requires c κs = (c .before .before .before .before .before .pre .0, c .before .before .is-narrow .ensures (c .before .if2 .taken))
+
+same-length : tie.Need-same-length
+same-length c = search needs
+
+returns : tie.Need-returns
+returns c = search needs
 
 enum-told : tie.Need-enum-told
 enum-told c = search needs
@@ -27,41 +42,46 @@ enum-told-3 c = search needs
 antisymmetric-line-requires : tie.Need-antisymmetric-line-requires
 antisymmetric-line-requires c κs = search needs
 
-same-length : tie.Need-same-length
-same-length c = search needs
-
-returns : tie.Need-returns
-returns c = search needs
-
 same-length-2 : tie.Need-same-length-2
 same-length-2 c = search needs
 
 returns-2 : tie.Need-returns-2
-returns-2 c =
-    let s = c .before .before .before .before .before in
-    c .before .symmetric-line .ensures ∙ weighed-line (now (s .args .weights)) (now (s .args .line)) (length (now (s .args .out))) Symmetric (sym (c .before .before .before .enum-told2 .given .1) ∙ s .pre .1)
+returns-2 c = search needs
 
 same-length-3 : tie.Need-same-length-3
 same-length-3 c = search needs
 
 returns-3 : tie.Need-returns-3
 returns-3 c =
-    let s = c .before .before .before .before .before in
+    let s = c .before .before .before .before .before .before .before in
+    c .before .symmetric-line .ensures ∙ weighed-line (now (s .args .weights)) (now (s .args .line)) (length (now (s .args .out))) Symmetric (sym (c .before .before .before .enum-told2 .given .1) ∙ s .pre .1)
+
+same-length-4 : tie.Need-same-length-4
+same-length-4 c = search needs
+
+returns-4 : tie.Need-returns-4
+returns-4 c =
+    let s = c .before .before .before .before .before .before .before in
     c .before .antisymmetric-line .ensures ∙ weighed-line (now (s .args .weights)) (now (s .args .line)) (length (now (s .args .out))) AntiSymmetric (sym (c .before .before .before .enum-told3 .given .1) ∙ s .pre .1)
 
 pub correlate-line-spec : {M : Type 1} → statement M
 correlate-line-spec =
     tie.close
     (tie.spec
+    pays-requires
+    is-narrow-requires
+    narrow-line-requires
+    same-length
+    returns
     enum-told
     plain-line-requires
     enum-told-2
     symmetric-line-requires
     enum-told-3
     antisymmetric-line-requires
-    same-length
-    returns
     same-length-2
     returns-2
     same-length-3
-    returns-3)
+    returns-3
+    same-length-4
+    returns-4)

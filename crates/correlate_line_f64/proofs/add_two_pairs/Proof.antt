@@ -15,10 +15,10 @@ use Rattle.correlate_line_f64.proofs.add_two_pairs.Statement.{statement
 use Rattle.correlate_line_f64.proofs.add_two_pairs.Tie as tie
 
 abbrev Inv-loop : tie.InvT-loop
-Inv-loop weights line left right out₀ s0 s1 n i₀ out i = (i ≤ n) × (n ≡ length out₀) × Stored nan (λ k. ltb k i) (pairsTo floatOps (floatOps .sum) weights line (left + 2)) out₀ out
+Inv-loop weights line left right out₀ s0 s1 inner n i₀ out i = (i ≤ n) × (n ≡ length out₀) × Stored nan (λ k. ltb k i) (pairsTo floatOps (floatOps .sum) weights line (left + 2)) out₀ out
 
 abbrev μ-loop : tie.MeasureT-loop
-μ-loop weights line left right out₀ s0 s1 n i₀ out i = n - i
+μ-loop weights line left right out₀ s0 s1 inner n i₀ out i = n - i
 
 mul-s0 : tie.Need-mul-s0 Inv-loop μ-loop
 mul-s0 c = search needs
@@ -34,6 +34,9 @@ mul-s1 c = search needs
 
 shared-slice-read-s1 : tie.Need-shared-slice-read-s1 Inv-loop μ-loop
 shared-slice-read-s1 c = search needs
+
+sub-inner : tie.Need-sub-inner Inv-loop μ-loop
+sub-inner c = search needs
 
 loop-holds : tie.Need-loop-holds Inv-loop μ-loop
 loop-holds c = (search needs, refl, front-none nan _ _)
@@ -77,9 +80,6 @@ shared-slice-read-out-3 c = search needs
 add-out-5 : tie.Need-add-out-5 Inv-loop μ-loop
 add-out-5 c = search needs
 
-sub-out : tie.Need-sub-out Inv-loop μ-loop
-sub-out c = search needs
-
 mul-out-5 : tie.Need-mul-out-5 Inv-loop μ-loop
 mul-out-5 c = search needs
 
@@ -102,7 +102,7 @@ loop-again : tie.Need-loop-again Inv-loop μ-loop
 loop-again c =
     let s = c .before .before .before .before .before .before .before .before .before in
     let l = c .before .before .before .before .before .before .loop in
-    (search needs, l .inv .1, pairs-two floatOps (now (s .args .weights)) (now (s .args .line)) (floatOps .sum) (s .args .left) (s .args .right) (s .pre .2) (omega arith) (s .pre .3) (omega arith) (l .inv .2))
+    (search needs, l .inv .1, pairs-two floatOps (now (s .args .weights)) (now (s .args .line)) (floatOps .sum) (s .args .left) (s .args .right) (s .pre .2) (s .pre .3) (omega arith) (l .inv .2))
 
 same-length : tie.Need-same-length Inv-loop μ-loop
 same-length c = c .before .loop .inv .2 .kept
@@ -121,6 +121,7 @@ add-two-pairs-spec =
     add-s1
     mul-s1
     shared-slice-read-s1
+    sub-inner
     loop-holds
     mul-out
     slice-read-out
@@ -135,7 +136,6 @@ add-two-pairs-spec =
     mul-out-4
     shared-slice-read-out-3
     add-out-5
-    sub-out
     mul-out-5
     shared-slice-read-out-4
     mul-out-6

@@ -12,8 +12,10 @@ use mir.Syntax.{w64}
 use mir.Val.{toZ}
 use Rattle.numbers.proofs.Read.{read}
 use Rattle.numbers.proofs.Stored.{Stored, front-none, front-more, front-all}
-use Rattle.uniform_line.specs.Mean.{windowSum, cut}
-use Rattle.uniform_line.proofs.Sliding.{first-averaged, sum-computed, total-small, left-computed, mean-read, left-read}
+use Rattle.correlation.specs.WindowSum.{windowSum}
+use Rattle.correlate_line.proofs.SlidingSum.{sum-computed, total-small, left-computed, left-read}
+use Rattle.uniform_line.specs.Mean.{cut}
+use Rattle.uniform_line.proofs.Sliding.{cells, first-summable, mean-read}
 use borrow.Author.Needs.{needs}
 use Rattle.uniform_line.proofs.uniform_line.Statement.{statement}
 use Rattle.uniform_line.proofs.uniform_line.Tie as tie
@@ -32,7 +34,7 @@ reciprocal-of-requires : tie.Need-reciprocal-of-requires Inv-loop μ-loop
 reciprocal-of-requires c κs = (c .pre .some, c .pre .few)
 
 first-sum-requires : tie.Need-first-sum-requires Inv-loop μ-loop
-first-sum-requires c κs = first-averaged (c .before .pre)
+first-sum-requires c κs = first-summable (c .before .pre)
 
 loop-holds : tie.Need-loop-holds Inv-loop μ-loop
 loop-holds c = (search needs, refl, search needs, front-none (pos 0) _ _)
@@ -50,14 +52,14 @@ add-total-2 : tie.Need-add-total-2 Inv-loop μ-loop
 add-total-2 c =
     let s = c .before .before .before .before .before in
     let l = c .before .before .loop in
-    sum-computed (now (s .args .line)) (s .pre .levels) (s .args .size - 1) (l .i) (omega (arith, s .pre .few)) (l .inv .2) _ .fits
+    sum-computed (now (s .args .line)) (cells (s .pre)) (s .args .size - 1) (l .i) (omega (arith, s .pre .few)) (l .inv .2) _ .fits
 
 cut-mean-requires : tie.Need-cut-mean-requires Inv-loop μ-loop
 cut-mean-requires c κs =
     let r = c .before .before .before .before in
     let s = r .before in
     let l = c .before .before .loop in
-    ((s .pre .some, s .pre .few), (r .reciprocal-of .ensures, total-small (now (s .args .line)) (s .pre .levels) (s .args .size - 1) (l .i) (omega (arith, s .pre .few)) (l .inv .2) _))
+    ((s .pre .some, s .pre .few), (r .reciprocal-of .ensures, total-small (now (s .args .line)) (cells (s .pre)) (s .args .size - 1) (l .i) (omega (arith, s .pre .few)) (l .inv .2) _))
 
 mul-sum : tie.Need-mul-sum Inv-loop μ-loop
 mul-sum c = search needs
@@ -75,7 +77,7 @@ sub-sum : tie.Need-sub-sum Inv-loop μ-loop
 sub-sum c =
     let s = c .before .before .before .before .before .before .before in
     let l = c .before .before .before .before .loop in
-    left-computed (now (s .args .line)) (s .pre .levels) (s .args .size - 1) (l .i) (omega (arith, s .pre .few)) (l .inv .2) _ _ .fits
+    left-computed (now (s .args .line)) (cells (s .pre)) (s .args .size - 1) (l .i) (omega (arith, s .pre .few)) (l .inv .2) _ _ .fits
 
 add-i : tie.Need-add-i Inv-loop μ-loop
 add-i c = search needs
@@ -89,7 +91,7 @@ loop-again c =
     let l = c .before .before .before .before .loop in (
       search needs,
       l .inv .1,
-      left-read (now (s .args .line)) (s .pre .levels) (s .args .size - 1) (l .i) (omega (arith, s .pre .few)) (l .inv .2),
+      left-read (now (s .args .line)) (cells (s .pre)) (s .args .size - 1) (l .i) (omega (arith, s .pre .few)) (l .inv .2),
       front-more (pos 0) _ _ (omega arith) (l .inv .3) (read (c .before .cut-mean .ok) (c .before .cut-mean .ensures ∙ mean-read (s .pre) (l .i) (l .inv .2))),
     )
 

@@ -1,4 +1,4 @@
--- `uniform_line::first_sum` meets its contract. The loop's invariant: `sum` is the sum of the first `j` cells. The measure is what is left of the count.
+-- `correlate_line::running::first_sum` meets its contract. The loop's invariant: `sum` is the sum of the first `j` cells. The measure is what is left of the count.
 -- Assumes nothing.
 use mathlib.Core.Path.{_≡_, refl, sym, ap, _∙_}
 use Prim.Native.Nat.{_-_, _≤_}
@@ -9,13 +9,13 @@ use mir.Syntax.{w64}
 use lib.IntN.{pos, _+ℤ_}
 use lib.ListN.{getD}
 use mir.Val.{toZ}
-use Rattle.correlate_line.proofs.Computed.{read}
 use Rattle.correlation.specs.Weighed.{summed}
-use Rattle.uniform_line.specs.Mean.{windowSum}
-use Rattle.uniform_line.proofs.Sliding.{sum-computed, total-read}
+use Rattle.correlation.specs.WindowSum.{windowSum}
+use Rattle.correlate_line.proofs.Computed.{read}
+use Rattle.correlate_line.proofs.SlidingSum.{sum-computed, total-read}
 use borrow.Author.Needs.{needs}
-use Rattle.uniform_line.proofs.first_sum.Statement.{statement}
-use Rattle.uniform_line.proofs.first_sum.Tie as tie
+use Rattle.correlate_line.proofs.running.first_sum.Statement.{statement}
+use Rattle.correlate_line.proofs.running.first_sum.Tie as tie
 
 abbrev Inv-loop : tie.InvT-loop
 Inv-loop line count sum₀ j₀ sum j = (j ≤ count) × (toZ w64 sum ≡ windowSum line j 0)
@@ -37,7 +37,7 @@ add-sum : tie.Need-add-sum Inv-loop μ-loop
 add-sum c =
     let k = c .before .before in
     let s = k .before in
-    sum-computed (now (s .args .line)) (s .pre .levels) (k .loop .j) 0 (omega (arith, s .pre .few)) (k .loop .inv .1) (k .loop .j) .fits
+    sum-computed (now (s .args .line)) (s .pre .cells) (k .loop .j) 0 (omega (arith, s .pre .few)) (k .loop .inv .1) (k .loop .j) .fits
 
 add-j : tie.Need-add-j Inv-loop μ-loop
 add-j c = search needs
@@ -49,7 +49,7 @@ loop-again : tie.Need-loop-again Inv-loop μ-loop
 loop-again c =
     let k = c .before .before in
     let s = k .before in
-    (search needs, ap (λ m. read (toZ w64 (k .loop .sum) +ℤ read (getD (now (s .args .line)) m (pos 0)))) (sym (zero-add (k .loop .j))) ∙ total-read (now (s .args .line)) (s .pre .levels) (k .loop .j) 0 (omega (arith, s .pre .few)) (k .loop .inv .1))
+    (search needs, ap (λ m. read (toZ w64 (k .loop .sum) +ℤ read (getD (now (s .args .line)) m (pos 0)))) (sym (zero-add (k .loop .j))) ∙ total-read (now (s .args .line)) (s .pre .cells) (k .loop .j) 0 (omega (arith, s .pre .few)) (k .loop .inv .1))
 
 returns : tie.Need-returns Inv-loop μ-loop
 returns c = c .before .loop .inv .1 ∙ ap (λ m. windowSum (now (c .before .before .args .line)) m 0) (omega arith)
