@@ -1,10 +1,9 @@
-// Borders: the border modes and the padding modes that they map to, the cells that they read, and condition 9.
-// What a border extends a lane and a grid to is a definition: specs/Border.antt.
+// Borders: the border modes and the padding modes that they map to, and the cells that they read.
+// What a border extends a lane and a grid to is a definition: specs/Border.antt. `border_constant` has the code of condition 9.
 ghost use mathlib.Core.Path.{_≡_};
 ghost use Prim.Native.Nat.{_-_};
-ghost use Rattle.array.specs.Conditions.{badLevel, badFloat};
 ghost use Rattle.border.specs.Border.{cellBefore, cellAfter};
-ghost use Rattle.border.specs.Modes.{borderOf, borderOfF64, padModeOf, badConstantBy};
+ghost use Rattle.border.specs.Modes.{padModeOf};
 ghost use Rattle.border.specs.Rows.{BorderRows};
 
 // How a grid of whole levels is extended beyond its edges.
@@ -135,34 +134,6 @@ pub fn cell_after(along: Along, n: usize, k: usize) -> usize
         Along::Mirror => saturating_sub(saturating_sub(n, 1), k),
         Along::Reflect => saturating_sub(n, k),
         Along::Wrap => saturating_sub(k, 1),
-    }
-}
-
-// Condition 9: whether mode carries a level that condition 3 would refuse. Refuses nothing.
-// Constant(2147483648) gives true, Constant(-2147483647) and Wrap give false.
-pub fn bad_constant(mode: BorderMode) -> bool
-    ensures { λ r. ⌜ r ≡ badConstantBy badLevel (borderOf mode) ⌝ }
-{
-    match mode {
-        BorderMode::Constant(t) => conditions::bad_level(t),
-        BorderMode::Mirror => false,
-        BorderMode::Nearest => false,
-        BorderMode::Reflect => false,
-        BorderMode::Wrap => false,
-    }
-}
-
-// Condition 9 of a float border: whether mode carries a float that is not finite. Refuses nothing.
-// Constant(1.0 / 0.0) gives true, Constant(-0.0) and Wrap give false.
-pub fn bad_constant_f64(mode: BorderModeF64) -> bool
-    ensures { λ r. ⌜ r ≡ badConstantBy badFloat (borderOfF64 mode) ⌝ }
-{
-    match mode {
-        BorderModeF64::Constant(t) => conditions::bad_level_f64(t),
-        BorderModeF64::Mirror => false,
-        BorderModeF64::Nearest => false,
-        BorderModeF64::Reflect => false,
-        BorderModeF64::Wrap => false,
     }
 }
 

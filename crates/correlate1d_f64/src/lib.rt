@@ -43,7 +43,7 @@ fn weigh(
         Origin::Refused => {}
         Origin::Pads(left, right) => axis_filter_f64::correlate_axis_f64(
             weights,
-            symmetry::symmetry_state_f64(weights),
+            symmetry_state::symmetry_state_f64(weights),
             mode,
             data,
             shape,

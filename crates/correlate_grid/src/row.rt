@@ -70,7 +70,7 @@ pub(crate) fn sum_row(
     ensures { λ _. ⌜ now (swept .exit) ≡ weighedLine wholeOps NonSymmetric (now (weights .entry)) (rowLine (borderOf mode) axis none row (now («data» .entry))) (axis .len) ⌝ }
 {
     load_row(data, mode, axis, none, row, line);
-    let class = symmetry::symmetry_state_i64(weights);
+    let class = symmetry_state::symmetry_state_i64(weights);
     correlate_line::correlate_line(weights, class, line, swept);
 }
 

@@ -87,7 +87,7 @@ pub fn judge_correlate(
         return refusal;
     }
     let six = bad_weights(weights);
-    let nine = border::bad_constant(mode);
+    let nine = border_constant::bad_constant(mode);
     judge_weighing(shape, weights.len(), six, axis, mode, nine, origin, turned)
 }
 
@@ -110,7 +110,7 @@ pub fn judge_correlate_f64(
         return refusal;
     }
     let six = conditions::bad_levels_f64(weights);
-    let nine = border::bad_constant_f64(mode);
+    let nine = border_constant::bad_constant_f64(mode);
     judge_weighing(
         shape,
         weights.len(),

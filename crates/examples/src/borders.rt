@@ -28,11 +28,11 @@ pub fn modes() {
     mode(BorderMode::Mirror.to_pad_mode());
     mode(BorderMode::Reflect.to_pad_mode());
     mode(BorderMode::Nearest.to_pad_mode());
-    test(border::bad_constant(BorderMode::Constant(2147483648)));
-    test(border::bad_constant(BorderMode::Constant(-2147483647)));
-    test(border::bad_constant(BorderMode::Wrap));
-    test(border::bad_constant_f64(BorderModeF64::Constant(1.0 / 0.0)));
-    test(border::bad_constant_f64(BorderModeF64::Constant(-0.0)));
+    test(border_constant::bad_constant(BorderMode::Constant(2147483648)));
+    test(border_constant::bad_constant(BorderMode::Constant(-2147483647)));
+    test(border_constant::bad_constant(BorderMode::Wrap));
+    test(border_constant::bad_constant_f64(BorderModeF64::Constant(1.0 / 0.0)));
+    test(border_constant::bad_constant_f64(BorderModeF64::Constant(-0.0)));
 }
 
 // The two pads, or 7.

@@ -23,12 +23,12 @@ fn state(s: SymmetryState) {
 }
 
 pub fn symmetries() {
-    state(symmetry::symmetry_state_i64(&[1, 2, 0, -2, 1]));
-    state(symmetry::symmetry_state_i64(&[1, 2, 0, -2, -1]));
-    state(symmetry::symmetry_state_i64(&[1, 2, 5, -2, -1]));
-    state(symmetry::symmetry_state_i64(&[-9223372036854775808, 0, -9223372036854775808]));
-    state(symmetry::symmetry_state_i64(&[]));
+    state(symmetry_state::symmetry_state_i64(&[1, 2, 0, -2, 1]));
+    state(symmetry_state::symmetry_state_i64(&[1, 2, 0, -2, -1]));
+    state(symmetry_state::symmetry_state_i64(&[1, 2, 5, -2, -1]));
+    state(symmetry_state::symmetry_state_i64(&[-9223372036854775808, 0, -9223372036854775808]));
+    state(symmetry_state::symmetry_state_i64(&[]));
     // 0, 1, 2^-53; and 0, 1, 2^-51
-    state(symmetry::symmetry_state_f64(&[0.0, 1.0, 1.1102230246251565e-16]));
-    state(symmetry::symmetry_state_f64(&[0.0, 1.0, 4.440892098500626e-16]));
+    state(symmetry_state::symmetry_state_f64(&[0.0, 1.0, 1.1102230246251565e-16]));
+    state(symmetry_state::symmetry_state_f64(&[0.0, 1.0, 4.440892098500626e-16]));
 }

@@ -23,7 +23,7 @@ fn rows() {
     correlate_grid::rows();
     kernel_judge::rows();
     gradient_judge::rows();
-    gradient::rows();
+    gradient_passes::rows();
     uniform_line::rows();
     uniform_judge::rows();
     uniform::rows();

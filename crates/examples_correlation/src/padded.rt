@@ -1,4 +1,4 @@
-// The examples of `pad_line` and `pad_line_f64`.
+// The examples of `pad_line`, `pad_line_f64` and `window`.
 use border::BorderMode;
 use border::BorderModeF64;
 use print::levels;
@@ -46,8 +46,8 @@ pub fn lines_f64() {
 }
 
 pub fn windows() {
-    levels(pad_line::window(&[7, 1, 2, 3, 7], 1, 2));
-    levels(pad_line::window(&[7, 1, 2, 3, 7], 4, 2));
-    line(pad_line_f64::window_f64(&[7.0, 1.0, 2.0, 3.0, 7.0], 1, 2).len());
-    line(pad_line_f64::window_f64(&[7.0, 1.0, 2.0, 3.0, 7.0], 4, 2).len());
+    levels(window::window(&[7, 1, 2, 3, 7], 1, 2));
+    levels(window::window(&[7, 1, 2, 3, 7], 4, 2));
+    line(window::window_f64(&[7.0, 1.0, 2.0, 3.0, 7.0], 1, 2).len());
+    line(window::window_f64(&[7.0, 1.0, 2.0, 3.0, 7.0], 4, 2).len());
 }

@@ -78,7 +78,7 @@ fn judge_window(shape: &[usize], size: usize, axis: usize, mode: BorderMode, ori
     if conditions::bad_axis(shape, axis) {
         return numbers::AXIS;
     }
-    if border::bad_constant(mode) {
+    if border_constant::bad_constant(mode) {
         return numbers::CONSTANT;
     }
     let n = shapes::len_of(shape, axis);
@@ -144,7 +144,7 @@ fn judge_axes(shape: &[usize], size: usize, mode: BorderMode, origin: isize) -> 
     if refusal != 0 {
         return refusal;
     }
-    if border::bad_constant(mode) {
+    if border_constant::bad_constant(mode) {
         return numbers::CONSTANT;
     }
     if bad_reach_any(mode, shape, size, origin) {

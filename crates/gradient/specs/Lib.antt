@@ -1,3 +1,2 @@
 -- The calls of the Prewitt and Sobel filters.
 pub mod Filters
-pub mod Rows

@@ -1,65 +1,10 @@
 // Prewitt and Sobel filters of whole levels (src/filters/con_corr.rs; SciPy's prewitt and sobel): the difference along an axis, smoothed
 // along every other axis.
-ghost use mathlib.Core.Path.{_≡_};
-ghost use lib.ListN.{length};
-ghost use Rattle.numbers.specs.Refusal.{refusalOf};
 ghost use Rattle.border.specs.Modes.{borderOf};
-ghost use Rattle.gradient_judge.specs.Gradient.{prewittWeights, sobelWeights, gradient};
-ghost use Rattle.gradient_judge.specs.Judge.{gradientJudged, ThreeSmall};
-ghost use Rattle.gradient.specs.Filters.{firstOther, lastOther, GradientAnswers};
-ghost use Rattle.gradient.specs.Rows.{GradientRows};
+ghost use Rattle.gradient_judge.specs.Gradient.{prewittWeights, sobelWeights};
+ghost use Rattle.gradient_judge.specs.Judge.{ThreeSmall};
+ghost use Rattle.gradient.specs.Filters.{GradientAnswers};
 use border::BorderMode;
-
-// The first axis beside the given one.
-fn first_other(axis: usize) -> usize
-    ensures { λ r. ⌜ r ≡ firstOther axis ⌝ }
-{
-    if axis == 0 {
-        return 1;
-    }
-    0
-}
-
-// The last axis of three beside the given one.
-fn last_other(axis: usize) -> usize
-    ensures { λ r. ⌜ r ≡ lastOther axis ⌝ }
-{
-    if axis == 2 {
-        return 1;
-    }
-    2
-}
-
-// Fills out with the answer of an accepted call; second holds what a pass between leaves.
-fn passes(
-    smooth: &[i64],
-    data: &[i64],
-    shape: &[usize],
-    axis: usize,
-    mode: BorderMode,
-    second: &mut [i64],
-    out: &mut [i64],
-)
-    requires { ⌜ ThreeSmall (now smooth) × (refusalOf (gradientJudged (now smooth) (borderOf mode) (now shape) axis (now «data») (length (now out)) (length (now second))) ≡ 0) ⌝ }
-    ensures { λ _. ⌜ now (out .exit) ≡ gradient (now (smooth .entry)) (borderOf mode) (now (shape .entry)) axis (now («data» .entry)) ⌝ }
-{
-    let difference = [-1, 0, 1];
-    let axes = shape.len();
-    if axes == 1 {
-        correlate1d::weigh(data, shape, &difference, axis, mode, 0, out);
-        return;
-    }
-    let first = first_other(axis);
-    if axes == 2 {
-        correlate1d::weigh(data, shape, &difference, axis, mode, 0, second);
-        correlate1d::weigh(second, shape, smooth, first, mode, 0, out);
-        return;
-    }
-    let last = last_other(axis);
-    correlate1d::weigh(data, shape, &difference, axis, mode, 0, out);
-    correlate1d::weigh(out, shape, smooth, first, mode, 0, second);
-    correlate1d::weigh(second, shape, smooth, last, mode, 0, out);
-}
 
 // Judges a call, and fills out where it is accepted; second then holds zeros.
 fn filter(
@@ -78,7 +23,7 @@ fn filter(
     if refusal != 0 {
         return refusal;
     }
-    passes(smooth, data, shape, axis, mode, second, out);
+    gradient_passes::passes(smooth, data, shape, axis, mode, second, out);
     assign::fill(second, 0);
     numbers::ACCEPTED
 }
@@ -123,8 +68,3 @@ pub fn sobel(
 {
     filter(&[1, 2, 1], data, shape, axis, mode, second, out)
 }
-
-// Worked rows of this crate's definitions: the axes beside each axis. Refuses nothing.
-pub fn rows()
-    ensures { λ _. ⌜ GradientRows ⌝ }
-{}

@@ -13,7 +13,7 @@ fn judge_passes(shape: &[usize], axis: usize, mode: BorderMode) -> u8
     if conditions::bad_axis(shape, axis) {
         return numbers::AXIS;
     }
-    if border::bad_constant(mode) {
+    if border_constant::bad_constant(mode) {
         return numbers::CONSTANT;
     }
     if filter_judge::bad_reach_any(mode, shape, 3, 0) {

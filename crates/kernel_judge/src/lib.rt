@@ -33,7 +33,7 @@ fn judge_placed(
     if origin::bad_origin(side, origin) {
         return numbers::ORIGIN;
     }
-    if border::bad_constant(mode) {
+    if border_constant::bad_constant(mode) {
         return numbers::CONSTANT;
     }
     if pads::bad_reach(mode, shape, side, origin, turned) {

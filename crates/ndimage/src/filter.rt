@@ -1,4 +1,5 @@
 // The filters of whole numbers: one form of request for all of them, of which each has some parts.
+use crate::apply;
 use border::BorderMode;
 use reading::cursor;
 use reading::cursor::Cursor;
@@ -186,95 +187,6 @@ pub fn lent(n: usize, most: usize) -> usize
     most
 }
 
-// The call of a filter without an origin, and its number.
-fn apply_centred(
-    filter: u8,
-    data: &[i64],
-    shape: &[usize],
-    asked: Asked,
-    second: &mut [i64],
-    out: &mut [i64],
-) -> u8 {
-    let mode = asked.mode;
-    if filter == PREWITT {
-        return gradient::prewitt(data, shape, asked.axis, mode, second, out);
-    }
-    if filter == SOBEL {
-        return gradient::sobel(data, shape, asked.axis, mode, second, out);
-    }
-    if filter == UNIFORM {
-        return uniform::uniform_filter(data, shape, asked.size, mode, second, out);
-    }
-    uniform::uniform_filter1d(data, shape, asked.size, asked.axis, mode, out)
-}
-
-// The call of a filter with weights, and its number.
-fn apply_weights(
-    filter: u8,
-    data: &[i64],
-    shape: &[usize],
-    sides: &[usize],
-    weights: &[i64],
-    asked: Asked,
-    out: &mut [i64],
-) -> u8 {
-    let mode = asked.mode;
-    let origin = asked.origin as isize;
-    if filter == CORRELATE1D {
-        return correlate1d::correlate1d(data, shape, weights, asked.axis, mode, origin, out);
-    }
-    if filter == CONVOLVE1D {
-        return correlate1d::convolve1d(data, shape, weights, asked.axis, mode, origin, out);
-    }
-    if filter == CORRELATE {
-        return correlate::correlate(data, shape, weights, sides, mode, origin, out);
-    }
-    correlate::convolve(data, shape, weights, sides, mode, origin, out)
-}
-
-// The call of a minimum or maximum, and its number.
-fn apply_extreme(
-    filter: u8,
-    data: &[i64],
-    shape: &[usize],
-    asked: Asked,
-    second: &mut [i64],
-    out: &mut [i64],
-) -> u8 {
-    let mode = asked.mode;
-    let origin = asked.origin as isize;
-    if filter == MINIMUM1D {
-        return min_max1d::minimum_filter1d(data, shape, asked.size, asked.axis, mode, origin, out);
-    }
-    if filter == MAXIMUM1D {
-        return min_max1d::maximum_filter1d(data, shape, asked.size, asked.axis, mode, origin, out);
-    }
-    if filter == MINIMUM {
-        return min_max::minimum_filter(data, shape, asked.size, mode, origin, second, out);
-    }
-    min_max::maximum_filter(data, shape, asked.size, mode, origin, second, out)
-}
-
-// The call, and its number.
-fn apply(
-    filter: u8,
-    data: &[i64],
-    shape: &[usize],
-    sides: &[usize],
-    weights: &[i64],
-    asked: Asked,
-    second: &mut [i64],
-    out: &mut [i64],
-) -> u8 {
-    if filter > CONVOLVE {
-        return apply_centred(filter, data, shape, asked, second, out);
-    }
-    if filter >= MINIMUM1D && filter <= MAXIMUM {
-        return apply_extreme(filter, data, shape, asked, second, out);
-    }
-    apply_weights(filter, data, shape, sides, weights, asked, out)
-}
-
 // A number or the levels.
 pub fn answered(refusal: u8, out: &[i64]) {
     if refusal != 0 {
@@ -284,65 +196,19 @@ pub fn answered(refusal: u8, out: &[i64]) {
     answering::levels(out);
 }
 
-// The call on what was read.
-fn serve(
+// The call and its answer; the second grid has what was asked, or one cell more than any call takes.
+fn answer(
     filter: u8,
     data: &[i64],
     shape: &[usize],
     sides: &[usize],
     weights: &[i64],
     asked: Asked,
-    second: &mut [i64],
     out: &mut [i64],
 ) {
-    let cells = lent(asked.cells, data.len());
-    let axes = lent(asked.axes, shape.len());
-    let kernel = lent(asked.sides, sides.len());
-    let count = lent(asked.weights, weights.len());
-    let refusal = apply(
-        filter,
-        &data[0..cells],
-        &shape[0..axes],
-        &sides[0..kernel],
-        &weights[0..count],
-        asked,
-        second,
-        out,
-    );
-    answered(refusal, out);
-}
-
-// A request for a filter of whole numbers, from its grid on.
-pub fn whole(
-    filter: u8,
-    input: &mut [u8],
-    token: &mut [u8],
-    shape: &mut [usize],
-    sides: &mut [usize],
-    data: &mut [i64],
-    weights: &mut [i64],
-    second: &mut [i64],
-    out: &mut [i64],
-    c: Cursor,
-) -> Cursor {
-    let front = read_front(
-        form_of(filter),
-        input,
-        token,
-        shape,
-        sides,
-        data,
-        weights,
-        c,
-    );
-    let asked = read_rest(form_of(filter), input, token, front);
-    let end = asked.c;
-    if end.fault != 0 {
-        return end;
-    }
-    let n = lent(lent(asked.out, data.len()), out.len());
-    let m = lent(asked.second, second.len());
-    serve(
+    let mut second = [0i64; 8193];
+    let m = lent(asked.second, 8193);
+    let refusal = apply::apply(
         filter,
         data,
         shape,
@@ -350,7 +216,64 @@ pub fn whole(
         weights,
         asked,
         &mut second[0..m],
+        out,
+    );
+    answered(refusal, out);
+}
+
+// The call on what was read, where nothing was wrong with it.
+fn serve(
+    filter: u8,
+    data: &[i64],
+    shape: &[usize],
+    sides: &[usize],
+    weights: &[i64],
+    asked: Asked,
+    out: &mut [i64],
+) {
+    let c = asked.c;
+    if c.fault != 0 {
+        return;
+    }
+    let cells = lent(asked.cells, data.len());
+    let axes = lent(asked.axes, shape.len());
+    let kernel = lent(asked.sides, sides.len());
+    let count = lent(asked.weights, weights.len());
+    let n = lent(lent(asked.out, data.len()), out.len());
+    answer(
+        filter,
+        &data[0..cells],
+        &shape[0..axes],
+        &sides[0..kernel],
+        &weights[0..count],
+        asked,
         &mut out[0..n],
     );
-    end
+}
+
+// A request for a filter of whole numbers, from its grid on.
+pub fn whole(
+    filter: u8,
+    input: &mut [u8],
+    token: &mut [u8],
+    data: &mut [i64],
+    out: &mut [i64],
+    c: Cursor,
+) -> Cursor {
+    let mut shape = [0usize; 4];
+    let mut sides = [0usize; 4];
+    let mut weights = [0i64; 344];
+    let front = read_front(
+        form_of(filter),
+        input,
+        token,
+        &mut shape,
+        &mut sides,
+        data,
+        &mut weights,
+        c,
+    );
+    let asked = read_rest(form_of(filter), input, token, front);
+    serve(filter, data, &shape, &sides, &weights, asked, out);
+    asked.c
 }

@@ -45,7 +45,7 @@ fn read_front(
     }
 }
 
-// The border, the origin and the length of the output.
+// The border, the origin and the length of the output, to the end of the line.
 fn read_back(input: &mut [u8], token: &mut [u8], front: Asked) -> Asked {
     let from = front.c;
     let border = mode::read_border_f64(input, token, from);
@@ -55,6 +55,7 @@ fn read_back(input: &mut [u8], token: &mut [u8], front: Asked) -> Asked {
     let origin_end = origin.c;
     let out = number::read_count(input, token, origin_end);
     let out_end = out.c;
+    let end = cursor::finish(input, token, out_end);
     Asked {
         axes: front.axes,
         cells: front.cells,
@@ -63,7 +64,7 @@ fn read_back(input: &mut [u8], token: &mut [u8], front: Asked) -> Asked {
         mode,
         origin: origin.z,
         out: out.n,
-        c: out_end,
+        c: end,
     }
 }
 
@@ -92,7 +93,8 @@ fn answered(refusal: u8, out: &[f64]) {
     answering::levels_f64(out);
 }
 
-fn serve(
+// The call and its answer.
+fn answer(
     convolve: bool,
     data: &[f64],
     shape: &[usize],
@@ -100,39 +102,38 @@ fn serve(
     asked: Asked,
     out: &mut [f64],
 ) {
+    let refusal = apply(convolve, data, shape, weights, asked, out);
+    answered(refusal, out);
+}
+
+// The call on what was read, where nothing was wrong with it.
+fn serve(convolve: bool, data: &[f64], shape: &[usize], weights: &[f64], asked: Asked) {
+    let c = asked.c;
+    if c.fault != 0 {
+        return;
+    }
+    let mut out = [0.0; 8193];
     let cells = lent(asked.cells, data.len());
     let axes = lent(asked.axes, shape.len());
     let count = lent(asked.weights, weights.len());
-    let refusal = apply(
+    let n = lent(asked.out, 8193);
+    answer(
         convolve,
         &data[0..cells],
         &shape[0..axes],
         &weights[0..count],
         asked,
-        out,
+        &mut out[0..n],
     );
-    answered(refusal, out);
 }
 
 // A request of floats, from its grid on.
-pub fn floats(
-    convolve: bool,
-    input: &mut [u8],
-    token: &mut [u8],
-    shape: &mut [usize],
-    data: &mut [f64],
-    weights: &mut [f64],
-    out: &mut [f64],
-    c: Cursor,
-) -> Cursor {
-    let front = read_front(input, token, shape, data, weights, c);
+pub fn floats(convolve: bool, input: &mut [u8], token: &mut [u8], c: Cursor) -> Cursor {
+    let mut shape = [0usize; 4];
+    let mut data = [0.0; 8193];
+    let mut weights = [0.0; 344];
+    let front = read_front(input, token, &mut shape, &mut data, &mut weights, c);
     let asked = read_back(input, token, front);
-    let from = asked.c;
-    let end = cursor::finish(input, token, from);
-    if end.fault != 0 {
-        return end;
-    }
-    let n = lent(asked.out, out.len());
-    serve(convolve, data, shape, weights, asked, &mut out[0..n]);
-    end
+    serve(convolve, &data, &shape, &weights, asked);
+    asked.c
 }

@@ -34,19 +34,20 @@ pub fn whole(input: &mut [u8], token: &mut [u8], data: &mut [i64], c: Cursor) ->
         return end;
     }
     let n = lent(list.n, data.len());
-    class(symmetry::symmetry_state_i64(&data[0..n]));
+    class(symmetry_state::symmetry_state_i64(&data[0..n]));
     end
 }
 
 // The class of floats.
-pub fn floats(input: &mut [u8], token: &mut [u8], data: &mut [f64], c: Cursor) -> Cursor {
-    let list = number::list_f64(input, token, data, c);
+pub fn floats(input: &mut [u8], token: &mut [u8], c: Cursor) -> Cursor {
+    let mut data = [0.0; 8193];
+    let list = number::list_f64(input, token, &mut data, c);
     let end = listed(input, token, list);
     if end.fault != 0 {
         return end;
     }
-    let n = lent(list.n, data.len());
-    class(symmetry::symmetry_state_f64(&data[0..n]));
+    let n = lent(list.n, 8193);
+    class(symmetry_state::symmetry_state_f64(&data[0..n]));
     end
 }
 
@@ -58,40 +59,24 @@ pub fn digit(cell: bool) -> i64 {
     0
 }
 
-// The 27 cells, the last axis fastest.
-fn cells(kernel: Kernel3d) {
-    let k = kernel.generate();
-    answering::levels(
-        &[
-            digit(k[0][0][0]),
-            digit(k[0][0][1]),
-            digit(k[0][0][2]),
-            digit(k[0][1][0]),
-            digit(k[0][1][1]),
-            digit(k[0][1][2]),
-            digit(k[0][2][0]),
-            digit(k[0][2][1]),
-            digit(k[0][2][2]),
-            digit(k[1][0][0]),
-            digit(k[1][0][1]),
-            digit(k[1][0][2]),
-            digit(k[1][1][0]),
-            digit(k[1][1][1]),
-            digit(k[1][1][2]),
-            digit(k[1][2][0]),
-            digit(k[1][2][1]),
-            digit(k[1][2][2]),
-            digit(k[2][0][0]),
-            digit(k[2][0][1]),
-            digit(k[2][0][2]),
-            digit(k[2][1][0]),
-            digit(k[2][1][1]),
-            digit(k[2][1][2]),
-            digit(k[2][2][0]),
-            digit(k[2][2][1]),
-            digit(k[2][2][2]),
-        ],
-    );
+// Sets the levels to a kernel's cells, the last axis fastest.
+fn spread(kernel: Kernel3d, levels: &mut [i64]) {
+    let cells = kernel.generate();
+    let mut i = 0;
+    while i < 27 {
+        if i >= levels.len() {
+            break;
+        }
+        let cell = cells[i / 9][i / 3 % 3][i % 3];
+        levels[i] = digit(cell);
+        i += 1;
+    }
+}
+
+fn show_cells(kernel: Kernel3d) {
+    let mut levels = [0i64; 27];
+    spread(kernel, &mut levels);
+    answering::levels(&levels);
 }
 
 // Which kernel the token names: 1 star, 2 ball, 3 full, 0 none.
@@ -110,14 +95,14 @@ fn named(token: &[u8], len: usize) -> u8 {
 
 fn show(name: u8) {
     if name == 1 {
-        cells(Kernel3d::Star);
+        show_cells(Kernel3d::Star);
         return;
     }
     if name == 2 {
-        cells(Kernel3d::Ball);
+        show_cells(Kernel3d::Ball);
         return;
     }
-    cells(Kernel3d::Full);
+    show_cells(Kernel3d::Full);
 }
 
 // A request for a kernel's cells.

@@ -1,4 +1,5 @@
 // Answers requests on standard input, a line each, with a line each on standard output.
+mod apply;
 mod filter;
 mod filter_f64;
 mod kernel;
@@ -8,47 +9,25 @@ mod request;
 
 use reading::cursor;
 
-// The arrays are made once. Each holds one cell more than any call takes, so that what is too long is refused as such.
+// The large arrays are made once. Each holds one cell more than any call takes, so that what is too long is refused as such.
 fn main() {
     let mut input = [0u8; 65536];
     let mut token = [0u8; 64];
-    let mut shape = [0usize; 4];
-    let mut sides = [0usize; 4];
     let mut data = [0i64; 8193];
-    let mut weights = [0i64; 344];
-    let mut second = [0i64; 8193];
     let mut out = [0i64; 32769];
-    let mut data_f64 = [0.0; 8193];
-    let mut weights_f64 = [0.0; 344];
-    let mut out_f64 = [0.0; 8193];
     let mut c = cursor::start();
     let mut turns = u64::MAX;
     while turns > 0 {
         let begun = request::begin(&mut input, &mut token, cursor::line_from(c));
         let from = begun.c;
-        let middle = request::whole(
+        c = request::answer(
             begun.name,
             begun.float,
             &mut input,
             &mut token,
-            &mut shape,
-            &mut sides,
             &mut data,
-            &mut weights,
-            &mut second,
             &mut out,
             from,
-        );
-        c = request::floats(
-            begun.name,
-            begun.float,
-            &mut input,
-            &mut token,
-            &mut shape,
-            &mut data_f64,
-            &mut weights_f64,
-            &mut out_f64,
-            middle,
         );
         request::report(&token, c);
         if cursor::over(c) {

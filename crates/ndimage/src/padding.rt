@@ -58,6 +58,23 @@ fn read_out(
     number::read_count(input, token, c)
 }
 
+// The same to the end of the line.
+fn read_end(
+    to: bool,
+    input: &mut [u8],
+    token: &mut [u8],
+    out: &mut [i64],
+    c: Cursor,
+) -> number::Count {
+    let length = read_out(to, input, token, out, c);
+    let from = length.c;
+    let end = cursor::finish(input, token, from);
+    number::Count {
+        n: length.n,
+        c: end,
+    }
+}
+
 // The call, and its number.
 fn apply(to: bool, data: &[i64], shape: &[usize], asked: Asked, out: &mut [i64]) -> u8 {
     let pads = asked.pads;
@@ -68,11 +85,29 @@ fn apply(to: bool, data: &[i64], shape: &[usize], asked: Asked, out: &mut [i64])
     pad::pad(data, shape, pads, asked.count, mode, out)
 }
 
-fn serve(to: bool, data: &[i64], shape: &[usize], asked: Asked, out: &mut [i64]) {
+// The call and its answer.
+fn answer(to: bool, data: &[i64], shape: &[usize], asked: Asked, out: &mut [i64]) {
+    let refusal = apply(to, data, shape, asked, out);
+    answered(refusal, out);
+}
+
+// The call on what was read, where nothing was wrong with it.
+fn serve(
+    to: bool,
+    data: &[i64],
+    shape: &[usize],
+    asked: Asked,
+    length: number::Count,
+    out: &mut [i64],
+) {
+    let end = length.c;
+    if end.fault != 0 {
+        return;
+    }
     let cells = lent(asked.cells, data.len());
     let axes = lent(asked.axes, shape.len());
-    let refusal = apply(to, &data[0..cells], &shape[0..axes], asked, out);
-    answered(refusal, out);
+    let n = lent(length.n, out.len());
+    answer(to, &data[0..cells], &shape[0..axes], asked, &mut out[0..n]);
 }
 
 // A request for padding, from its grid on.
@@ -80,20 +115,14 @@ pub fn padding(
     to: bool,
     input: &mut [u8],
     token: &mut [u8],
-    shape: &mut [usize],
     data: &mut [i64],
     out: &mut [i64],
     c: Cursor,
 ) -> Cursor {
-    let asked = read_front(input, token, shape, data, c);
+    let mut shape = [0usize; 4];
+    let asked = read_front(input, token, &mut shape, data, c);
     let front = asked.c;
-    let length = read_out(to, input, token, out, front);
-    let from = length.c;
-    let end = cursor::finish(input, token, from);
-    if end.fault != 0 {
-        return end;
-    }
-    let n = lent(length.n, out.len());
-    serve(to, data, shape, asked, &mut out[0..n]);
-    end
+    let length = read_end(to, input, token, out, front);
+    serve(to, data, &shape, asked, length, out);
+    length.c
 }

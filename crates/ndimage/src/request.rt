@@ -135,56 +135,23 @@ fn read_kind(name: u8, input: &mut [u8], token: &mut [u8], c: Cursor) -> Begun {
     }
 }
 
-// Requests of floats; any other changes nothing.
-pub fn floats(
-    name: u8,
-    float: bool,
-    input: &mut [u8],
-    token: &mut [u8],
-    shape: &mut [usize],
-    data: &mut [f64],
-    weights: &mut [f64],
-    out: &mut [f64],
-    c: Cursor,
-) -> Cursor {
-    if !float {
-        return c;
-    }
+// Requests of floats.
+fn floats(name: u8, input: &mut [u8], token: &mut [u8], c: Cursor) -> Cursor {
     if name == SYMMETRY {
-        return kernel::floats(input, token, data, c);
+        return kernel::floats(input, token, c);
     }
-    filter_f64::floats(
-        name == filter::CONVOLVE1D,
-        input,
-        token,
-        shape,
-        data,
-        weights,
-        out,
-        c,
-    )
+    filter_f64::floats(name == filter::CONVOLVE1D, input, token, c)
 }
 
-// Requests of whole numbers; any other changes nothing.
-pub fn whole(
+// Requests of whole numbers that are no filter's, but for the median of masks.
+fn others(
     name: u8,
-    float: bool,
     input: &mut [u8],
     token: &mut [u8],
-    shape: &mut [usize],
-    sides: &mut [usize],
     data: &mut [i64],
-    weights: &mut [i64],
-    second: &mut [i64],
     out: &mut [i64],
     c: Cursor,
 ) -> Cursor {
-    if float {
-        return c;
-    }
-    if name == 0 {
-        return c;
-    }
     if name == SYMMETRY {
         return kernel::whole(input, token, data, c);
     }
@@ -192,26 +159,31 @@ pub fn whole(
         return kernel::kernel(input, token, c);
     }
     if name == MEDIAN {
-        return mask::median(input, token, shape, data, out, c);
+        return mask::median(input, token, data, out, c);
     }
-    if name == PAD {
-        return padding::padding(false, input, token, shape, data, out, c);
+    padding::padding(name == PAD_TO, input, token, data, out, c)
+}
+
+// The call that a name asks for, on what the rest of the line says; 0 asks for none.
+pub fn answer(
+    name: u8,
+    float: bool,
+    input: &mut [u8],
+    token: &mut [u8],
+    data: &mut [i64],
+    out: &mut [i64],
+    c: Cursor,
+) -> Cursor {
+    if name == 0 {
+        return c;
     }
-    if name == PAD_TO {
-        return padding::padding(true, input, token, shape, data, out, c);
+    if float {
+        return floats(name, input, token, c);
     }
-    filter::whole(
-        name,
-        input,
-        token,
-        shape,
-        sides,
-        data,
-        weights,
-        second,
-        out,
-        c,
-    )
+    if name < PAD {
+        return filter::whole(name, input, token, data, out, c);
+    }
+    others(name, input, token, data, out, c)
 }
 
 // Lines that ask for no call: nothing, help, an unknown name.

@@ -1,10 +1,9 @@
-// The padded line: a lane read into a lent line and extended in place, the window of a cell, and condition 11 of a lane.
+// The padded line: a lane read into a lent line and extended in place, and condition 11 of a lane. `window` has the window of a cell.
 ghost use mathlib.Core.Path.{_≡_};
 ghost use mathlib.Core.Bool.{_&&_};
 ghost use Prim.Native.Nat.{_+_};
 ghost use lib.Dec.{leb};
 ghost use lib.IntN.{pos};
-ghost use Rattle.numbers.specs.Windows.{windowOf};
 ghost use Rattle.lanes.specs.Lanes.{laneInside};
 ghost use Rattle.border.specs.Modes.{borderOf};
 ghost use Rattle.pad_line.specs.Line.{badPad, paddedLane};
@@ -107,28 +106,6 @@ pub fn pad_lane(
     let e = left + n;
     lanes::read_lane(grid, stride, lane, &mut line[left..e]);
     extension::extend(mode, left, n, right, line);
-}
-
-// The window of a cell: the part of a padded line from place i to i + len, i + len not included.
-//
-// * `line` - the padded line.
-// * `i` - the number of the cell, counted from 0; its window starts at place i.
-// * `len` - how many cells the window has.
-//
-// Where i + len passes the end of the line (or 2^64), the empty part at the line's start. Refuses nothing.
-// The window of cell 1 of length 2 of 7 1 2 3 7 is 1 2.
-pub fn window(line: &[i64], i: usize, len: usize) -> &[i64]
-    ensures { λ r. ⌜ now r ≡ windowOf (now (line .entry)) i len ⌝ }
-{
-    let n = line.len();
-    if n < len {
-        return &line[..0];
-    }
-    if n - len < i {
-        return &line[..0];
-    }
-    let e = i + len;
-    &line[i..e]
 }
 
 // Worked rows of this crate's definitions: T1, unequal pads, condition 11, windows, and lines that stay as they were. Refuses nothing.

@@ -1,7 +1,6 @@
-// The float twin of `pad_line`: a lane of floats read into a lent line and extended in place, the window of a cell, and condition 11.
+// The float twin of `pad_line`: a lane of floats read into a lent line and extended in place, and condition 11.
 ghost use mathlib.Core.Path.{_≡_};
 ghost use lib.Ieee.{nan};
-ghost use Rattle.numbers.specs.Windows.{windowOf};
 ghost use Rattle.border.specs.Modes.{borderOfF64};
 ghost use Rattle.pad_line.specs.Line.{badPad, paddedLane};
 ghost use Rattle.pad_line_f64.specs.Rows.{PadLineF64Rows};
@@ -52,21 +51,6 @@ pub fn pad_lane_f64(
     let e = left + n;
     lanes::read_lane_f64(grid, stride, lane, &mut line[left..e]);
     extension::extend_f64(mode, left, n, right, line);
-}
-
-// As `pad_line::window`, of float levels.
-pub fn window_f64(line: &[f64], i: usize, len: usize) -> &[f64]
-    ensures { λ r. ⌜ now r ≡ windowOf (now (line .entry)) i len ⌝ }
-{
-    let count = line.len();
-    if count < len {
-        return &line[..0];
-    }
-    if count - len < i {
-        return &line[..0];
-    }
-    let end = i + len;
-    &line[i..end]
 }
 
 // Worked rows on floats of `pad_line`'s definitions: T1 on any three floats, condition 11, a window, and a line that stays. Refuses nothing.

@@ -56,7 +56,7 @@ fn judge_along(shape: &[usize], size: usize, axis: usize, mode: BorderMode) -> u
     if conditions::bad_axis(shape, axis) {
         return numbers::AXIS;
     }
-    if border::bad_constant(mode) {
+    if border_constant::bad_constant(mode) {
         return numbers::CONSTANT;
     }
     let n = shapes::len_of(shape, axis);
@@ -73,7 +73,7 @@ fn judge_axes(shape: &[usize], size: usize, mode: BorderMode) -> u8
     if filter_judge::bad_size(size) {
         return numbers::KERNEL;
     }
-    if border::bad_constant(mode) {
+    if border_constant::bad_constant(mode) {
         return numbers::CONSTANT;
     }
     if bad_grid(mode, shape, size) {

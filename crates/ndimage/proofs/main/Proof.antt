@@ -7,13 +7,11 @@ use Rattle.ndimage.proofs.main.Statement.{statement}
 use Rattle.ndimage.proofs.main.Tie as tie
 
 abbrev Inv-loop : tie.InvT-loop
-Inv-loop input₀ token₀ shape₀ sides₀ data₀ weights₀ second₀ out₀ data-f64₀ weights-f64₀ out-f64₀ c₀ turns₀ input token shape sides «data» weights second out data-f64 weights-f64 out-f64 c turns =
-    (length input ≡ 65536) × (length token ≡ 64) × (length shape ≡ 4) × (length sides ≡ 4) × (length «data» ≡ 8193) ×
-    (length weights ≡ 344) × (length second ≡ 8193) × (length out ≡ 32769) × (length data-f64 ≡ 8193) × (length weights-f64 ≡ 344) × (length out-f64 ≡ 8193)
+Inv-loop input₀ token₀ data₀ out₀ c₀ turns₀ input token «data» out c turns =
+    (length input ≡ 65536) × (length token ≡ 64) × (length «data» ≡ 8193) × (length out ≡ 32769)
 
 abbrev μ-loop : tie.MeasureT-loop
-μ-loop input₀ token₀ shape₀ sides₀ data₀ weights₀ second₀ out₀ data-f64₀ weights-f64₀ out-f64₀ c₀ turns₀ input token shape sides «data» weights second out data-f64 weights-f64 out-f64 c turns =
-    turns
+μ-loop input₀ token₀ data₀ out₀ c₀ turns₀ input token «data» out c turns = turns
 
 start-requires : tie.Need-start-requires Inv-loop μ-loop
 start-requires c κs = search needs
@@ -33,53 +31,20 @@ line-from-requires c κs = search needs
 begin-requires : tie.Need-begin-requires Inv-loop μ-loop
 begin-requires c κs = search needs
 
-slice-aggregate-whole : tie.Need-slice-aggregate-whole Inv-loop μ-loop
-slice-aggregate-whole c = search needs
+slice-aggregate-answer : tie.Need-slice-aggregate-answer Inv-loop μ-loop
+slice-aggregate-answer c = search needs
 
-slice-aggregate-whole-2 : tie.Need-slice-aggregate-whole-2 Inv-loop μ-loop
-slice-aggregate-whole-2 c = search needs
+slice-aggregate-answer-2 : tie.Need-slice-aggregate-answer-2 Inv-loop μ-loop
+slice-aggregate-answer-2 c = search needs
 
-slice-aggregate-whole-3 : tie.Need-slice-aggregate-whole-3 Inv-loop μ-loop
-slice-aggregate-whole-3 c = search needs
+slice-aggregate-answer-3 : tie.Need-slice-aggregate-answer-3 Inv-loop μ-loop
+slice-aggregate-answer-3 c = search needs
 
-slice-aggregate-whole-4 : tie.Need-slice-aggregate-whole-4 Inv-loop μ-loop
-slice-aggregate-whole-4 c = search needs
+slice-aggregate-answer-4 : tie.Need-slice-aggregate-answer-4 Inv-loop μ-loop
+slice-aggregate-answer-4 c = search needs
 
-slice-aggregate-whole-5 : tie.Need-slice-aggregate-whole-5 Inv-loop μ-loop
-slice-aggregate-whole-5 c = search needs
-
-slice-aggregate-whole-6 : tie.Need-slice-aggregate-whole-6 Inv-loop μ-loop
-slice-aggregate-whole-6 c = search needs
-
-slice-aggregate-whole-7 : tie.Need-slice-aggregate-whole-7 Inv-loop μ-loop
-slice-aggregate-whole-7 c = search needs
-
-slice-aggregate-whole-8 : tie.Need-slice-aggregate-whole-8 Inv-loop μ-loop
-slice-aggregate-whole-8 c = search needs
-
-whole-requires : tie.Need-whole-requires Inv-loop μ-loop
-whole-requires c κs = search needs
-
-slice-aggregate-floats : tie.Need-slice-aggregate-floats Inv-loop μ-loop
-slice-aggregate-floats c = search needs
-
-slice-aggregate-floats-2 : tie.Need-slice-aggregate-floats-2 Inv-loop μ-loop
-slice-aggregate-floats-2 c = search needs
-
-slice-aggregate-floats-3 : tie.Need-slice-aggregate-floats-3 Inv-loop μ-loop
-slice-aggregate-floats-3 c = search needs
-
-slice-aggregate-floats-4 : tie.Need-slice-aggregate-floats-4 Inv-loop μ-loop
-slice-aggregate-floats-4 c = let h = c .before .before .before .before .before .before .before .before .before .before .before .before .before .before .before .before .before .before .before .before .before .before .before .before .before .before .before .before .before .loop .inv .8 in search needs
-
-slice-aggregate-floats-5 : tie.Need-slice-aggregate-floats-5 Inv-loop μ-loop
-slice-aggregate-floats-5 c = let h = c .before .before .before .before .before .before .before .before .before .before .before .before .before .before .before .before .before .before .before .before .before .before .before .before .before .before .before .before .before .before .loop .inv .9 in search needs
-
-slice-aggregate-floats-6 : tie.Need-slice-aggregate-floats-6 Inv-loop μ-loop
-slice-aggregate-floats-6 c = let h = c .before .before .before .before .before .before .before .before .before .before .before .before .before .before .before .before .before .before .before .before .before .before .before .before .before .before .before .before .before .before .before .loop .inv .10 in search needs
-
-floats-requires : tie.Need-floats-requires Inv-loop μ-loop
-floats-requires c κs = search needs
+answer-requires : tie.Need-answer-requires Inv-loop μ-loop
+answer-requires c κs = search needs
 
 slice-aggregate-report : tie.Need-slice-aggregate-report Inv-loop μ-loop
 slice-aggregate-report c = search needs
@@ -91,10 +56,10 @@ over-requires : tie.Need-over-requires Inv-loop μ-loop
 over-requires c κs = search needs
 
 sub-turns : tie.Need-sub-turns Inv-loop μ-loop
-sub-turns c = let h = c .before .before .before .before .before .before .before .before .before .before .before .before .before .before .before .before .before .before .before .before .before .before .before .before .before .before .before .before .before .before .before .before .before .before .before .before .before .before .before .before .before .loop-test .taken in search needs
+sub-turns c = search needs
 
 loop-less : tie.Need-loop-less Inv-loop μ-loop
-loop-less c = let h = c .before .before .before .before .before .before .before .before .before .before .before .before .before .before .before .before .before .before .before .before .before .before .before .before .before .before .before .before .before .before .before .before .before .before .before .before .before .before .before .before .before .loop-test .taken in search needs
+loop-less c = search needs
 
 loop-again : tie.Need-loop-again Inv-loop μ-loop
 loop-again c = search needs
@@ -117,22 +82,11 @@ main-spec =
     slice-aggregate-begin-2
     line-from-requires
     begin-requires
-    slice-aggregate-whole
-    slice-aggregate-whole-2
-    slice-aggregate-whole-3
-    slice-aggregate-whole-4
-    slice-aggregate-whole-5
-    slice-aggregate-whole-6
-    slice-aggregate-whole-7
-    slice-aggregate-whole-8
-    whole-requires
-    slice-aggregate-floats
-    slice-aggregate-floats-2
-    slice-aggregate-floats-3
-    slice-aggregate-floats-4
-    slice-aggregate-floats-5
-    slice-aggregate-floats-6
-    floats-requires
+    slice-aggregate-answer
+    slice-aggregate-answer-2
+    slice-aggregate-answer-3
+    slice-aggregate-answer-4
+    answer-requires
     slice-aggregate-report
     report-requires
     over-requires
