@@ -16,7 +16,7 @@ use Rattle.lanes.specs.Lanes.{lane, laneAt}
 use Rattle.border.specs.Border.{Border, constant, along, cellFor, inside, extendedLane}
 use Rattle.border.specs.Modes.{badConstantBy}
 use Rattle.pad_line.specs.Line.{paddedAt, paddedLine}
-use Rattle.window_least.specs.Firsts.{firsts, Levelled}
+use Rattle.minlist.specs.Firsts.{firsts, Served}
 use Rattle.correlate_line.specs.Sizes.{Weighable}
 use Rattle.uniform_line.specs.Mean.{Averaged}
 use Rattle.axis_filter.specs.Lane.{Room}
@@ -63,6 +63,11 @@ module _ {A : Type 0} (t : A → Bool) where
 
 -- ---- a lane with room serves the filter
 module _ {b : Border ℤ} {s l left right : ℕ} {g line₀ swept₀ out₀ : List ℤ} (R : Room b s l left right g line₀ swept₀ out₀) where
+  served : 1 < left + right + 1 → Served (length (paddedLine (pos 0) b left right (lane (pos 0) (length swept₀) s l g))) (left + right + 1) (length swept₀)
+  served h =
+      let p = length-line (pos 0) R in
+      record { wide = h; narrow = omega (arith, R .narrow); short = omega (arith, p, line-room (pos 0) R, R .buffer); cells = omega (arith, p) }
+
   weighable : (w : List ℤ) → length w ≡ left + right + 1 → anyOf (outsideZ (negℤ (pos 65535)) (pos 65535)) w ≡ false
       → badConstantBy (outsideZ (negℤ (pos (2 ^ 38))) (pos (2 ^ 38))) b ≡ false → anyOf (outsideZ (negℤ (pos (2 ^ 38))) (pos (2 ^ 38))) g ≡ false
       → Weighable w (paddedLine (pos 0) b left right (lane (pos 0) (length swept₀) s l g)) (length swept₀)
@@ -76,21 +81,13 @@ module _ {b : Border ℤ} {s l left right : ℕ} {g line₀ swept₀ out₀ : Li
         cells = any-padded (outsideZ (negℤ (pos (2 ^ 38))) (pos (2 ^ 38))) (pos 0) b left right (length swept₀) s l g refl c e;
       }
 
-  -- the levels of the padded lane
-  levels : Averaging (left + right + 1) b g → anyOf badLevel (paddedLine (pos 0) b left right (lane (pos 0) (length swept₀) s l g)) ≡ false
-  unfolding badLevel
-  levels S = any-padded badLevel (pos 0) b left right (length swept₀) s l g refl (S .level) (S .levels)
-
-  levelled : 1 < left + right + 1 → Averaging (left + right + 1) b g → Levelled (paddedLine (pos 0) b left right (lane (pos 0) (length swept₀) s l g)) (left + right + 1) (length swept₀)
-  levelled h S =
-      let p = length-line (pos 0) R in
-      record { served = record { wide = h; narrow = S .few; short = omega (arith, p, line-room (pos 0) R, R .buffer); cells = omega (arith, p) }; levels = levels S }
-
   averaged : Averaging (left + right + 1) b g → Averaged (paddedLine (pos 0) b left right (lane (pos 0) (length swept₀) s l g)) (left + right + 1) (length swept₀)
-  averaged S = record { some = omega arith; few = S .few; long = omega (arith, length-line (pos 0) R); levels = levels S }
+  unfolding badLevel
+  averaged S =
+      record { some = omega arith; few = S .few; long = omega (arith, length-line (pos 0) R); levels = any-padded badLevel (pos 0) b left right (length swept₀) s l g refl (S .level) (S .levels) }
 
   pub line-served : (f : LineFilter) (w : List ℤ) → Supposed f w (left + right + 1) b g → ServedLine f w (left + right + 1) (paddedLine (pos 0) b left right (lane (pos 0) (length swept₀) s l g)) (length swept₀)
-  line-served Least w S = levelled (S .0) (S .1)
-  line-served Greatest w S = levelled (S .0) (S .1)
+  line-served Least w S = served S
+  line-served Greatest w S = served S
   line-served (Weighed class) w S = (weighable w (S .many) (S .weights) (S .level) (S .cells-in), S .class-is)
   line-served Mean w S = averaged S

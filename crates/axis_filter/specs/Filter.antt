@@ -5,7 +5,7 @@
 --   Weighing class w size b cells   the class is that of the weights, the weights are as many as the window's cells and within
 --                            −65,535..65,535, and the cells and the border's constant are within −2^38..2^38: no sum leaves 64 bits
 --   Averaging size b cells   the window has at most 65 cells, and the cells and the border's constant are levels that condition 3 accepts
---   Supposed f w size b cells       what it supposes of a call: Weighing, or Averaging, for Least and Greatest with a window of more than one cell
+--   Supposed f w size b cells       what it supposes of a call: a window of more than one cell, Weighing, or Averaging
 use Prim.Native.Nat.{ℕ, _^_, _≤_, _<_}
 use mathlib.Core.Path.{_≡_}
 use mathlib.Core.Bool.{Bool, false}
@@ -19,7 +19,7 @@ use Rattle.numbers.specs.Ranges.{outsideZ}
 use Rattle.array.specs.Conditions.{badLevel}
 use Rattle.border.specs.Border.{Border}
 use Rattle.border.specs.Modes.{badConstantBy}
-use Rattle.window_least.specs.Firsts.{firsts, Levelled}
+use Rattle.minlist.specs.Firsts.{firsts, Served}
 use Rattle.symmetry.specs.Class.{classZ}
 use Rattle.symmetry.specs.declared.SymmetryState.{SymmetryState}
 use Rattle.symmetry.specs.declared.SymmetryState.the-variants.{NonSymmetric}
@@ -36,8 +36,8 @@ filtered (Weighed class) w size p n = weighedLine wholeOps NonSymmetric w p n
 filtered Mean w size p n = means p size n
 
 abbrev pub ServedLine : LineFilter → List ℤ → ℕ → List ℤ → ℕ → Type 0
-ServedLine Least w size p n = Levelled p size n
-ServedLine Greatest w size p n = Levelled p size n
+ServedLine Least w size p n = Served (length p) size n
+ServedLine Greatest w size p n = Served (length p) size n
 ServedLine (Weighed class) w size p n = Weighable w p n × (class ≡ classZ w)
 ServedLine Mean w size p n = Averaged p size n
 
@@ -54,7 +54,7 @@ pub record Averaging (size : ℕ) (b : Border ℤ) (cells : List ℤ) : Type 0 w
   pub levels : anyOf badLevel cells ≡ false
 
 abbrev pub Supposed : LineFilter → List ℤ → ℕ → Border ℤ → List ℤ → Type 0
-Supposed Least w size b cells = (1 < size) × Averaging size b cells
-Supposed Greatest w size b cells = (1 < size) × Averaging size b cells
+Supposed Least w size b cells = 1 < size
+Supposed Greatest w size b cells = 1 < size
 Supposed (Weighed class) w size b cells = Weighing class w size b cells
 Supposed Mean w size b cells = Averaging size b cells

@@ -20,28 +20,20 @@ pub enum LineFilter {
     Mean,
 }
 
-// The filter on a padded line. Only Weighed reads weights; Least and Greatest write over low and high, buffers of 1,088 cells.
-fn filter_line(
-    filter: LineFilter,
-    weights: &[i64],
-    size: usize,
-    line: &[i64],
-    low: &mut [i32],
-    high: &mut [i32],
-    out: &mut [i64],
-)
-    requires { ⌜ ServedLine filter (now weights) size (now line) (length (now out)) × (length (now low) ≡ 1088) × (length (now high) ≡ 1088) ⌝ }
+// The filter on a padded line. Only Weighed reads weights.
+fn filter_line(filter: LineFilter, weights: &[i64], size: usize, line: &[i64], out: &mut [i64])
+    requires { ⌜ ServedLine filter (now weights) size (now line) (length (now out)) ⌝ }
     ensures { λ _. ⌜ now (out .exit) ≡ filtered filter (now (weights .entry)) size (now (line .entry)) (length (now (out .entry))) ⌝ }
 {
     match filter {
-        LineFilter::Least => window_least::minimum_line(line, size, low, high, out),
-        LineFilter::Greatest => window_least::maximum_line(line, size, low, high, out),
+        LineFilter::Least => minimum_line::minimum_line(line, size, out),
+        LineFilter::Greatest => maximum_line::maximum_line(line, size, out),
         LineFilter::Weighed(class) => correlate_line::correlate_line(weights, class, line, out),
         LineFilter::Mean => uniform_line::uniform_line(line, size, out),
     }
 }
 
-// Writes to a lane of out the filtered lane of data. The line has room for the padded lane, low and high are as in filter_line, and swept is as long as the lane.
+// Writes to a lane of out the filtered lane of data. The line has room for the padded lane, and swept is as long as the lane.
 fn filter_lane(
     filter: LineFilter,
     weights: &[i64],
@@ -52,30 +44,20 @@ fn filter_lane(
     left: usize,
     right: usize,
     line: &mut [i64],
-    low: &mut [i32],
-    high: &mut [i32],
     swept: &mut [i64],
     out: &mut [i64],
 )
-    requires { ⌜ Room (borderOf mode) stride lane left right (now «data») (now line) (now swept) (now out) × Supposed filter (now weights) (left + right + 1) (borderOf mode) (now «data») × (length (now low) ≡ 1088) × (length (now high) ≡ 1088) ⌝ }
+    requires { ⌜ Room (borderOf mode) stride lane left right (now «data») (now line) (now swept) (now out) × Supposed filter (now weights) (left + right + 1) (borderOf mode) (now «data») ⌝ }
     ensures { λ _. ⌜ now (out .exit) ≡ withLane (pos 0) (length (now (swept .entry))) stride lane (filteredLane (pos 0) (filtered filter (now (weights .entry)) (left + right + 1)) (borderOf mode) left right (laneOf (pos 0) (length (now (swept .entry))) stride lane (now («data» .entry)))) (now (out .entry)) ⌝ }
 {
     let n = swept.len();
     pad_line::pad_lane(data, stride, lane, n, mode, left, right, line);
     let total = left + n + right;
-    filter_line(
-        filter,
-        weights,
-        left + right + 1,
-        &line[..total],
-        low,
-        high,
-        swept,
-    );
+    filter_line(filter, weights, left + right + 1, &line[..total], swept);
     lanes::write_lane(swept, stride, lane, out);
 }
 
-// As filter_lane, on every lane of the axis. The line, low and high are buffers of 1,088 cells, and swept is one as long as the axis.
+// As filter_lane, on every lane of the axis. The line and swept are buffers, of 1,088 cells and as long as the axis.
 fn filter_lanes(
     filter: LineFilter,
     weights: &[i64],
@@ -86,12 +68,10 @@ fn filter_lanes(
     left: usize,
     right: usize,
     line: &mut [i64],
-    low: &mut [i32],
-    high: &mut [i32],
     swept: &mut [i64],
     out: &mut [i64],
 )
-    requires { ⌜ Sweep (borderOf mode) (now shape) axis left right (now «data») (now out) × Supposed filter (now weights) (left + right + 1) (borderOf mode) (now «data») × (length (now line) ≡ 1088) × (length (now low) ≡ 1088) × (length (now high) ≡ 1088) × (length (now swept) ≡ lengthOf (now shape) axis) ⌝ }
+    requires { ⌜ Sweep (borderOf mode) (now shape) axis left right (now «data») (now out) × Supposed filter (now weights) (left + right + 1) (borderOf mode) (now «data») × (length (now line) ≡ 1088) × (length (now swept) ≡ lengthOf (now shape) axis) ⌝ }
     ensures { λ _. ⌜ now (out .exit) ≡ alongAxis (pos 0) (filteredLane (pos 0) (filtered filter (now (weights .entry)) (left + right + 1)) (borderOf mode) left right) (now (shape .entry)) axis (now («data» .entry)) ⌝ }
 {
     let along = lanes::lanes_of(shape, axis);
@@ -109,8 +89,6 @@ fn filter_lanes(
             left,
             right,
             line,
-            low,
-            high,
             swept,
             out,
         );
@@ -135,8 +113,6 @@ pub fn filter_axis(
 {
     let n = shapes::len_of(shape, axis);
     let mut line = [0; 1088];
-    let mut low = [0i32; 1088];
-    let mut high = [0i32; 1088];
     let mut swept = [0; 1024];
     filter_lanes(
         filter,
@@ -148,8 +124,6 @@ pub fn filter_axis(
         left,
         right,
         &mut line,
-        &mut low,
-        &mut high,
         &mut swept[..n],
         out,
     );

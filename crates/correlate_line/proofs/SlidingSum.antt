@@ -1,11 +1,11 @@
 -- The running sum of a window, on the machine: one cell enters, one leaves, and every sum on the way fits 64 bits, since a window has at most 65 cells.
 -- Assumes nothing.
-use Prim.Native.Nat.{ℕ, _+_, _*_, _^_, _≤_, _<_}
+use Prim.Native.Nat.{ℕ, _+_, _^_, _≤_}
 use mathlib.Core.Path.{_≡_, sym, ap, subst, _∙_}
 use mathlib.Core.Bool.{false}
 use mathlib.Core.List.{List}
 use native.Mathlib.Omega.{arith}
-use lib.IntN.{ℤ, pos, negℤ, natAbs, _+ℤ_, _-ℤ_}
+use lib.IntN.{ℤ, pos, negℤ, _+ℤ_, _-ℤ_}
 use lib.ListN.{getD}
 use mir.Syntax.{w64}
 use mir.Val.{SFits}
@@ -37,12 +37,6 @@ module _ (s : List ℤ) (cells : anyOf (outsideZ (negℤ (pos (2 ^ 38))) (pos (2
     -- the cell that enters
     pub total-read : read (t +ℤ read (getD s (i + k) (pos 0))) ≡ windowSum s (k + 1) i
     total-read = computed-read (sum-computed (i + k)) ∙ sum-enters s k i
-
-    -- and its size is far below 2^63
-    pub total-small : (m : ℕ) → natAbs (read (t +ℤ read (getD s m (pos 0)))) < 2 ^ 63
-    total-small m =
-        let z : Size (windowSum s k i +ℤ getD s m (pos 0)) (k * 2 ^ 38 + 2 ^ 38) = size-add (sum-size (2 ^ 38) s sized k i) (cell-size m) in
-        omega (arith, ap natAbs (computed-read (sum-computed m)), z .size)
 
     -- the cell that leaves: whichever it is, the difference fits
     pub left-computed : (m n : ℕ)

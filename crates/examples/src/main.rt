@@ -14,7 +14,7 @@ fn rows() {
     lanes::rows();
     border::rows();
     origin::rows();
-    window_least::rows();
+    minlist::rows();
     statistics::rows();
     pad_axis::rows();
     pad_judge::rows();
@@ -36,6 +36,7 @@ fn main() {
     arrays::lane_examples();
     borders::modes();
     borders::origins();
+    extremes::rings();
     extremes::lines();
     averages::extremes();
     averages::means();

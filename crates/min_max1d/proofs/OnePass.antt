@@ -14,12 +14,12 @@ use Rattle.array.specs.Assign.{copied}
 use Rattle.lanes.specs.Lanes.{alongAxis}
 use Rattle.border.specs.Border.{Border}
 use Rattle.pad_line.specs.Line.{badPad, paddedLine}
-use Rattle.window_least.specs.Firsts.{firsts}
+use Rattle.minlist.specs.Firsts.{firsts}
 use Rattle.sweeps.specs.Call.{Call, alone, leftPad, rightPad, axisLength, numberOf}
 use Rattle.sweeps.specs.Run.{answerOf}
 use Rattle.sweeps.proofs.Passed.{Passed, passed, passed-lengths}
 use Rattle.axis_filter.specs.Lane.{filteredLane, Sweep}
-use Rattle.axis_filter.specs.Filter.{filtered, Averaging, Supposed}
+use Rattle.axis_filter.specs.Filter.{filtered, Supposed}
 use Rattle.axis_filter.specs.declared.LineFilter.{LineFilter}
 use Rattle.min_max1d.specs.Lane.{orderOf, extremesOf, lineFilterOf}
 use Rattle.min_max1d.specs.declared.Extreme.{Extreme}
@@ -27,7 +27,7 @@ use Rattle.min_max1d.specs.declared.Extreme.the-variants.{Least, Greates
 use Rattle.min_max1d.proofs.ByLanes.{lineOf, answer-lanes, answer-copied, pads-size}
 
 -- ---- the extremes, as a line filter
-pub extremes-supposed : (e : Extreme) {f : LineFilter} (w : List ℤ) (size : ℕ) (b : Border ℤ) (cells : List ℤ) → f ≡ lineFilterOf e → (1 < size) × Averaging size b cells → Supposed f w size b cells
+pub extremes-supposed : (e : Extreme) {f : LineFilter} (w : List ℤ) (size : ℕ) (b : Border ℤ) (cells : List ℤ) → f ≡ lineFilterOf e → 1 < size → Supposed f w size b cells
 extremes-supposed e {f} w size b cells q h = subst (λ (x : LineFilter). Supposed x w size b cells) (sym q) (go e)
   where
     go : (e : Extreme) → Supposed (lineFilterOf e) w size b cells
@@ -87,8 +87,8 @@ module _ (le : ℤ → ℤ → Bool) (cells : List ℤ) (c : Call) (accept : num
         narrow = omega (arith, total, sizes .1);
       }
 
-      pub window-levels : (1 < l + g + 1) × Averaging (l + g + 1) (c .border) cells
-      window-levels = (omega (arith, wide), record { few = omega (arith, total, sizes .1); level = P .level; levels = P .levels })
+      pub window-wide : 1 < l + g + 1
+      window-wide = omega (arith, wide)
 
       lines : (s : List ℤ) → extremesOf le (c .border) l g s ≡ lineOf le c s
       unfolding firsts

@@ -12,7 +12,7 @@ use lib.Signed.{leZ}
 use Rattle.numbers.specs.Order.{atLeast}
 use Rattle.border.specs.Border.{Border}
 use Rattle.pad_line.specs.Line.{paddedLine}
-use Rattle.window_least.specs.Firsts.{firsts}
+use Rattle.minlist.specs.Firsts.{firsts}
 use Rattle.axis_filter.specs.declared.LineFilter.{LineFilter}
 use Rattle.axis_filter.specs.declared.LineFilter.the-variants as Filters
 use Rattle.min_max1d.specs.declared.Extreme.{Extreme}

@@ -1,5 +1,5 @@
 // Minimum and maximum filters along one axis (src/filters/min_max.rs; SciPy's minimum_filter1d and maximum_filter1d).
-// The levels of a line come from `window_least`.
+// The levels of a line come from Harter's MINLIST.
 ghost use Rattle.min_max1d.specs.Rows.{MinMax1dRows};
 
 mod one_axis;

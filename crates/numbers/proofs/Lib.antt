@@ -18,4 +18,3 @@ pub mod Window
 pub mod Read
 pub mod Sign
 pub mod Partial
-pub mod Reciprocal

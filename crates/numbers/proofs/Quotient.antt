@@ -1,20 +1,18 @@
 -- The quotient cut toward zero, the kit's quotZ, by a number above 0: its size is the quotient of the sizes, its sign is the dividend's, and what it leaves
--- is below the divisor in size. It fits where the dividend does, and can be had from the sizes alone.
+-- is below the divisor in size. It fits where the dividend does.
 -- Assumes nothing.
-use mathlib.Core.Path.{_≡_, refl, sym, ap, subst⁻¹, _∙_}
-use mathlib.Core.Bool.{true, false, true≢false}
+use mathlib.Core.Path.{_≡_, refl, sym, ap, _∙_}
 use Prim.Native.Nat.{ℕ, zero, suc, _*_, _/_, _%_, _≤_, _<_, _^_, zero-le}
-use native.Mathlib.Nat.{le-refl, le-of-suc-le-suc, not-suc-le-zero, div-le-self, div-le-of-le-mul, div-add-mod', mod-lt}
+use native.Mathlib.Nat.{le-of-suc-le-suc, not-suc-le-zero, div-le-self, div-le-of-le-mul, div-add-mod', mod-lt}
 use native.Mathlib.Omega.{arith}
-use borrow.Author.Tests.{ltb-true}
-use lib.IntN.{ℤ, pos, negsuc, negℤ, natAbs, _+ℤ_, _-ℤ_, _*ℤ_, negℤ-+ℤ, +ℤ-idl}
-use lib.Signed.{ltZ, mag, quotZ, remZ, _≤ℤ_, leZ-yes}
-use mir.Syntax.{Width, w64}
+use lib.IntN.{ℤ, pos, negsuc, negℤ, natAbs, _+ℤ_, _*ℤ_, negℤ-+ℤ}
+use lib.Signed.{mag, quotZ, remZ, _≤ℤ_, leZ-yes}
+use mir.Syntax.{Width}
 use mir.Val.{SFits, toZ, ofZ, hbits}
 use mir.ValLaws.{sfits-le, toZ-ofZ, toZ-pos}
 use Rattle.numbers.proofs.IntOrder.{pos-≤, ≤-pos}
 use Rattle.numbers.proofs.IntProduct.{negℤ-*ℤ}
-use Rattle.numbers.proofs.Size.{Size, natAbs-neg, size-neg, fits-size}
+use Rattle.numbers.proofs.Size.{Size, natAbs-neg}
 
 pub quot-size : (z : ℤ) (n : ℕ) → natAbs (quotZ z (pos n)) ≡ natAbs z / n
 quot-size (pos a) n = refl
@@ -69,31 +67,3 @@ module _ (w : Width) (z : ℤ) (h : SFits w z) (n : ℕ) (b : n < 2 ^ hbits w) w
 
   pub quot-given : toZ w (ofZ w (quotZ (toZ w (ofZ w z)) (toZ w n))) ≡ quotZ z (pos n)
   quot-given = rw (toZ-pos w n b, toZ-ofZ w z h) (toZ-ofZ w (quotZ z (pos n)) (quot-fits w z n h))
-
--- ---- by the quotient of the sizes, whose sign is put back: what that asks, and what it gives
-quot-turned : (z : ℤ) (n : ℕ) → ltZ z (pos 0) ≡ true → negℤ (pos (natAbs z / n)) ≡ quotZ z (pos n)
-quot-turned (pos a) n t = absurd (not-suc-le-zero (ltb-true a 0 t))
-quot-turned (negsuc a) n t = refl
-
-quot-kept : (z : ℤ) (n : ℕ) → ltZ z (pos 0) ≡ false → pos (natAbs z / n) ≡ quotZ z (pos n)
-quot-kept (pos a) n t = refl
-quot-kept (negsuc a) n t = absurd (true≢false t)
-
-module _ (z : ℤ) (n q : ℕ) (b : natAbs z < 2 ^ 63) (e : q ≡ natAbs z / n) where
-  small : q < 2 ^ 63
-  small = omega (arith, e, div-le-self (natAbs z) n)
-
-  pub sizes-cast : SFits w64 (pos q)
-  sizes-cast = record { sfits = small }
-
-  turned : pos 0 -ℤ toZ w64 q ≡ negℤ (pos q)
-  turned = ap (λ (x : ℤ). pos 0 -ℤ x) (toZ-pos w64 q small) ∙ +ℤ-idl (negℤ (pos q))
-
-  pub sizes-turned : SFits w64 (pos 0 -ℤ toZ w64 q)
-  sizes-turned = subst⁻¹ (SFits w64) turned (fits-size (size-neg {a = pos q} (record { size = le-refl q })) small)
-
-  pub sizes-below : ltZ z (pos 0) ≡ true → toZ w64 (ofZ w64 (pos 0 -ℤ toZ w64 q)) ≡ quotZ z (pos n)
-  sizes-below t = toZ-ofZ w64 _ sizes-turned ∙ turned ∙ ap (λ (m : ℕ). negℤ (pos m)) e ∙ quot-turned z n t
-
-  pub sizes-on : ltZ z (pos 0) ≡ false → toZ w64 q ≡ quotZ z (pos n)
-  sizes-on t = toZ-pos w64 q small ∙ ap pos e ∙ quot-kept z n t

@@ -15,26 +15,14 @@ len-of-requires c κs = search needs
 slice-aggregate-filter-lanes : tie.Need-slice-aggregate-filter-lanes
 slice-aggregate-filter-lanes c = search needs
 
-slice-aggregate-filter-lanes-2 : tie.Need-slice-aggregate-filter-lanes-2
-slice-aggregate-filter-lanes-2 c = search needs
-
-slice-aggregate-filter-lanes-3 : tie.Need-slice-aggregate-filter-lanes-3
-slice-aggregate-filter-lanes-3 c = search needs
-
 array-borrow-prefix-swept : tie.Need-array-borrow-prefix-swept
-array-borrow-prefix-swept c =
-    let l = c .before .before .before in
-    let s = l .before .before in
-    subst (λ (x : ℕ). x ≤ 1024) (sym (l .len-of .ensures)) (shape-accepted (now (s .args .shape)) (s .pre .0 .shape) .short (s .args .axis))
+array-borrow-prefix-swept c = let s = c .before .before .before in subst (λ (x : ℕ). x ≤ 1024) (sym (c .before .len-of .ensures)) (shape-accepted (now (s .args .shape)) (s .pre .0 .shape) .short (s .args .axis))
 
-slice-aggregate-filter-lanes-4 : tie.Need-slice-aggregate-filter-lanes-4
-slice-aggregate-filter-lanes-4 c = sym (length-take-le (c .before .before .before .before .len-of .result) _ (array-borrow-prefix-swept (c .before)))
+slice-aggregate-filter-lanes-2 : tie.Need-slice-aggregate-filter-lanes-2
+slice-aggregate-filter-lanes-2 c = sym (length-take-le (c .before .before .len-of .result) _ (array-borrow-prefix-swept (c .before)))
 
 filter-lanes-requires : tie.Need-filter-lanes-requires
-filter-lanes-requires c κs =
-    let l = c .before .before .before .before .before in
-    let s = l .before .before in
-    (s .pre .0, s .pre .1, refl, refl, refl, sym (slice-aggregate-filter-lanes-4 (c .before)) ∙ l .len-of .ensures)
+filter-lanes-requires c κs = let s = c .before .before .before .before .before in (s .pre .0, s .pre .1, refl, sym (slice-aggregate-filter-lanes-2 (c .before)) ∙ c .before .before .before .len-of .ensures)
 
 same-length : tie.Need-same-length
 same-length c = search needs
@@ -48,10 +36,8 @@ filter-axis-spec =
     (tie.spec
     len-of-requires
     slice-aggregate-filter-lanes
-    slice-aggregate-filter-lanes-2
-    slice-aggregate-filter-lanes-3
     array-borrow-prefix-swept
-    slice-aggregate-filter-lanes-4
+    slice-aggregate-filter-lanes-2
     filter-lanes-requires
     same-length
     returns)

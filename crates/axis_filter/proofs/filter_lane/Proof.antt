@@ -38,13 +38,9 @@ slice-aggregate-filter-line c = sym (length-take-le _ _ (slice-reshare-prefix-fi
 
 filter-line-requires : tie.Need-filter-line-requires
 filter-line-requires c κs =
-    let l = c .before .before .before .before .before in
-    let s = l .before .before in (
-      subst (λ (p : List ℤ). ServedLine (s .args .filter) (now (s .args .weights)) (s .args .left + s .args .right + 1) p (length (now (s .args .swept))))
-          (sym (front-is (pos 0) (s .pre .0) (l .pad-lane .ensures))) (line-served (s .pre .0) (s .args .filter) (now (s .args .weights)) (s .pre .1)),
-      s .pre .2,
-      s .pre .3,
-    )
+    let s = c .before .before .before .before .before in
+    subst (λ (p : List ℤ). ServedLine (s .args .filter) (now (s .args .weights)) (s .args .left + s .args .right + 1) p (length (now (s .args .swept))))
+    (sym (front-is (pos 0) (s .pre .0) (c .before .before .before .pad-lane .ensures))) (line-served (s .pre .0) (s .args .filter) (now (s .args .weights)) (s .pre .1))
 
 write-lane-requires : tie.Need-write-lane-requires
 write-lane-requires c κs = search needs
@@ -58,19 +54,10 @@ same-length-2 c = search needs
 same-length-3 : tie.Need-same-length-3
 same-length-3 c = search needs
 
-same-length-4 : tie.Need-same-length-4
-same-length-4 c = search needs
-
-same-length-5 : tie.Need-same-length-5
-same-length-5 c = search needs
-
 returns : tie.Need-returns
-returns c =
-    let f = c .before .before .before .before .before .before .before in
-    let l = f .before .before .before .before .before .before in
-    let s = l .before .before in
-    lane-filtered (pos 0) (s .pre .0) (l .pad-lane .ensures) (filtered (s .args .filter) (now (s .args .weights)) (s .args .left + s .args .right + 1))
-    (length-filtered (s .args .filter) (now (s .args .weights)) (s .args .left + s .args .right + 1)) (f .filter-line .ensures) (c .before .write-lane .ensures)
+returns c = let s = c .before .before .before .before .before .before .before .before .before .before .before in
+    lane-filtered (pos 0) (s .pre .0) (c .before .before .before .before .before .before .before .before .before .pad-lane .ensures) (filtered (s .args .filter) (now (s .args .weights)) (s .args .left + s .args .right + 1))
+    (length-filtered (s .args .filter) (now (s .args .weights)) (s .args .left + s .args .right + 1)) (c .before .before .before .before .before .filter-line .ensures) (c .before .write-lane .ensures)
 
 pub filter-lane-spec : {M : Type 1} → statement M
 filter-lane-spec =
@@ -88,6 +75,4 @@ filter-lane-spec =
     same-length
     same-length-2
     same-length-3
-    same-length-4
-    same-length-5
     returns)

@@ -1,5 +1,10 @@
 -- `axis_filter::filter_line` meets its contract: each arm calls the filter that it names.
 -- Assumes nothing.
+use mathlib.Core.Path.{_∙_}
+use lib.Signed.{leZ}
+use denote.Ref.{now}
+use Rattle.numbers.specs.Order.{atLeast}
+use Rattle.minlist.proofs.Served.{swept-filled}
 use borrow.Author.Needs.{needs}
 use Rattle.axis_filter.proofs.filter_line.Statement.{statement}
 use Rattle.axis_filter.proofs.filter_line.Tie as tie
@@ -8,58 +13,52 @@ enum-told : tie.Need-enum-told
 enum-told c = search needs
 
 minimum-line-requires : tie.Need-minimum-line-requires
-minimum-line-requires c κs = let s = c .before .before .before .before .before in (rw (c .before .before .before .enum-told .given .1) at (s .pre .0), s .pre .1, s .pre .2)
+minimum-line-requires c κs = search needs
 
 enum-told-2 : tie.Need-enum-told-2
 enum-told-2 c = search needs
 
 maximum-line-requires : tie.Need-maximum-line-requires
-maximum-line-requires c κs = let s = c .before .before .before .before .before in (rw (c .before .before .before .enum-told2 .given .1) at (s .pre .0), s .pre .1, s .pre .2)
+maximum-line-requires c κs = search needs
 
 enum-known-filter : tie.Need-enum-known-filter
 enum-known-filter c = search needs
 
 correlate-line-requires : tie.Need-correlate-line-requires
-correlate-line-requires c κs = rw (c .before .before .filter .given .1) at (c .before .before .before .before .pre .0)
+correlate-line-requires c κs = rw (c .before .before .filter .given .1) at (c .before .before .before .before .pre)
 
 enum-told-3 : tie.Need-enum-told-3
 enum-told-3 c = search needs
 
 uniform-line-requires : tie.Need-uniform-line-requires
-uniform-line-requires c κs = rw (c .before .enum-told3 .given .1) at (c .before .before .before .pre .0)
+uniform-line-requires c κs = rw (c .before .enum-told3 .given .1) at (c .before .before .before .pre)
 
 same-length : tie.Need-same-length
 same-length c = search needs
 
+returns : tie.Need-returns
+returns c =
+    let s = c .before .before .before .before .before in
+    let e = c .before .before .before .enum-told .given .1 in
+    rw e (c .before .minimum-line .ensures ∙ swept-filled leZ (now (s .args .line)) (s .args .size) (now (s .args .out)) (rw e at (s .pre)))
+
 same-length-2 : tie.Need-same-length-2
 same-length-2 c = search needs
+
+returns-2 : tie.Need-returns-2
+returns-2 c =
+    let s = c .before .before .before .before .before in
+    let e = c .before .before .before .enum-told2 .given .1 in
+    rw e (c .before .maximum-line .ensures ∙ swept-filled atLeast (now (s .args .line)) (s .args .size) (now (s .args .out)) (rw e at (s .pre)))
 
 same-length-3 : tie.Need-same-length-3
 same-length-3 c = search needs
 
-returns : tie.Need-returns
-returns c = rw (c .before .before .before .before .before .before .before .enum-told .given .1) (c .before .before .before .minimum-line .ensures)
-
-same-length-4 : tie.Need-same-length-4
-same-length-4 c = search needs
-
-same-length-5 : tie.Need-same-length-5
-same-length-5 c = search needs
-
-same-length-6 : tie.Need-same-length-6
-same-length-6 c = search needs
-
-returns-2 : tie.Need-returns-2
-returns-2 c = rw (c .before .before .before .before .before .before .before .enum-told2 .given .1) (c .before .before .before .maximum-line .ensures)
-
-same-length-7 : tie.Need-same-length-7
-same-length-7 c = search needs
-
 returns-3 : tie.Need-returns-3
 returns-3 c = rw (c .before .before .before .before .filter .given .1) (c .before .correlate-line .ensures)
 
-same-length-8 : tie.Need-same-length-8
-same-length-8 c = search needs
+same-length-4 : tie.Need-same-length-4
+same-length-4 c = search needs
 
 returns-4 : tie.Need-returns-4
 returns-4 c = rw (c .before .before .before .enum-told3 .given .1) (c .before .uniform-line .ensures)
@@ -77,14 +76,10 @@ filter-line-spec =
     enum-told-3
     uniform-line-requires
     same-length
-    same-length-2
-    same-length-3
     returns
-    same-length-4
-    same-length-5
-    same-length-6
+    same-length-2
     returns-2
-    same-length-7
+    same-length-3
     returns-3
-    same-length-8
+    same-length-4
     returns-4)

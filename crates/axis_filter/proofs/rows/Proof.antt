@@ -5,7 +5,7 @@ use Rattle.numbers.specs.Lists.{tabulate}
 use Rattle.numbers.specs.Windows.{windowOf}
 use Rattle.border.specs.Border.{cellFor, extendedLane}
 use Rattle.pad_line.specs.Line.{paddedAt, paddedLine}
-use Rattle.window_least.specs.Firsts.{firsts}
+use Rattle.minlist.specs.Firsts.{firsts}
 use Rattle.correlation.specs.Weighed.{summed}
 use Rattle.axis_filter.proofs.rows.Statement.{statement}
 use Rattle.axis_filter.proofs.rows.Tie as tie

@@ -6,7 +6,7 @@ use Rattle.numbers.specs.Windows.{windowOf}
 use Rattle.array.specs.Grid.{placeOf, coordinate}
 use Rattle.border.specs.Border.{cellFor, extendedLane}
 use Rattle.pad_line.specs.Line.{paddedAt, paddedLine}
-use Rattle.window_least.specs.Firsts.{firsts}
+use Rattle.minlist.specs.Firsts.{firsts}
 use Rattle.sweeps.specs.Call.{firstIn}
 use Rattle.sweeps.specs.Run.{answerOf}
 use Rattle.min_max1d.proofs.rows.Statement.{statement}

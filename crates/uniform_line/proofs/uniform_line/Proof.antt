@@ -13,7 +13,7 @@ use mir.Val.{toZ}
 use Rattle.numbers.proofs.Read.{read}
 use Rattle.numbers.proofs.Stored.{Stored, front-none, front-more, front-all}
 use Rattle.correlation.specs.WindowSum.{windowSum}
-use Rattle.correlate_line.proofs.SlidingSum.{sum-computed, total-small, left-computed, left-read}
+use Rattle.correlate_line.proofs.SlidingSum.{sum-computed, left-computed, left-read}
 use Rattle.uniform_line.specs.Mean.{cut}
 use Rattle.uniform_line.proofs.Sliding.{cells, first-summable, mean-read}
 use borrow.Author.Needs.{needs}
@@ -21,20 +21,17 @@ use Rattle.uniform_line.proofs.uniform_line.Statement.{statement}
 use Rattle.uniform_line.proofs.uniform_line.Tie as tie
 
 abbrev Inv-loop : tie.InvT-loop
-Inv-loop line size out₀ before reciprocal sum₀ n i₀ out sum i =
+Inv-loop line size out₀ before sum₀ n i₀ out sum i =
     (i ≤ n) × (n ≡ length out₀) × (toZ w64 sum ≡ windowSum line before i) × Stored (pos 0) (λ k. ltb k i) (λ k. cut (windowSum line size k) size) out₀ out
 
 abbrev μ-loop : tie.MeasureT-loop
-μ-loop line size out₀ before reciprocal sum₀ n i₀ out sum i = n - i
+μ-loop line size out₀ before sum₀ n i₀ out sum i = n - i
 
 sub-before : tie.Need-sub-before Inv-loop μ-loop
 sub-before c = search needs
 
-reciprocal-of-requires : tie.Need-reciprocal-of-requires Inv-loop μ-loop
-reciprocal-of-requires c κs = (c .pre .some, c .pre .few)
-
 first-sum-requires : tie.Need-first-sum-requires Inv-loop μ-loop
-first-sum-requires c κs = first-summable (c .before .pre)
+first-sum-requires c κs = first-summable (c .pre)
 
 loop-holds : tie.Need-loop-holds Inv-loop μ-loop
 loop-holds c = (search needs, refl, search needs, front-none (pos 0) _ _)
@@ -50,16 +47,12 @@ shared-slice-copy-out-total c = search needs
 
 add-total-2 : tie.Need-add-total-2 Inv-loop μ-loop
 add-total-2 c =
-    let s = c .before .before .before .before .before in
+    let s = c .before .before .before .before in
     let l = c .before .before .loop in
     sum-computed (now (s .args .line)) (cells (s .pre)) (s .args .size - 1) (l .i) (omega (arith, s .pre .few)) (l .inv .2) _ .fits
 
 cut-mean-requires : tie.Need-cut-mean-requires Inv-loop μ-loop
-cut-mean-requires c κs =
-    let r = c .before .before .before .before in
-    let s = r .before in
-    let l = c .before .before .loop in
-    ((s .pre .some, s .pre .few), (r .reciprocal-of .ensures, total-small (now (s .args .line)) (cells (s .pre)) (s .args .size - 1) (l .i) (omega (arith, s .pre .few)) (l .inv .2) _))
+cut-mean-requires c κs = search needs
 
 mul-sum : tie.Need-mul-sum Inv-loop μ-loop
 mul-sum c = search needs
@@ -75,7 +68,7 @@ shared-slice-copy-out-sum c = search needs
 
 sub-sum : tie.Need-sub-sum Inv-loop μ-loop
 sub-sum c =
-    let s = c .before .before .before .before .before .before .before in
+    let s = c .before .before .before .before .before .before in
     let l = c .before .before .before .before .loop in
     left-computed (now (s .args .line)) (cells (s .pre)) (s .args .size - 1) (l .i) (omega (arith, s .pre .few)) (l .inv .2) _ _ .fits
 
@@ -87,7 +80,7 @@ loop-less c = search needs
 
 loop-again : tie.Need-loop-again Inv-loop μ-loop
 loop-again c =
-    let s = c .before .before .before .before .before .before .before in
+    let s = c .before .before .before .before .before .before in
     let l = c .before .before .before .before .loop in (
       search needs,
       l .inv .1,
@@ -108,7 +101,6 @@ uniform-line-spec =
     Inv-loop
     μ-loop
     sub-before
-    reciprocal-of-requires
     first-sum-requires
     loop-holds
     add-total

@@ -12,7 +12,7 @@ use Rattle.sweeps.proofs.Passed.{passed}
 use Rattle.filter_judge.specs.Judge.{callOf}
 use Rattle.min_max1d.specs.Lane.{orderOf}
 use Rattle.filter_judge.proofs.Reach.{origin-refused, PadsAre, pads-are}
-use Rattle.min_max1d.proofs.OnePass.{copied-answer, extremes-supposed, extremes-filtered, sweep-accepted, window-levels, swept-answer}
+use Rattle.min_max1d.proofs.OnePass.{copied-answer, extremes-supposed, extremes-filtered, sweep-accepted, window-wide, swept-answer}
 use borrow.Author.Needs.{needs}
 use Rattle.min_max1d.proofs.one_axis.pass.Statement.{statement}
 use Rattle.min_max1d.proofs.one_axis.pass.Tie as tie
@@ -64,7 +64,7 @@ filter-axis-requires c κs =
     let le = orderOf (s .args .extreme) in
     let more = c .before .before .before .before .before .before .before .if1 .left in (
       sweep-accepted le D (call s) (s .pre) more (G .left) (G .right),
-      extremes-supposed (s .args .extreme) [] _ _ D (c .before .before .line-filter .ensures) (window-levels le D (call s) (s .pre) more (G .left) (G .right)),
+      extremes-supposed (s .args .extreme) [] _ _ D (c .before .before .line-filter .ensures) (window-wide le D (call s) (s .pre) more (G .left) (G .right)),
     )
 
 returns-2 : tie.Need-returns-2
