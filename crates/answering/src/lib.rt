@@ -5,25 +5,25 @@ pub use help::show_help;
 use libc::STDOUT_FILENO;
 
 // What can be wrong with a line.
-pub const UNKNOWN: u8 = 1;
+pub const UNKNOWN: usize = 1;
 
-pub const MISSING: u8 = 2;
+pub const MISSING: usize = 2;
 
-pub const EXTRA: u8 = 3;
+pub const EXTRA: usize = 3;
 
-pub const NUMBER: u8 = 4;
+pub const NUMBER: usize = 4;
 
-pub const MODE: u8 = 5;
+pub const MODE: usize = 5;
 
-pub const KIND: u8 = 6;
+pub const KIND: usize = 6;
 
-pub const SHAPE: u8 = 7;
+pub const SHAPE: usize = 7;
 
-pub const WEIGHTS: u8 = 8;
+pub const WEIGHTS: usize = 8;
 
-pub const LONG: u8 = 9;
+pub const LONG: usize = 9;
 
-pub const MASK: u8 = 10;
+pub const MASK: usize = 10;
 
 // Writes out the first `at` bytes.
 fn flush(answer: &[u8], at: usize) {
@@ -160,7 +160,7 @@ fn echo(token: &[u8], len: usize) {
 }
 
 // What is wrong with the text.
-pub fn error(token: &[u8], len: usize, fault: u8) {
+pub fn error(token: &[u8], len: usize, fault: usize) {
     say(b"error ");
     if fault == UNKNOWN {
         say(b"unknown request\n");
@@ -191,7 +191,7 @@ pub fn error(token: &[u8], len: usize, fault: u8) {
 }
 
 // What the odd token should have been.
-fn what(fault: u8) {
+fn what(fault: usize) {
     if fault == MODE {
         say(b"unknown mode: ");
         return;

@@ -36,15 +36,23 @@ pub fn level_conditions() {
     test(conditions::bad_levels_f64(&[1.0, 0.0 / 0.0]));
 }
 
-pub fn copies() {
-    let mut out = [0i64; 4];
+pub fn judges() {
     line(conditions::judge_grid(&[1, 2, 3], &[2, 2], 4, 4) as usize);
     line(conditions::judge_grid_f64(&[0.0 / 0.0], &[1], 1, 1) as usize);
     line(conditions::judge_grid_f64(&[-0.0], &[1], 1, 1) as usize);
-    line(assign::assign(&[1, 2, 3, 4], &[2, 2], &mut out) as usize);
+}
+
+// Cells for a grid of 2 times 2; a refused call leaves the output.
+fn assigned(cells: &[i64]) {
+    let mut out = [7i64; 4];
+    line(assign::assign(cells, &[2, 2], &mut out) as usize);
     levels(&out);
-    line(assign::assign(&[5, 6, 7], &[2, 2], &mut out) as usize);
-    levels(&out);
+}
+
+pub fn copies() {
+    let mut out = [1i64, 2, 3, 4];
+    assigned(&[1, 2, 3, 4]);
+    assigned(&[5, 6, 7]);
     assign::copy(&[8, 9], &mut out);
     levels(&out);
 }

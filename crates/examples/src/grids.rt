@@ -30,15 +30,17 @@ pub fn t1() {
     three(PadMode::Constant(7));
 }
 
+// A line with one pair of pads under Median.
+fn beside(cells: &[i64], shape: &[usize], pads: [Pair; 3], out: &mut [i64]) {
+    line(pad::pad(cells, shape, pads, 1, PadMode::Median, out) as usize);
+    levels(out);
+}
+
 pub fn t10() {
-    let four = [1i64, 2, 4, 9];
-    let mut out = [0i64; 5];
-    line(pad::pad(&four, &[4usize], pairs(1, 0), 1, PadMode::Median, &mut out) as usize);
-    levels(&out);
-    let two = [-1i64, -2];
-    let mut wide = [0i64; 3];
-    line(pad::pad(&two, &[2usize], pairs(0, 1), 1, PadMode::Median, &mut wide) as usize);
-    levels(&wide);
+    let mut five = [0i64; 5];
+    beside(&[1, 2, 4, 9], &[4], pairs(1, 0), &mut five);
+    let mut three = [0i64; 3];
+    beside(&[-1, -2], &[2], pairs(0, 1), &mut three);
 }
 
 // The rows 1 2 / 4 9 with one cell before each axis: the corner is of the row that axis 0 filled.
@@ -71,18 +73,30 @@ pub fn rims() {
     over(PadMode::Edge);
 }
 
-// No pair counts; an output one short; a pad of 3 on three cells under Reflect; a pad of 65. Two pairs for two axes, the third not looked at.
-pub fn refusals() {
-    let cells = [1i64, 2, 3];
-    let shape = [3usize];
+// 1 2 3 with an output of six cells, which a refused call leaves.
+fn padded(pads: [Pair; 3], count: usize, mode: PadMode) {
     let mut out = [8i64; 6];
-    line(pad::pad(&cells, &shape, pairs(1, 1), 0, PadMode::Edge, &mut out) as usize);
-    line(pad::pad(&cells, &shape, pairs(2, 2), 1, PadMode::Edge, &mut out) as usize);
-    line(pad::pad_to(&cells, &shape, pairs(3, 0), 1, PadMode::Reflect, &mut out) as usize);
-    line(pad::pad_to(&cells, &shape, pairs(65, 0), 1, PadMode::Edge, &mut out) as usize);
+    line(pad::pad(&[1, 2, 3], &[3], pads, count, mode, &mut out) as usize);
     levels(&out);
-    let row = [5i64, 6];
-    let mut wide = [0i64; 5];
+}
+
+fn padded_to(pads: [Pair; 3], count: usize, mode: PadMode) {
+    let mut out = [8i64; 6];
+    line(pad::pad_to(&[1, 2, 3], &[3], pads, count, mode, &mut out) as usize);
+    levels(&out);
+}
+
+// No pair counts; an output one short; a pad of 3 on three cells under Reflect; a pad of 65.
+pub fn refusals() {
+    padded(pairs(1, 1), 0, PadMode::Edge);
+    padded(pairs(2, 2), 1, PadMode::Edge);
+    padded_to(pairs(3, 0), 1, PadMode::Reflect);
+    padded_to(pairs(65, 0), 1, PadMode::Edge);
+}
+
+// Two pairs for two axes, the third not looked at.
+pub fn two_pairs() {
+    let mut out = [0i64; 5];
     let pads = [
         Pair { left: 0, right: 0 },
         Pair { left: 1, right: 2 },
@@ -91,6 +105,6 @@ pub fn refusals() {
             right: 99,
         },
     ];
-    line(pad::pad(&row, &[1usize, 2], pads, 2, PadMode::Wrap, &mut wide) as usize);
-    levels(&wide);
+    line(pad::pad(&[5, 6], &[1, 2], pads, 2, PadMode::Wrap, &mut out) as usize);
+    levels(&out);
 }

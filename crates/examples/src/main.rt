@@ -32,6 +32,7 @@ fn main() {
     arrays::shapes();
     arrays::shape_conditions();
     arrays::level_conditions();
+    arrays::judges();
     arrays::copies();
     arrays::lane_examples();
     borders::modes();
@@ -52,4 +53,5 @@ fn main() {
     grids::squares();
     grids::rims();
     grids::refusals();
+    grids::two_pairs();
 }

@@ -26,27 +26,40 @@ pub fn t3() {
     both(&[1i64, 10]);
 }
 
-// One weight with origin 99; then the least origin of two weights, and axis 1 of a line.
-pub fn limits() {
-    let cells = [1i64, -2, 3];
-    let shape = [3usize];
-    let mode = BorderMode::Mirror;
+// 1 −2 3 under Mirror, correlated along an axis.
+fn weighed(weights: &[i64], axis: usize, origin: isize) {
     let mut out = [9i64; 3];
     line(
-        correlate1d::convolve1d(
-            &cells,
-            &shape,
-            &[1i64, 10],
-            0,
-            mode,
-            -9223372036854775808,
+        correlate1d::correlate1d(
+            &[1, -2, 3],
+            &[3],
+            weights,
+            axis,
+            BorderMode::Mirror,
+            origin,
             &mut out,
         ) as usize,
     );
-    line(correlate1d::correlate1d(&cells, &shape, &[1i64, 10], 1, mode, 0, &mut out) as usize);
     levels(&out);
-    line(correlate1d::correlate1d(&cells, &shape, &[4i64], 0, mode, 99, &mut out) as usize);
-    levels(&out);
+}
+
+// The least origin of two weights in a convolution; axis 1 of a line; one weight with origin 99.
+pub fn limits() {
+    let mut out = [9i64; 3];
+    let least = -9223372036854775808;
+    line(
+        correlate1d::convolve1d(
+            &[1, -2, 3],
+            &[3],
+            &[1, 10],
+            0,
+            BorderMode::Mirror,
+            least,
+            &mut out,
+        ) as usize,
+    );
+    weighed(&[1, 10], 1, 0);
+    weighed(&[4], 0, 99);
 }
 
 // 0 0 1 with the weights 1, 2, 1 + 2^-52: cell 1 is exactly 1 in the correlation, and more in the convolution.

@@ -22,14 +22,27 @@ pub fn t7() {
     both(BorderMode::Constant(0));
 }
 
-// Axis 2 of two; then the numbers of the shape 4 1 under Mirror along both axes.
+// Axis 2 of two.
 pub fn refusals() {
-    let cells = [1i64, 2, 3, 4];
     let mut second = [7i64; 4];
     let mut out = [9i64; 4];
-    line(gradient::sobel(&cells, &[2, 2], 2, BorderMode::Wrap, &mut second, &mut out) as usize);
+    line(
+        gradient::sobel(
+            &[1, 2, 3, 4],
+            &[2, 2],
+            2,
+            BorderMode::Wrap,
+            &mut second,
+            &mut out,
+        ) as usize,
+    );
     levels(&second);
     levels(&out);
+}
+
+// The numbers of the shape 4 1 under Mirror along both axes.
+pub fn judges() {
+    let cells = [1i64, 2, 3, 4];
     line(gradient_judge::judge_gradient(&cells, &[4, 1], 0, BorderMode::Mirror, 4, 4) as usize);
     line(gradient_judge::judge_gradient(&cells, &[4, 1], 1, BorderMode::Mirror, 4, 4) as usize);
 }

@@ -57,6 +57,7 @@ fn main() {
     planes::refusals();
     gradients::t7();
     gradients::refusals();
+    gradients::judges();
     means::judges();
     means::t6();
     means::both_axes();

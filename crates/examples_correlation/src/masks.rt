@@ -12,19 +12,18 @@ pub fn conditions() {
     line(median::judge_median(&[2, 1, 2], 4, 4) as usize);
 }
 
+// A mask of 2 × 2 × 2.
+fn cube(mask: &[bool]) {
+    let mut out = [false; 8];
+    line(median::median_filter(mask, &[2, 2, 2], &mut out) as usize);
+    marks(&out);
+}
+
 // Four true give all true, three give all false; then the mask on which SciPy differs.
 pub fn t9() {
-    let shape = [2usize, 2, 2];
-    let mut out = [false; 8];
-    let four = [true, false, true, false, false, true, false, true];
-    line(median::median_filter(&four, &shape, &mut out) as usize);
-    marks(&out);
-    let three = [true, false, true, false, false, true, false, false];
-    line(median::median_filter(&three, &shape, &mut out) as usize);
-    marks(&out);
-    let mask = [true, true, false, false, false, true, false, true];
-    line(median::median_filter(&mask, &shape, &mut out) as usize);
-    marks(&out);
+    cube(&[true, false, true, false, false, true, false, true]);
+    cube(&[true, false, true, false, false, true, false, false]);
+    cube(&[true, true, false, false, false, true, false, true]);
 }
 
 // Two axes, seven cells of eight, an axis of one cell.

@@ -28,17 +28,26 @@ pub fn t6() {
     levels(&out);
 }
 
-// Half of size 6 is over the two cells of an axis.
-pub fn both_axes() {
-    let cells = [1i64, 2, 3, -6];
-    let shape = [2usize, 2];
-    let nearest = BorderMode::Nearest;
+// The rows 1 2 / 3 −6 along both axes: the number, the second grid and the output.
+fn mean_of(size: usize) {
     let mut second = [7i64; 4];
     let mut out = [8i64; 4];
-    line(uniform::uniform_filter(&cells, &shape, 6, nearest, &mut second, &mut out) as usize);
+    line(
+        uniform::uniform_filter(
+            &[1, 2, 3, -6],
+            &[2, 2],
+            size,
+            BorderMode::Nearest,
+            &mut second,
+            &mut out,
+        ) as usize,
+    );
     levels(&second);
     levels(&out);
-    line(uniform::uniform_filter(&cells, &shape, 2, nearest, &mut second, &mut out) as usize);
-    levels(&second);
-    levels(&out);
+}
+
+// Half of size 6 is over the two cells of an axis.
+pub fn both_axes() {
+    mean_of(6);
+    mean_of(2);
 }

@@ -2,7 +2,8 @@
 use crate::apply;
 use border::BorderMode;
 use reading::cursor;
-use reading::cursor::Cursor;
+use reading::cursor::FAULT;
+use reading::cursor::Place;
 use reading::mode;
 use reading::number;
 ghost use Prim.Native.Nat.{_≤_};
@@ -17,19 +18,22 @@ pub struct Form {
     pub second: bool,
 }
 
-// What was asked.
-pub struct Asked {
+// How much was read of the grid, its kernel's sides and the weights.
+pub struct Front {
     pub axes: usize,
     pub cells: usize,
     pub sides: usize,
     pub weights: usize,
+}
+
+// What stands behind them.
+pub struct Asked {
     pub size: usize,
     pub axis: usize,
     pub mode: BorderMode,
     pub origin: i64,
     pub out: usize,
     pub second: usize,
-    pub c: Cursor,
 }
 
 // The filters by number.
@@ -76,104 +80,40 @@ fn form_of(filter: u8) -> Form {
 // The grid, and the kernel where there is one.
 fn read_front(
     form: Form,
-    input: &mut [u8],
-    token: &mut [u8],
+    room: &mut [u8],
+    place: &mut Place,
     shape: &mut [usize],
     sides: &mut [usize],
     data: &mut [i64],
     weights: &mut [i64],
-    c: Cursor,
-) -> Asked {
-    let grid = number::read_grid(input, token, shape, data, c);
-    let grid_end = grid.c;
-    let kernel = number::lengths_if(form.kernel, input, token, sides, grid_end);
-    let kernel_end = kernel.c;
-    let list = number::list_if(form.weights, input, token, weights, kernel_end);
-    let list_end = list.c;
-    Asked {
+) -> Front {
+    let grid = number::read_grid(room, place, shape, data);
+    let kernel = number::lengths_if(form.kernel, room, place, sides);
+    let count = number::list_if(form.weights, room, place, weights);
+    Front {
         axes: grid.axes,
         cells: grid.cells,
-        sides: kernel.n,
-        weights: list.n,
-        size: 0,
-        axis: 0,
-        mode: BorderMode::Wrap,
-        origin: 0,
-        out: 0,
-        second: 0,
-        c: list_end,
+        sides: kernel,
+        weights: count,
     }
 }
 
-// The window's size, the axis and the border.
-fn read_middle(form: Form, input: &mut [u8], token: &mut [u8], front: Asked) -> Asked {
-    let from = front.c;
-    let size = number::count_if(form.size, input, token, from);
-    let size_end = size.c;
-    let axis = number::count_if(form.axis, input, token, size_end);
-    let axis_end = axis.c;
-    let border = mode::read_border(input, token, axis_end);
-    let mode = border.mode;
-    let border_end = border.c;
+// The same to the end of the line: the window's size, the axis, the border, the origin and the lengths of what is lent.
+fn read_asked(form: Form, room: &mut [u8], place: &mut Place) -> Asked {
+    let size = number::count_if(form.size, room, place);
+    let axis = number::count_if(form.axis, room, place);
+    let mode = mode::read_border(room, place);
+    let origin = number::level_if(form.origin, room, place);
+    let out = number::read_count(room, place);
+    let second = number::count_if(form.second, room, place);
+    cursor::finish(room, place);
     Asked {
-        axes: front.axes,
-        cells: front.cells,
-        sides: front.sides,
-        weights: front.weights,
-        size: size.n,
-        axis: axis.n,
+        size,
+        axis,
         mode,
-        origin: 0,
-        out: 0,
-        second: 0,
-        c: border_end,
-    }
-}
-
-// The origin and the lengths of what is lent.
-fn read_back(form: Form, input: &mut [u8], token: &mut [u8], middle: Asked) -> Asked {
-    let from = middle.c;
-    let mode = middle.mode;
-    let origin = number::level_if(form.origin, input, token, from);
-    let origin_end = origin.c;
-    let out = number::read_count(input, token, origin_end);
-    let out_end = out.c;
-    let second = number::count_if(form.second, input, token, out_end);
-    let second_end = second.c;
-    Asked {
-        axes: middle.axes,
-        cells: middle.cells,
-        sides: middle.sides,
-        weights: middle.weights,
-        size: middle.size,
-        axis: middle.axis,
-        mode,
-        origin: origin.z,
-        out: out.n,
-        second: second.n,
-        c: second_end,
-    }
-}
-
-// The same after the border and to the end of the line.
-fn read_rest(form: Form, input: &mut [u8], token: &mut [u8], front: Asked) -> Asked {
-    let middle = read_middle(form, input, token, front);
-    let back = read_back(form, input, token, middle);
-    let from = back.c;
-    let mode = back.mode;
-    let end = cursor::finish(input, token, from);
-    Asked {
-        axes: back.axes,
-        cells: back.cells,
-        sides: back.sides,
-        weights: back.weights,
-        size: back.size,
-        axis: back.axis,
-        mode,
-        origin: back.origin,
-        out: back.out,
-        second: back.second,
-        c: end,
+        origin,
+        out,
+        second,
     }
 }
 
@@ -221,24 +161,21 @@ fn answer(
     answered(refusal, out);
 }
 
-// The call on what was read, where nothing was wrong with it.
+// The call on what was read.
 fn serve(
     filter: u8,
     data: &[i64],
     shape: &[usize],
     sides: &[usize],
     weights: &[i64],
+    front: Front,
     asked: Asked,
     out: &mut [i64],
 ) {
-    let c = asked.c;
-    if c.fault != 0 {
-        return;
-    }
-    let cells = lent(asked.cells, data.len());
-    let axes = lent(asked.axes, shape.len());
-    let kernel = lent(asked.sides, sides.len());
-    let count = lent(asked.weights, weights.len());
+    let cells = lent(front.cells, data.len());
+    let axes = lent(front.axes, shape.len());
+    let kernel = lent(front.sides, sides.len());
+    let count = lent(front.weights, weights.len());
     let n = lent(lent(asked.out, data.len()), out.len());
     answer(
         filter,
@@ -252,28 +189,23 @@ fn serve(
 }
 
 // A request for a filter of whole numbers, from its grid on.
-pub fn whole(
-    filter: u8,
-    input: &mut [u8],
-    token: &mut [u8],
-    data: &mut [i64],
-    out: &mut [i64],
-    c: Cursor,
-) -> Cursor {
+pub fn whole(filter: u8, room: &mut [u8], place: &mut Place, data: &mut [i64], out: &mut [i64]) {
     let mut shape = [0usize; 4];
     let mut sides = [0usize; 4];
     let mut weights = [0i64; 344];
+    let form = form_of(filter);
     let front = read_front(
-        form_of(filter),
-        input,
-        token,
+        form,
+        room,
+        place,
         &mut shape,
         &mut sides,
         data,
         &mut weights,
-        c,
     );
-    let asked = read_rest(form_of(filter), input, token, front);
-    serve(filter, data, &shape, &sides, &weights, asked, out);
-    asked.c
+    let asked = read_asked(form, room, place);
+    if place[FAULT] != 0 {
+        return;
+    }
+    serve(filter, data, &shape, &sides, &weights, front, asked, out);
 }

@@ -2,7 +2,8 @@
 use crate::filter::lent;
 use kernel3d::Kernel3d;
 use reading::cursor;
-use reading::cursor::Cursor;
+use reading::cursor::FAULT;
+use reading::cursor::Place;
 use reading::number;
 use symmetry::SymmetryState;
 
@@ -16,39 +17,36 @@ fn class(state: SymmetryState) {
     }
 }
 
-// A list's end, which is the request's; more weights than can be held are a fault.
-fn listed(input: &mut [u8], token: &mut [u8], list: number::Count) -> Cursor {
-    let from = list.c;
-    let end = cursor::finish(input, token, from);
-    if list.n > MOST {
-        return cursor::faulty(end, answering::WEIGHTS);
+// The end of a list of n weights, which is the request's; more than can be held are a fault.
+fn end_list(room: &mut [u8], place: &mut Place, n: usize) {
+    cursor::finish(room, place);
+    if n <= MOST {
+        return;
     }
-    end
+    cursor::faulty(place, answering::WEIGHTS);
 }
 
 // The class of whole weights.
-pub fn whole(input: &mut [u8], token: &mut [u8], data: &mut [i64], c: Cursor) -> Cursor {
-    let list = number::list(input, token, data, c);
-    let end = listed(input, token, list);
-    if end.fault != 0 {
-        return end;
+pub fn whole(room: &mut [u8], place: &mut Place, data: &mut [i64]) {
+    let count = number::list(room, place, data);
+    end_list(room, place, count);
+    if place[FAULT] != 0 {
+        return;
     }
-    let n = lent(list.n, data.len());
+    let n = lent(count, data.len());
     class(symmetry_state::symmetry_state_i64(&data[0..n]));
-    end
 }
 
 // The class of floats.
-pub fn floats(input: &mut [u8], token: &mut [u8], c: Cursor) -> Cursor {
+pub fn floats(room: &mut [u8], place: &mut Place) {
     let mut data = [0.0; 8193];
-    let list = number::list_f64(input, token, &mut data, c);
-    let end = listed(input, token, list);
-    if end.fault != 0 {
-        return end;
+    let count = number::list_f64(room, place, &mut data);
+    end_list(room, place, count);
+    if place[FAULT] != 0 {
+        return;
     }
-    let n = lent(list.n, 8193);
+    let n = lent(count, 8193);
     class(symmetry_state::symmetry_state_f64(&data[0..n]));
-    end
 }
 
 // 1 for true, 0 for false.
@@ -80,14 +78,14 @@ fn show_cells(kernel: Kernel3d) {
 }
 
 // Which kernel the token names: 1 star, 2 ball, 3 full, 0 none.
-fn named(token: &[u8], len: usize) -> u8 {
-    if number::is(token, len, b"star") {
+fn named(room: &[u8], len: usize) -> u8 {
+    if number::is(room, len, b"star") {
         return 1;
     }
-    if number::is(token, len, b"ball") {
+    if number::is(room, len, b"ball") {
         return 2;
     }
-    if number::is(token, len, b"full") {
+    if number::is(room, len, b"full") {
         return 3;
     }
     0
@@ -105,17 +103,22 @@ fn show(name: u8) {
     show_cells(Kernel3d::Full);
 }
 
-// A request for a kernel's cells.
-pub fn kernel(input: &mut [u8], token: &mut [u8], c: Cursor) -> Cursor {
-    let here = number::word(input, token, c);
-    let name = named(token, here.len);
+// Which kernel is asked for, to the end of the line; 0 is a fault.
+fn read_name(room: &mut [u8], place: &mut Place) -> u8 {
+    let len = number::word(room, place);
+    let name = named(room, len);
     if name == 0 {
-        return cursor::finish(input, token, cursor::faulty(here, answering::SHAPE));
+        cursor::faulty(place, answering::SHAPE);
     }
-    let end = cursor::finish(input, token, here);
-    if end.fault != 0 {
-        return end;
+    cursor::finish(room, place);
+    name
+}
+
+// A request for a kernel's cells.
+pub fn kernel(room: &mut [u8], place: &mut Place) {
+    let name = read_name(room, place);
+    if place[FAULT] != 0 {
+        return;
     }
     show(name);
-    end
 }

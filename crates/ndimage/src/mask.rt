@@ -3,7 +3,8 @@ use crate::filter::answered;
 use crate::filter::lent;
 use crate::kernel::digit;
 use reading::cursor;
-use reading::cursor::Cursor;
+use reading::cursor::FAULT;
+use reading::cursor::Place;
 use reading::number;
 
 // Sets each mark to whether its level is 1; false where a level is neither 0 nor 1.
@@ -64,59 +65,25 @@ fn serve(data: &[i64], shape: &[usize], out: &mut [i64]) -> bool {
     vote(data, shape, &mut mask[0..cells], &mut voted[0..n], out)
 }
 
-// What was asked.
-struct Asked {
-    axes: usize,
-    cells: usize,
-    out: usize,
-    c: Cursor,
-}
-
-// The grid and the length of the output, to the end of the line.
-fn read(
-    input: &mut [u8],
-    token: &mut [u8],
-    shape: &mut [usize],
-    data: &mut [i64],
-    c: Cursor,
-) -> Asked {
-    let grid = number::read_grid(input, token, shape, data, c);
-    let grid_end = grid.c;
-    let count = number::read_count(input, token, grid_end);
-    let count_end = count.c;
-    let end = cursor::finish(input, token, count_end);
-    Asked {
-        axes: grid.axes,
-        cells: grid.cells,
-        out: count.n,
-        c: end,
-    }
-}
-
 // The call on what was read, where nothing was wrong with it.
-fn call(data: &[i64], shape: &[usize], asked: Asked, out: &mut [i64]) -> Cursor {
-    let end = asked.c;
-    if end.fault != 0 {
-        return end;
-    }
-    let cells = lent(asked.cells, data.len());
-    let axes = lent(asked.axes, shape.len());
-    let n = lent(lent(asked.out, data.len()), out.len());
-    if serve(&data[0..cells], &shape[0..axes], &mut out[0..n]) {
-        return end;
-    }
-    cursor::faulty(end, answering::MASK)
+fn call(data: &[i64], shape: &[usize], grid: number::Grid, count: usize, out: &mut [i64]) -> bool {
+    let cells = lent(grid.cells, data.len());
+    let axes = lent(grid.axes, shape.len());
+    let n = lent(lent(count, data.len()), out.len());
+    serve(&data[0..cells], &shape[0..axes], &mut out[0..n])
 }
 
 // A request for the median of a mask, from its grid on.
-pub fn median(
-    input: &mut [u8],
-    token: &mut [u8],
-    data: &mut [i64],
-    out: &mut [i64],
-    c: Cursor,
-) -> Cursor {
+pub fn median(room: &mut [u8], place: &mut Place, data: &mut [i64], out: &mut [i64]) {
     let mut shape = [0usize; 4];
-    let asked = read(input, token, &mut shape, data, c);
-    call(data, &shape, asked, out)
+    let grid = number::read_grid(room, place, &mut shape, data);
+    let count = number::read_count(room, place);
+    cursor::finish(room, place);
+    if place[FAULT] != 0 {
+        return;
+    }
+    if call(data, &shape, grid, count, out) {
+        return;
+    }
+    cursor::faulty(place, answering::MASK);
 }

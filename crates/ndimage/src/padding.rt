@@ -2,127 +2,92 @@
 use crate::filter::answered;
 use crate::filter::lent;
 use border::PadMode;
-use pad_judge::Pair;
 use reading::cursor;
-use reading::cursor::Cursor;
+use reading::cursor::FAULT;
+use reading::cursor::Place;
 use reading::mode;
+use reading::mode::Pads;
 use reading::number;
 
-// What was asked.
-struct Asked {
-    axes: usize,
-    cells: usize,
-    mode: PadMode,
-    pads: [Pair; 3],
-    count: usize,
-    c: Cursor,
-}
-
-// The grid, the mode and the pads.
-fn read_front(
-    input: &mut [u8],
-    token: &mut [u8],
-    shape: &mut [usize],
-    data: &mut [i64],
-    c: Cursor,
-) -> Asked {
-    let grid = number::read_grid(input, token, shape, data, c);
-    let grid_end = grid.c;
-    let padding = mode::read_padding(input, token, grid_end);
-    let mode = padding.mode;
-    let padding_end = padding.c;
-    let given = mode::read_pads(input, token, padding_end);
-    let pads = given.pads;
-    let given_end = given.c;
-    Asked {
-        axes: grid.axes,
-        cells: grid.cells,
-        mode,
-        pads,
-        count: given.count,
-        c: given_end,
-    }
-}
-
 // How long the output is: a length, or what it holds before, as a list.
-fn read_out(
-    to: bool,
-    input: &mut [u8],
-    token: &mut [u8],
-    out: &mut [i64],
-    c: Cursor,
-) -> number::Count {
+fn read_out(to: bool, room: &mut [u8], place: &mut Place, out: &mut [i64]) -> usize {
     if to {
-        return number::list(input, token, out, c);
+        return number::list(room, place, out);
     }
-    number::read_count(input, token, c)
-}
-
-// The same to the end of the line.
-fn read_end(
-    to: bool,
-    input: &mut [u8],
-    token: &mut [u8],
-    out: &mut [i64],
-    c: Cursor,
-) -> number::Count {
-    let length = read_out(to, input, token, out, c);
-    let from = length.c;
-    let end = cursor::finish(input, token, from);
-    number::Count {
-        n: length.n,
-        c: end,
-    }
+    number::read_count(room, place)
 }
 
 // The call, and its number.
-fn apply(to: bool, data: &[i64], shape: &[usize], asked: Asked, out: &mut [i64]) -> u8 {
-    let pads = asked.pads;
-    let mode = asked.mode;
+fn apply(
+    to: bool,
+    data: &[i64],
+    shape: &[usize],
+    mode: PadMode,
+    given: Pads,
+    out: &mut [i64],
+) -> u8 {
+    let pads = given.pads;
     if to {
-        return pad::pad_to(data, shape, pads, asked.count, mode, out);
+        return pad::pad_to(data, shape, pads, given.count, mode, out);
     }
-    pad::pad(data, shape, pads, asked.count, mode, out)
+    pad::pad(data, shape, pads, given.count, mode, out)
 }
 
 // The call and its answer.
-fn answer(to: bool, data: &[i64], shape: &[usize], asked: Asked, out: &mut [i64]) {
-    let refusal = apply(to, data, shape, asked, out);
+fn answer(to: bool, data: &[i64], shape: &[usize], mode: PadMode, given: Pads, out: &mut [i64]) {
+    let refusal = apply(to, data, shape, mode, given, out);
     answered(refusal, out);
 }
 
-// The call on what was read, where nothing was wrong with it.
+// The call on what was read.
 fn serve(
     to: bool,
     data: &[i64],
     shape: &[usize],
-    asked: Asked,
-    length: number::Count,
+    grid: number::Grid,
+    mode: PadMode,
+    given: Pads,
+    length: usize,
     out: &mut [i64],
 ) {
-    let end = length.c;
-    if end.fault != 0 {
+    let cells = lent(grid.cells, data.len());
+    let axes = lent(grid.axes, shape.len());
+    let n = lent(length, out.len());
+    answer(
+        to,
+        &data[0..cells],
+        &shape[0..axes],
+        mode,
+        given,
+        &mut out[0..n],
+    );
+}
+
+// The request from the output on, to the end of the line; then the call, where nothing was wrong.
+fn answer_rest(
+    to: bool,
+    room: &mut [u8],
+    place: &mut Place,
+    data: &[i64],
+    shape: &[usize],
+    grid: number::Grid,
+    mode: PadMode,
+    given: Pads,
+    out: &mut [i64],
+) {
+    let length = read_out(to, room, place, out);
+    cursor::finish(room, place);
+    if place[FAULT] != 0 {
         return;
     }
-    let cells = lent(asked.cells, data.len());
-    let axes = lent(asked.axes, shape.len());
-    let n = lent(length.n, out.len());
-    answer(to, &data[0..cells], &shape[0..axes], asked, &mut out[0..n]);
+    serve(to, data, shape, grid, mode, given, length, out);
 }
 
 // A request for padding, from its grid on.
-pub fn padding(
-    to: bool,
-    input: &mut [u8],
-    token: &mut [u8],
-    data: &mut [i64],
-    out: &mut [i64],
-    c: Cursor,
-) -> Cursor {
+pub fn padding(to: bool, room: &mut [u8], place: &mut Place, data: &mut [i64], out: &mut [i64]) {
     let mut shape = [0usize; 4];
-    let asked = read_front(input, token, &mut shape, data, c);
-    let front = asked.c;
-    let length = read_end(to, input, token, out, front);
-    serve(to, data, &shape, asked, length, out);
-    length.c
+    let grid = number::read_grid(room, place, &mut shape, data);
+    let mode = mode::read_padding(room, place);
+    let given = mode::read_pads(room, place);
+    answer_rest(to, room, place, data, &shape, grid, mode, given, out);
 }

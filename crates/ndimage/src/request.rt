@@ -5,7 +5,10 @@ use crate::kernel;
 use crate::mask;
 use crate::padding;
 use reading::cursor;
-use reading::cursor::Cursor;
+use reading::cursor::FAULT;
+use reading::cursor::KEPT;
+use reading::cursor::LEN;
+use reading::cursor::Place;
 use reading::number;
 
 // The other requests by number, after the filters'.
@@ -22,72 +25,72 @@ const MEDIAN: u8 = 24;
 const HELP: u8 = 25;
 
 // The number of a filter that sums, 0 for none.
-fn sum_named(token: &[u8], len: usize) -> u8 {
-    if number::is(token, len, b"correlate") {
+fn sum_named(room: &[u8], len: usize) -> u8 {
+    if number::is(room, len, b"correlate") {
         return filter::CORRELATE;
     }
-    if number::is(token, len, b"convolve") {
+    if number::is(room, len, b"convolve") {
         return filter::CONVOLVE;
     }
-    if number::is(token, len, b"prewitt") {
+    if number::is(room, len, b"prewitt") {
         return filter::PREWITT;
     }
-    if number::is(token, len, b"sobel") {
+    if number::is(room, len, b"sobel") {
         return filter::SOBEL;
     }
-    if number::is(token, len, b"uniform_filter") {
+    if number::is(room, len, b"uniform_filter") {
         return filter::UNIFORM;
     }
-    if number::is(token, len, b"uniform_filter1d") {
+    if number::is(room, len, b"uniform_filter1d") {
         return filter::UNIFORM1D;
     }
     0
 }
 
 // A filter's number, 0 for none.
-fn filter_named(token: &[u8], len: usize) -> u8 {
-    if number::is(token, len, b"correlate1d") {
+fn filter_named(room: &[u8], len: usize) -> u8 {
+    if number::is(room, len, b"correlate1d") {
         return filter::CORRELATE1D;
     }
-    if number::is(token, len, b"convolve1d") {
+    if number::is(room, len, b"convolve1d") {
         return filter::CONVOLVE1D;
     }
-    if number::is(token, len, b"minimum_filter1d") {
+    if number::is(room, len, b"minimum_filter1d") {
         return filter::MINIMUM1D;
     }
-    if number::is(token, len, b"maximum_filter1d") {
+    if number::is(room, len, b"maximum_filter1d") {
         return filter::MAXIMUM1D;
     }
-    if number::is(token, len, b"minimum_filter") {
+    if number::is(room, len, b"minimum_filter") {
         return filter::MINIMUM;
     }
-    if number::is(token, len, b"maximum_filter") {
+    if number::is(room, len, b"maximum_filter") {
         return filter::MAXIMUM;
     }
-    sum_named(token, len)
+    sum_named(room, len)
 }
 
 // A request's number, 0 for none.
-fn named(token: &[u8], len: usize) -> u8 {
-    if number::is(token, len, b"pad") {
+fn named(room: &[u8], len: usize) -> u8 {
+    if number::is(room, len, b"pad") {
         return PAD;
     }
-    if number::is(token, len, b"pad_to") {
+    if number::is(room, len, b"pad_to") {
         return PAD_TO;
     }
-    if number::is(token, len, b"symmetry") {
+    if number::is(room, len, b"symmetry") {
         return SYMMETRY;
     }
-    if number::is(token, len, b"kernel3d") {
+    if number::is(room, len, b"kernel3d") {
         return KERNEL3D;
     }
-    if number::is(token, len, b"median_filter") {
+    if number::is(room, len, b"median_filter") {
         return MEDIAN;
     }
-    if number::is(token, len, b"help") {
+    if number::is(room, len, b"help") {
         return HELP;
     }
-    filter_named(token, len)
+    filter_named(room, len)
 }
 
 // Whether the request says i or f after its name.
@@ -98,107 +101,74 @@ fn has_kind(name: u8) -> bool {
     name <= filter::CONVOLVE1D
 }
 
-// A request's name, whether it is one of floats, and where reading stands after that. 0 is the name of a line that asks for no call.
-pub struct Begun {
-    pub name: u8,
-    pub float: bool,
-    pub c: Cursor,
-}
-
-fn read_kind(name: u8, input: &mut [u8], token: &mut [u8], c: Cursor) -> Begun {
+// Whether the request is one of floats.
+fn read_kind(name: u8, room: &mut [u8], place: &mut Place) -> bool {
     if !has_kind(name) {
-        return Begun {
-            name,
-            float: false,
-            c,
-        };
+        return false;
     }
-    let here = number::word(input, token, c);
-    if number::is(token, here.len, b"f") {
-        return Begun {
-            name,
-            float: true,
-            c: here,
-        };
+    let len = number::word(room, place);
+    if number::is(room, len, b"f") {
+        return true;
     }
-    if number::is(token, here.len, b"i") {
-        return Begun {
-            name,
-            float: false,
-            c: here,
-        };
+    if number::is(room, len, b"i") {
+        return false;
     }
-    Begun {
-        name,
-        float: false,
-        c: cursor::faulty(here, answering::KIND),
-    }
+    cursor::faulty(place, answering::KIND);
+    false
 }
 
 // Requests of floats.
-fn floats(name: u8, input: &mut [u8], token: &mut [u8], c: Cursor) -> Cursor {
+fn floats(name: u8, room: &mut [u8], place: &mut Place) {
     if name == SYMMETRY {
-        return kernel::floats(input, token, c);
+        kernel::floats(room, place);
+        return;
     }
-    filter_f64::floats(name == filter::CONVOLVE1D, input, token, c)
+    filter_f64::floats(name == filter::CONVOLVE1D, room, place);
 }
 
-// Requests of whole numbers that are no filter's, but for the median of masks.
-fn others(
-    name: u8,
-    input: &mut [u8],
-    token: &mut [u8],
-    data: &mut [i64],
-    out: &mut [i64],
-    c: Cursor,
-) -> Cursor {
+// Requests of whole numbers that are no filter's.
+fn others(name: u8, room: &mut [u8], place: &mut Place, data: &mut [i64], out: &mut [i64]) {
     if name == SYMMETRY {
-        return kernel::whole(input, token, data, c);
+        kernel::whole(room, place, data);
+        return;
     }
     if name == KERNEL3D {
-        return kernel::kernel(input, token, c);
+        kernel::kernel(room, place);
+        return;
     }
     if name == MEDIAN {
-        return mask::median(input, token, data, out, c);
+        mask::median(room, place, data, out);
+        return;
     }
-    padding::padding(name == PAD_TO, input, token, data, out, c)
+    padding::padding(name == PAD_TO, room, place, data, out);
 }
 
-// The call that a name asks for, on what the rest of the line says; 0 asks for none.
-pub fn answer(
-    name: u8,
-    float: bool,
-    input: &mut [u8],
-    token: &mut [u8],
-    data: &mut [i64],
-    out: &mut [i64],
-    c: Cursor,
-) -> Cursor {
-    if name == 0 {
-        return c;
-    }
-    if float {
-        return floats(name, input, token, c);
+// The call that a name asks for, on what the rest of the line says.
+fn answer(name: u8, room: &mut [u8], place: &mut Place, data: &mut [i64], out: &mut [i64]) {
+    if read_kind(name, room, place) {
+        floats(name, room, place);
+        return;
     }
     if name < PAD {
-        return filter::whole(name, input, token, data, out, c);
+        filter::whole(name, room, place, data, out);
+        return;
     }
-    others(name, input, token, data, out, c)
+    others(name, room, place, data, out);
 }
 
 // Lines that ask for no call: nothing, help, an unknown name.
-fn plain(name: u8, input: &mut [u8], token: &mut [u8], c: Cursor) -> Cursor {
-    if c.len == 0 {
-        return cursor::finish(input, token, c);
+fn plain(name: u8, room: &mut [u8], place: &mut Place) {
+    if place[LEN] == 0 {
+        cursor::finish(room, place);
+        return;
     }
     if name != HELP {
-        return cursor::finish(input, token, cursor::faulty(c, answering::UNKNOWN));
+        cursor::faulty(place, answering::UNKNOWN);
     }
-    let end = cursor::finish(input, token, c);
-    if end.fault == 0 {
+    cursor::finish(room, place);
+    if place[FAULT] == 0 {
         answering::show_help();
     }
-    end
 }
 
 // Whether the name asks for a call.
@@ -209,24 +179,32 @@ fn calls(name: u8) -> bool {
     name != HELP
 }
 
-// The name of the line's request; a line that asks for no call is answered.
-pub fn begin(input: &mut [u8], token: &mut [u8], c: Cursor) -> Begun {
-    let here = cursor::next(input, token, c);
-    let name = named(token, here.len);
+// The line's name and what it asks for.
+fn answer_line(room: &mut [u8], place: &mut Place, data: &mut [i64], out: &mut [i64]) {
+    cursor::next(room, place);
+    let name = named(room, place[LEN]);
     if calls(name) {
-        return read_kind(name, input, token, here);
+        answer(name, room, place, data, out);
+        return;
     }
-    Begun {
-        name: 0,
-        float: false,
-        c: plain(name, input, token, here),
-    }
+    plain(name, room, place);
 }
 
 // What is wrong with the line, where something is.
-pub fn report(token: &[u8], c: Cursor) {
-    if c.fault == 0 {
+fn report(room: &[u8], place: &Place) {
+    let fault = place[FAULT];
+    if fault == 0 {
         return;
     }
-    answering::error(token, c.len, c.fault);
+    if room.len() < KEPT {
+        return;
+    }
+    answering::error(&room[0..KEPT], place[LEN], fault);
+}
+
+// A line: what it asks for, or what is wrong with it.
+pub fn serve(room: &mut [u8], place: &mut Place, data: &mut [i64], out: &mut [i64]) {
+    cursor::begin_line(place);
+    answer_line(room, place, data, out);
+    report(room, place);
 }

@@ -1,244 +1,211 @@
-// Reading standard input token by token through a buffer. A token is what stands between spaces; only its first bytes are kept.
+// Reading standard input token by token. A token is what stands between spaces; only its first bytes are kept. What reading works on is lent to every
+// function: a room for bytes, with the token in front and what was read behind it, and a place, the numbers that say where reading stands.
 use answering::EXTRA;
 use answering::LONG;
 use libc::STDIN_FILENO;
 
-// Where reading stands.
-pub struct Cursor {
-    // The next byte of the buffer, and how many it holds.
-    pub at: usize,
-    pub end: usize,
-    // How many bytes of the line were read, at most LONGEST + 1.
-    pub line: usize,
-    // How many bytes the token has, 0 for none, at most one more than are kept.
-    pub len: usize,
-    // OPEN, SPACE, LINE or INPUT.
-    pub state: u8,
-    // The first thing that is wrong with the line, 0 for nothing.
-    pub fault: u8,
-}
+pub type Place = [usize; 6];
+
+// How many bytes of a token are kept, in front of what was read.
+pub const KEPT: usize = 64;
+
+// The numbers of a place: the next byte of the room, and where what was read ends.
+const AT: usize = 0;
+
+const END: usize = 1;
+
+// How many bytes of the line were read, at most LONGEST + 1.
+const LINE: usize = 2;
+
+// How many bytes the token has, 0 for none, at most one more than are kept.
+pub const LEN: usize = 3;
+
+// OPEN, SPACE, LINE_END or INPUT_END.
+const STATE: usize = 4;
+
+// The first thing that is wrong with the line, 0 for nothing.
+pub const FAULT: usize = 5;
 
 // In a token or before it; the token is whole; the line has ended; the input has ended.
-const OPEN: u8 = 0;
+const OPEN: usize = 0;
 
-const SPACE: u8 = 1;
+const SPACE: usize = 1;
 
-const LINE: u8 = 2;
+const LINE_END: usize = 2;
 
-const INPUT: u8 = 3;
+const INPUT_END: usize = 3;
 
 const LONGEST: usize = 1000000;
 
-// Before the first byte.
-pub fn start() -> Cursor {
-    Cursor {
-        at: 0,
-        end: 0,
-        line: 0,
-        len: 0,
-        state: OPEN,
-        fault: 0,
-    }
-}
+// What `advance` answers where it took no byte.
+const NONE: usize = 256;
 
-// The next line.
-pub fn line_from(c: Cursor) -> Cursor {
-    Cursor {
-        at: c.at,
-        end: c.end,
-        line: 0,
-        len: 0,
-        state: OPEN,
-        fault: 0,
-    }
+// Goes on with the next line.
+pub fn begin_line(place: &mut Place) {
+    place[LINE] = 0;
+    place[LEN] = 0;
+    place[STATE] = OPEN;
+    place[FAULT] = 0;
 }
 
 // Whether the input has ended.
-pub fn over(c: Cursor) -> bool {
-    c.state == INPUT
+pub fn over(place: &Place) -> bool {
+    place[STATE] == INPUT_END
 }
 
-// The same place with a fault; the first one stays.
-pub fn faulty(c: Cursor, fault: u8) -> Cursor {
-    if c.fault != 0 {
-        return c;
+// Notes a fault; the first one stays.
+pub fn faulty(place: &mut Place, fault: usize) {
+    if place[FAULT] != 0 {
+        return;
     }
-    Cursor {
-        at: c.at,
-        end: c.end,
-        line: c.line,
-        len: c.len,
-        state: c.state,
-        fault,
-    }
-}
-
-fn moved(c: Cursor, len: usize, state: u8) -> Cursor {
-    Cursor {
-        at: c.at,
-        end: c.end,
-        line: c.line,
-        len,
-        state,
-        fault: c.fault,
-    }
+    place[FAULT] = fault;
 }
 
 // More bytes, or the end of the input.
-fn fill(input: &mut [u8], c: Cursor) -> Cursor {
-    let got = libc::read(STDIN_FILENO, input);
-    let n = io::count(got, input);
+fn fill(room: &mut [u8], place: &mut Place) {
+    if room.len() < KEPT {
+        place[STATE] = INPUT_END;
+        return;
+    }
+    let got = libc::read(STDIN_FILENO, &mut room[KEPT..]);
+    let n = io::count(got, &room[KEPT..]);
     if n == 0 {
-        return moved(c, c.len, INPUT);
+        place[STATE] = INPUT_END;
+        return;
     }
-    Cursor {
-        at: 0,
-        end: n,
-        line: c.line,
-        len: c.len,
-        state: c.state,
-        fault: c.fault,
-    }
+    place[AT] = KEPT;
+    place[END] = KEPT + n;
 }
 
-// How many bytes the line has with this one; its end does not count.
-fn longer(line: usize, byte: u8) -> usize {
+// Counts a byte of the line; its end does not count.
+fn lengthen(place: &mut Place, byte: u8) {
+    let line = place[LINE];
     if byte == 10 {
-        return line;
+        return;
     }
     if line > LONGEST {
-        return line;
+        return;
     }
-    line + 1
+    place[LINE] = line + 1;
 }
 
-// Past a byte.
-fn past(c: Cursor, byte: u8) -> Cursor {
-    let at = c.at;
-    if at > LONGEST {
-        return moved(c, 0, INPUT);
+fn wide(byte: u8) -> usize {
+    byte as usize
+}
+
+// The next byte; NONE where more bytes had to be brought into the room first, or the input has ended.
+fn advance(room: &mut [u8], place: &mut Place) -> usize {
+    let at = place[AT];
+    if at >= place[END] {
+        fill(room, place);
+        return NONE;
     }
-    Cursor {
-        at: at + 1,
-        end: c.end,
-        line: longer(c.line, byte),
-        len: c.len,
-        state: c.state,
-        fault: c.fault,
+    if at >= room.len() {
+        place[STATE] = INPUT_END;
+        return NONE;
     }
+    place[AT] = at + 1;
+    let byte = room[at];
+    lengthen(place, byte);
+    wide(byte)
 }
 
 // Keeps a byte of the token where there is room.
-fn keep(token: &mut [u8], n: usize, byte: u8) {
-    if n >= token.len() {
+fn keep(room: &mut [u8], n: usize, byte: usize) {
+    if n >= KEPT {
         return;
     }
-    token[n] = byte;
+    if n >= room.len() {
+        return;
+    }
+    room[n] = (byte % 256) as u8;
 }
 
 // What a byte does.
-fn taken(token: &mut [u8], c: Cursor, byte: u8) -> Cursor {
-    let len = c.len;
+fn take(room: &mut [u8], place: &mut Place, byte: usize) {
+    let len = place[LEN];
     if byte == 10 {
-        return moved(c, len, LINE);
+        place[STATE] = LINE_END;
+        return;
     }
     if byte == 32 {
         if len == 0 {
-            return c;
+            return;
         }
-        return moved(c, len, SPACE);
+        place[STATE] = SPACE;
+        return;
     }
-    keep(token, len, byte);
-    if len > token.len() {
-        return c;
+    if len > KEPT {
+        return;
     }
-    if len > LONGEST {
-        return c;
-    }
-    moved(c, len + 1, OPEN)
+    keep(room, len, byte);
+    place[LEN] = len + 1;
 }
 
-// One byte, or more bytes into the buffer.
-fn turn(input: &mut [u8], token: &mut [u8], c: Cursor) -> Cursor {
-    let at = c.at;
-    if at >= c.end {
-        return fill(input, c);
+// One byte, or more bytes into the room.
+fn turn(room: &mut [u8], place: &mut Place) {
+    let byte = advance(room, place);
+    if byte == NONE {
+        return;
     }
-    if at >= input.len() {
-        return moved(c, 0, INPUT);
-    }
-    let byte = input[at];
-    taken(token, past(c, byte), byte)
+    take(room, place, byte);
 }
 
-// Whether the line may have another token.
-fn open(c: Cursor) -> bool {
-    c.state < LINE
-}
-
-// The next token of the line: `len` is 0 where there is none.
-pub fn next(input: &mut [u8], token: &mut [u8], c: Cursor) -> Cursor {
-    if !open(c) {
-        return moved(c, 0, c.state);
+// The next token of the line: its length is 0 where there is none.
+pub fn next(room: &mut [u8], place: &mut Place) {
+    place[LEN] = 0;
+    if place[STATE] >= LINE_END {
+        return;
     }
-    let mut here = moved(c, 0, OPEN);
+    place[STATE] = OPEN;
     let mut turns = u64::MAX;
     while turns > 0 {
-        here = turn(input, token, here);
-        if here.state != OPEN {
+        turn(room, place);
+        if place[STATE] != OPEN {
             break;
         }
         turns -= 1;
     }
-    here
 }
 
-// To the end of the line.
-fn skip(input: &mut [u8], c: Cursor) -> Cursor {
-    let mut none = [0u8; 1];
-    let mut here = c;
+// To the end of the line; the token stays.
+fn skip(room: &mut [u8], place: &mut Place) {
     let mut turns = u64::MAX;
     while turns > 0 {
-        if !open(here) {
+        if place[STATE] >= LINE_END {
             break;
         }
-        here = next(input, &mut none, here);
+        if advance(room, place) == 10 {
+            place[STATE] = LINE_END;
+        }
         turns -= 1;
     }
-    here
 }
 
-// The end of the request: nothing may follow, and the line may not be too long, which counts before every other fault.
-pub fn finish(input: &mut [u8], token: &mut [u8], c: Cursor) -> Cursor {
-    if c.fault != 0 {
-        return measured(c, skip(input, c));
+// Nothing may follow.
+fn expect_end(room: &mut [u8], place: &mut Place) {
+    if place[FAULT] != 0 {
+        return;
     }
-    let more = next(input, token, c);
-    if more.len == 0 {
-        return measured(more, more);
+    next(room, place);
+    if place[LEN] == 0 {
+        return;
     }
-    let extra = faulty(more, EXTRA);
-    measured(extra, skip(input, extra))
+    faulty(place, EXTRA);
 }
 
-// The end of the line with the token and the fault from before.
-fn measured(c: Cursor, end: Cursor) -> Cursor {
-    if end.line <= LONGEST {
-        return Cursor {
-            at: end.at,
-            end: end.end,
-            line: end.line,
-            len: c.len,
-            state: end.state,
-            fault: c.fault,
-        };
+// A line that is too long is a fault that counts before every other.
+fn measure(place: &mut Place) {
+    if place[LINE] <= LONGEST {
+        return;
     }
-    Cursor {
-        at: end.at,
-        end: end.end,
-        line: end.line,
-        len: 0,
-        state: end.state,
-        fault: LONG,
-    }
+    place[LEN] = 0;
+    place[FAULT] = LONG;
+}
+
+// The end of the request.
+pub fn finish(room: &mut [u8], place: &mut Place) {
+    expect_end(room, place);
+    skip(room, place);
+    measure(place);
 }

@@ -1,77 +1,42 @@
 // Borders, padding modes and pads out of tokens.
 use crate::cursor;
-use crate::cursor::Cursor;
+use crate::cursor::Place;
 use crate::number;
 use border::BorderMode;
 use border::BorderModeF64;
 use border::PadMode;
 use pad_judge::Pair;
 
-pub struct Border {
-    pub mode: BorderMode,
-    pub c: Cursor,
-}
-
-pub struct BorderF64 {
-    pub mode: BorderModeF64,
-    pub c: Cursor,
-}
-
-pub struct Padding {
-    pub mode: PadMode,
-    pub c: Cursor,
-}
-
+// Three pairs of pads, and how many were given.
 pub struct Pads {
     pub pads: [Pair; 3],
     pub count: usize,
-    pub c: Cursor,
 }
 
-// A border that reads the grid.
-fn along(token: &[u8], c: Cursor) -> Border {
-    let len = c.len;
-    if number::is(token, len, b"mirror") {
-        return Border {
-            mode: BorderMode::Mirror,
-            c,
-        };
+// A border that reads the grid, by the token.
+fn along(room: &[u8], place: &mut Place, len: usize) -> BorderMode {
+    if number::is(room, len, b"mirror") {
+        return BorderMode::Mirror;
     }
-    if number::is(token, len, b"nearest") {
-        return Border {
-            mode: BorderMode::Nearest,
-            c,
-        };
+    if number::is(room, len, b"nearest") {
+        return BorderMode::Nearest;
     }
-    if number::is(token, len, b"reflect") {
-        return Border {
-            mode: BorderMode::Reflect,
-            c,
-        };
+    if number::is(room, len, b"reflect") {
+        return BorderMode::Reflect;
     }
-    if number::is(token, len, b"wrap") {
-        return Border {
-            mode: BorderMode::Wrap,
-            c,
-        };
+    if number::is(room, len, b"wrap") {
+        return BorderMode::Wrap;
     }
-    Border {
-        mode: BorderMode::Wrap,
-        c: cursor::faulty(c, answering::MODE),
-    }
+    cursor::faulty(place, answering::MODE);
+    BorderMode::Wrap
 }
 
-pub fn read_border(input: &mut [u8], token: &mut [u8], c: Cursor) -> Border {
-    let here = number::word(input, token, c);
-    if number::is(token, here.len, b"constant") {
-        let level = number::read_level(input, token, here);
-        let after = level.c;
-        return Border {
-            mode: BorderMode::Constant(level.z),
-            c: after,
-        };
+pub fn read_border(room: &mut [u8], place: &mut Place) -> BorderMode {
+    let len = number::word(room, place);
+    if number::is(room, len, b"constant") {
+        return BorderMode::Constant(number::read_level(room, place));
     }
-    along(token, here)
+    along(room, place, len)
 }
 
 // The same border of floats.
@@ -85,93 +50,55 @@ fn of_floats(mode: BorderMode) -> BorderModeF64 {
     }
 }
 
-pub fn read_border_f64(input: &mut [u8], token: &mut [u8], c: Cursor) -> BorderF64 {
-    let here = number::word(input, token, c);
-    if number::is(token, here.len, b"constant") {
-        let level = number::read_level_f64(input, token, here);
-        let after = level.c;
-        return BorderF64 {
-            mode: BorderModeF64::Constant(level.x),
-            c: after,
-        };
+pub fn read_border_f64(room: &mut [u8], place: &mut Place) -> BorderModeF64 {
+    let len = number::word(room, place);
+    if number::is(room, len, b"constant") {
+        return BorderModeF64::Constant(number::read_level_f64(room, place));
     }
-    let found = along(token, here);
-    let mode = found.mode;
-    let after = found.c;
-    BorderF64 {
-        mode: of_floats(mode),
-        c: after,
-    }
+    of_floats(along(room, place, len))
 }
 
-// A padding mode that reads the grid.
-fn padded(token: &[u8], c: Cursor) -> Padding {
-    let len = c.len;
-    if number::is(token, len, b"edge") {
-        return Padding {
-            mode: PadMode::Edge,
-            c,
-        };
+// A padding mode that copies cells, by the token.
+fn padded(room: &[u8], place: &mut Place, len: usize) -> PadMode {
+    if number::is(room, len, b"edge") {
+        return PadMode::Edge;
     }
-    if number::is(token, len, b"maximum") {
-        return Padding {
-            mode: PadMode::Maximum,
-            c,
-        };
+    if number::is(room, len, b"reflect") {
+        return PadMode::Reflect;
     }
-    if number::is(token, len, b"mean") {
-        return Padding {
-            mode: PadMode::Mean,
-            c,
-        };
+    if number::is(room, len, b"symmetric") {
+        return PadMode::Symmetric;
     }
-    if number::is(token, len, b"median") {
-        return Padding {
-            mode: PadMode::Median,
-            c,
-        };
+    if number::is(room, len, b"wrap") {
+        return PadMode::Wrap;
     }
-    if number::is(token, len, b"minimum") {
-        return Padding {
-            mode: PadMode::Minimum,
-            c,
-        };
-    }
-    if number::is(token, len, b"reflect") {
-        return Padding {
-            mode: PadMode::Reflect,
-            c,
-        };
-    }
-    if number::is(token, len, b"symmetric") {
-        return Padding {
-            mode: PadMode::Symmetric,
-            c,
-        };
-    }
-    if number::is(token, len, b"wrap") {
-        return Padding {
-            mode: PadMode::Wrap,
-            c,
-        };
-    }
-    Padding {
-        mode: PadMode::Wrap,
-        c: cursor::faulty(c, answering::MODE),
-    }
+    cursor::faulty(place, answering::MODE);
+    PadMode::Wrap
 }
 
-pub fn read_padding(input: &mut [u8], token: &mut [u8], c: Cursor) -> Padding {
-    let here = number::word(input, token, c);
-    if number::is(token, here.len, b"constant") {
-        let level = number::read_level(input, token, here);
-        let after = level.c;
-        return Padding {
-            mode: PadMode::Constant(level.z),
-            c: after,
-        };
+// A padding mode that reads the grid, by the token.
+fn filled(room: &[u8], place: &mut Place, len: usize) -> PadMode {
+    if number::is(room, len, b"maximum") {
+        return PadMode::Maximum;
     }
-    padded(token, here)
+    if number::is(room, len, b"mean") {
+        return PadMode::Mean;
+    }
+    if number::is(room, len, b"median") {
+        return PadMode::Median;
+    }
+    if number::is(room, len, b"minimum") {
+        return PadMode::Minimum;
+    }
+    padded(room, place, len)
+}
+
+pub fn read_padding(room: &mut [u8], place: &mut Place) -> PadMode {
+    let len = number::word(room, place);
+    if number::is(room, len, b"constant") {
+        return PadMode::Constant(number::read_level(room, place));
+    }
+    filled(room, place, len)
 }
 
 fn twice(n: usize) -> usize {
@@ -181,29 +108,24 @@ fn twice(n: usize) -> usize {
     2 * n
 }
 
+// A pair of the cells, the first of which is cell i.
+fn pair(cells: &[usize; 6], i: usize) -> Pair {
+    if i > 4 {
+        return Pair { left: 0, right: 0 };
+    }
+    Pair {
+        left: cells[i],
+        right: cells[i + 1],
+    }
+}
+
 // Pairs, of which three are kept.
-pub fn read_pads(input: &mut [u8], token: &mut [u8], c: Cursor) -> Pads {
-    let n = number::read_count(input, token, c);
-    let after = n.c;
+pub fn read_pads(room: &mut [u8], place: &mut Place) -> Pads {
     let mut cells = [0usize; 6];
-    let here = number::counts(input, token, twice(n.n), &mut cells, after);
-    let pads = [
-        Pair {
-            left: cells[0],
-            right: cells[1],
-        },
-        Pair {
-            left: cells[2],
-            right: cells[3],
-        },
-        Pair {
-            left: cells[4],
-            right: cells[5],
-        },
-    ];
+    let count = number::read_count(room, place);
+    number::counts(room, place, twice(count), &mut cells);
     Pads {
-        pads,
-        count: n.n,
-        c: here,
+        pads: [pair(&cells, 0), pair(&cells, 2), pair(&cells, 4)],
+        count,
     }
 }

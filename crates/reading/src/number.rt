@@ -1,117 +1,90 @@
-// Numbers out of tokens, and lists and grids of them, straight into the arrays that are lent. After a fault nothing more is read.
+// Numbers out of tokens, and lists and grids of them, straight into the arrays that are lent. After a fault nothing more is read: numbers are 0.
 use crate::cursor;
-use crate::cursor::Cursor;
+use crate::cursor::FAULT;
+use crate::cursor::KEPT;
+use crate::cursor::LEN;
+use crate::cursor::Place;
 use text::Signed;
 use text::Unsigned;
 use text_f64::Token;
 
-// A count, and where reading stands after it.
-pub struct Count {
-    pub n: usize,
-    pub c: Cursor,
-}
-
-pub struct Level {
-    pub z: i64,
-    pub c: Cursor,
-}
-
-pub struct LevelF64 {
-    pub x: f64,
-    pub c: Cursor,
-}
-
-// How many axes and levels a grid was given, and where reading stands after it.
+// How many axes and levels a grid was given.
 pub struct Grid {
     pub axes: usize,
     pub cells: usize,
-    pub c: Cursor,
 }
 
-// The next token, which has to be there.
-pub fn word(input: &mut [u8], token: &mut [u8], c: Cursor) -> Cursor {
-    if c.fault != 0 {
-        return c;
+// The next token, which has to be there: its length, 0 after a fault.
+pub fn word(room: &mut [u8], place: &mut Place) -> usize {
+    if place[FAULT] != 0 {
+        return 0;
     }
-    let here = cursor::next(input, token, c);
-    if here.len == 0 {
-        return cursor::faulty(here, answering::MISSING);
+    cursor::next(room, place);
+    let len = place[LEN];
+    if len != 0 {
+        return len;
     }
-    here
+    cursor::faulty(place, answering::MISSING);
+    0
 }
 
 // The token's bytes; of one that is longer than what is kept, nothing, which is no word and no number.
-fn shown(token: &[u8], len: usize) -> &[u8] {
-    if len > token.len() {
-        return &token[0..0];
+fn shown(room: &[u8], len: usize) -> &[u8] {
+    if len > KEPT {
+        return &room[0..0];
     }
-    &token[0..len]
+    if len > room.len() {
+        return &room[0..0];
+    }
+    &room[0..len]
 }
 
 // Whether the token is this word.
-pub fn is(token: &[u8], len: usize, word: &[u8]) -> bool {
-    check::same(shown(token, len), word)
+pub fn is(room: &[u8], len: usize, word: &[u8]) -> bool {
+    check::same(shown(room, len), word)
 }
 
-pub fn read_count(input: &mut [u8], token: &mut [u8], c: Cursor) -> Count {
-    let here = word(input, token, c);
-    if here.fault != 0 {
-        return Count { n: 0, c: here };
+pub fn read_count(room: &mut [u8], place: &mut Place) -> usize {
+    let len = word(room, place);
+    if let Unsigned::Is(n) = read_text::read_unsigned(shown(room, len)) {
+        return n as usize;
     }
-    match read_text::read_unsigned(shown(token, here.len)) {
-        Unsigned::Is(n) => Count {
-            n: n as usize,
-            c: here,
-        },
-        Unsigned::Not => Count {
-            n: 0,
-            c: cursor::faulty(here, answering::NUMBER),
-        },
-    }
+    cursor::faulty(place, answering::NUMBER);
+    0
 }
 
 // A count where the request has one here.
-pub fn count_if(asked: bool, input: &mut [u8], token: &mut [u8], c: Cursor) -> Count {
+pub fn count_if(asked: bool, room: &mut [u8], place: &mut Place) -> usize {
     if asked {
-        return read_count(input, token, c);
+        return read_count(room, place);
     }
-    Count { n: 0, c }
+    0
 }
 
-pub fn read_level(input: &mut [u8], token: &mut [u8], c: Cursor) -> Level {
-    let here = word(input, token, c);
-    if here.fault != 0 {
-        return Level { z: 0, c: here };
+pub fn read_level(room: &mut [u8], place: &mut Place) -> i64 {
+    let len = word(room, place);
+    if let Signed::Is(z) = read_text::read_signed(shown(room, len)) {
+        return z;
     }
-    match read_text::read_signed(shown(token, here.len)) {
-        Signed::Is(z) => Level { z, c: here },
-        Signed::Not => Level {
-            z: 0,
-            c: cursor::faulty(here, answering::NUMBER),
-        },
-    }
+    cursor::faulty(place, answering::NUMBER);
+    0
 }
 
 // An origin where the request has one here.
-pub fn level_if(asked: bool, input: &mut [u8], token: &mut [u8], c: Cursor) -> Level {
+pub fn level_if(asked: bool, room: &mut [u8], place: &mut Place) -> i64 {
     if asked {
-        return read_level(input, token, c);
+        return read_level(room, place);
     }
-    Level { z: 0, c }
+    0
 }
 
-pub fn read_level_f64(input: &mut [u8], token: &mut [u8], c: Cursor) -> LevelF64 {
-    let here = word(input, token, c);
-    if here.fault != 0 {
-        return LevelF64 { x: 0.0, c: here };
+pub fn read_level_f64(room: &mut [u8], place: &mut Place) -> f64 {
+    let len = word(room, place);
+    if let Token::Is(x) = text_f64::read_float(shown(room, len)) {
+        return x;
     }
-    match text_f64::read_float(shown(token, here.len)) {
-        Token::Is(x) => LevelF64 { x, c: here },
-        Token::Not => LevelF64 {
-            x: 0.0,
-            c: cursor::faulty(here, answering::NUMBER),
-        },
-    }
+    cursor::faulty(place, answering::NUMBER);
+    0.0
 }
 
 fn store_count(cells: &mut [usize], i: usize, n: usize) {
@@ -136,155 +109,96 @@ fn store_f64(cells: &mut [f64], i: usize, x: f64) {
 }
 
 // n counts; those beyond the cells are read and not kept.
-pub fn counts(
-    input: &mut [u8],
-    token: &mut [u8],
-    n: usize,
-    cells: &mut [usize],
-    c: Cursor,
-) -> Cursor {
-    let mut here = c;
+pub fn counts(room: &mut [u8], place: &mut Place, n: usize, cells: &mut [usize]) {
     let mut i = 0;
     while i < n {
-        let next = read_count(input, token, here);
-        let after = next.c;
-        here = after;
-        if here.fault != 0 {
+        let count = read_count(room, place);
+        if place[FAULT] != 0 {
             break;
         }
-        store_count(cells, i, next.n);
+        store_count(cells, i, count);
         i += 1;
     }
-    here
 }
 
-pub fn levels(
-    input: &mut [u8],
-    token: &mut [u8],
-    n: usize,
-    cells: &mut [i64],
-    c: Cursor,
-) -> Cursor {
-    let mut here = c;
+fn levels(room: &mut [u8], place: &mut Place, n: usize, cells: &mut [i64]) {
     let mut i = 0;
     while i < n {
-        let next = read_level(input, token, here);
-        let after = next.c;
-        here = after;
-        if here.fault != 0 {
+        let z = read_level(room, place);
+        if place[FAULT] != 0 {
             break;
         }
-        store(cells, i, next.z);
+        store(cells, i, z);
         i += 1;
     }
-    here
 }
 
-pub fn levels_f64(
-    input: &mut [u8],
-    token: &mut [u8],
-    n: usize,
-    cells: &mut [f64],
-    c: Cursor,
-) -> Cursor {
-    let mut here = c;
+fn levels_f64(room: &mut [u8], place: &mut Place, n: usize, cells: &mut [f64]) {
     let mut i = 0;
     while i < n {
-        let next = read_level_f64(input, token, here);
-        let after = next.c;
-        here = after;
-        if here.fault != 0 {
+        let x = read_level_f64(room, place);
+        if place[FAULT] != 0 {
             break;
         }
-        store_f64(cells, i, next.x);
+        store_f64(cells, i, x);
         i += 1;
     }
-    here
 }
 
 // A list: how many, and the levels.
-pub fn list(input: &mut [u8], token: &mut [u8], cells: &mut [i64], c: Cursor) -> Count {
-    let n = read_count(input, token, c);
-    let after = n.c;
-    let here = levels(input, token, n.n, cells, after);
-    Count { n: n.n, c: here }
+pub fn list(room: &mut [u8], place: &mut Place, cells: &mut [i64]) -> usize {
+    let n = read_count(room, place);
+    levels(room, place, n, cells);
+    n
 }
 
 // A list where the request has one here.
-pub fn list_if(
-    asked: bool,
-    input: &mut [u8],
-    token: &mut [u8],
-    cells: &mut [i64],
-    c: Cursor,
-) -> Count {
+pub fn list_if(asked: bool, room: &mut [u8], place: &mut Place, cells: &mut [i64]) -> usize {
     if asked {
-        return list(input, token, cells, c);
+        return list(room, place, cells);
     }
-    Count { n: 0, c }
+    0
 }
 
-pub fn list_f64(input: &mut [u8], token: &mut [u8], cells: &mut [f64], c: Cursor) -> Count {
-    let n = read_count(input, token, c);
-    let after = n.c;
-    let here = levels_f64(input, token, n.n, cells, after);
-    Count { n: n.n, c: here }
+pub fn list_f64(room: &mut [u8], place: &mut Place, cells: &mut [f64]) -> usize {
+    let n = read_count(room, place);
+    levels_f64(room, place, n, cells);
+    n
 }
 
 // Counts in front of which their number stands: the lengths of a grid, the sides of a kernel.
-pub fn lengths(input: &mut [u8], token: &mut [u8], cells: &mut [usize], c: Cursor) -> Count {
-    let n = read_count(input, token, c);
-    let after = n.c;
-    let here = counts(input, token, n.n, cells, after);
-    Count { n: n.n, c: here }
+pub fn lengths(room: &mut [u8], place: &mut Place, cells: &mut [usize]) -> usize {
+    let n = read_count(room, place);
+    counts(room, place, n, cells);
+    n
 }
 
 // Sides where the request has them here.
-pub fn lengths_if(
-    asked: bool,
-    input: &mut [u8],
-    token: &mut [u8],
-    cells: &mut [usize],
-    c: Cursor,
-) -> Count {
+pub fn lengths_if(asked: bool, room: &mut [u8], place: &mut Place, cells: &mut [usize]) -> usize {
     if asked {
-        return lengths(input, token, cells, c);
+        return lengths(room, place, cells);
     }
-    Count { n: 0, c }
+    0
 }
 
 pub fn read_grid(
-    input: &mut [u8],
-    token: &mut [u8],
+    room: &mut [u8],
+    place: &mut Place,
     shape: &mut [usize],
     cells: &mut [i64],
-    c: Cursor,
 ) -> Grid {
-    let axes = lengths(input, token, shape, c);
-    let after = axes.c;
-    let n = list(input, token, cells, after);
-    let end = n.c;
-    Grid {
-        axes: axes.n,
-        cells: n.n,
-        c: end,
-    }
+    let axes = lengths(room, place, shape);
+    let n = list(room, place, cells);
+    Grid { axes, cells: n }
 }
 
 pub fn read_grid_f64(
-    input: &mut [u8],
-    token: &mut [u8],
+    room: &mut [u8],
+    place: &mut Place,
     shape: &mut [usize],
     cells: &mut [f64],
-    c: Cursor,
 ) -> Grid {
-    let axes = lengths(input, token, shape, c);
-    let after = axes.c;
-    let n = list_f64(input, token, cells, after);
-    let end = n.c;
-    Grid {
-        axes: axes.n,
-        cells: n.n,
-        c: end,
-    }
+    let axes = lengths(room, place, shape);
+    let n = list_f64(room, place, cells);
+    Grid { axes, cells: n }
 }

@@ -7,50 +7,25 @@ use Rattle.ndimage.proofs.main.Statement.{statement}
 use Rattle.ndimage.proofs.main.Tie as tie
 
 abbrev Inv-loop : tie.InvT-loop
-Inv-loop input₀ token₀ data₀ out₀ c₀ turns₀ input token «data» out c turns =
-    (length input ≡ 65536) × (length token ≡ 64) × (length «data» ≡ 8193) × (length out ≡ 32769)
+Inv-loop room₀ place₀ data₀ out₀ turns₀ room place «data» out turns = (length room ≡ 65600) × (length «data» ≡ 8193) × (length out ≡ 32769)
 
 abbrev μ-loop : tie.MeasureT-loop
-μ-loop input₀ token₀ data₀ out₀ c₀ turns₀ input token «data» out c turns = turns
-
-start-requires : tie.Need-start-requires Inv-loop μ-loop
-start-requires c κs = search needs
+μ-loop room₀ place₀ data₀ out₀ turns₀ room place «data» out turns = turns
 
 loop-holds : tie.Need-loop-holds Inv-loop μ-loop
 loop-holds c = search needs
 
-slice-aggregate-begin : tie.Need-slice-aggregate-begin Inv-loop μ-loop
-slice-aggregate-begin c = search needs
+slice-aggregate-serve : tie.Need-slice-aggregate-serve Inv-loop μ-loop
+slice-aggregate-serve c = search needs
 
-slice-aggregate-begin-2 : tie.Need-slice-aggregate-begin-2 Inv-loop μ-loop
-slice-aggregate-begin-2 c = search needs
+slice-aggregate-serve-2 : tie.Need-slice-aggregate-serve-2 Inv-loop μ-loop
+slice-aggregate-serve-2 c = search needs
 
-line-from-requires : tie.Need-line-from-requires Inv-loop μ-loop
-line-from-requires c κs = search needs
+slice-aggregate-serve-3 : tie.Need-slice-aggregate-serve-3 Inv-loop μ-loop
+slice-aggregate-serve-3 c = search needs
 
-begin-requires : tie.Need-begin-requires Inv-loop μ-loop
-begin-requires c κs = search needs
-
-slice-aggregate-answer : tie.Need-slice-aggregate-answer Inv-loop μ-loop
-slice-aggregate-answer c = search needs
-
-slice-aggregate-answer-2 : tie.Need-slice-aggregate-answer-2 Inv-loop μ-loop
-slice-aggregate-answer-2 c = search needs
-
-slice-aggregate-answer-3 : tie.Need-slice-aggregate-answer-3 Inv-loop μ-loop
-slice-aggregate-answer-3 c = search needs
-
-slice-aggregate-answer-4 : tie.Need-slice-aggregate-answer-4 Inv-loop μ-loop
-slice-aggregate-answer-4 c = search needs
-
-answer-requires : tie.Need-answer-requires Inv-loop μ-loop
-answer-requires c κs = search needs
-
-slice-aggregate-report : tie.Need-slice-aggregate-report Inv-loop μ-loop
-slice-aggregate-report c = search needs
-
-report-requires : tie.Need-report-requires Inv-loop μ-loop
-report-requires c κs = search needs
+serve-requires : tie.Need-serve-requires Inv-loop μ-loop
+serve-requires c κs = search needs
 
 over-requires : tie.Need-over-requires Inv-loop μ-loop
 over-requires c κs = search needs
@@ -76,19 +51,11 @@ main-spec =
     (tie.spec
     Inv-loop
     μ-loop
-    start-requires
     loop-holds
-    slice-aggregate-begin
-    slice-aggregate-begin-2
-    line-from-requires
-    begin-requires
-    slice-aggregate-answer
-    slice-aggregate-answer-2
-    slice-aggregate-answer-3
-    slice-aggregate-answer-4
-    answer-requires
-    slice-aggregate-report
-    report-requires
+    slice-aggregate-serve
+    slice-aggregate-serve-2
+    slice-aggregate-serve-3
+    serve-requires
     over-requires
     sub-turns
     loop-less

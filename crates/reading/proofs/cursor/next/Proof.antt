@@ -7,28 +7,31 @@ use Rattle.reading.proofs.cursor.next.Statement.{statement}
 use Rattle.reading.proofs.cursor.next.Tie as tie
 
 abbrev Inv-loop : tie.InvT-loop
-Inv-loop input₀ token₀ here₀ turns₀ input token here turns = (length input ≡ length input₀) × (length token ≡ length token₀)
+Inv-loop room₀ place₀ turns₀ room place turns = (length room ≡ length room₀)
 
 abbrev μ-loop : tie.MeasureT-loop
-μ-loop input₀ token₀ here₀ turns₀ input token here turns = turns
+μ-loop room₀ place₀ turns₀ room place turns = turns
 
-open-requires : tie.Need-open-requires Inv-loop μ-loop
-open-requires c κs = search needs
+element-write-place : tie.Need-element-write-place Inv-loop μ-loop
+element-write-place c = search needs
 
-moved-requires : tie.Need-moved-requires Inv-loop μ-loop
-moved-requires c κs = search needs
+element-copy-out-if1 : tie.Need-element-copy-out-if1 Inv-loop μ-loop
+element-copy-out-if1 c = search needs
 
 returns : tie.Need-returns Inv-loop μ-loop
 returns c = search needs
 
-moved-requires-2 : tie.Need-moved-requires-2 Inv-loop μ-loop
-moved-requires-2 c κs = search needs
+element-write-place-2 : tie.Need-element-write-place-2 Inv-loop μ-loop
+element-write-place-2 c = search needs
 
 loop-holds : tie.Need-loop-holds Inv-loop μ-loop
 loop-holds c = search needs
 
 turn-requires : tie.Need-turn-requires Inv-loop μ-loop
 turn-requires c κs = search needs
+
+element-copy-out-if2 : tie.Need-element-copy-out-if2 Inv-loop μ-loop
+element-copy-out-if2 c = search needs
 
 sub-turns : tie.Need-sub-turns Inv-loop μ-loop
 sub-turns c = search needs
@@ -42,17 +45,11 @@ loop-again c = search needs
 same-length : tie.Need-same-length Inv-loop μ-loop
 same-length c = search needs
 
-same-length-2 : tie.Need-same-length-2 Inv-loop μ-loop
-same-length-2 c = search needs
-
 returns-2 : tie.Need-returns-2 Inv-loop μ-loop
 returns-2 c = search needs
 
-same-length-3 : tie.Need-same-length-3 Inv-loop μ-loop
-same-length-3 c = search needs
-
-same-length-4 : tie.Need-same-length-4 Inv-loop μ-loop
-same-length-4 c = search needs
+same-length-2 : tie.Need-same-length-2 Inv-loop μ-loop
+same-length-2 c = search needs
 
 returns-3 : tie.Need-returns-3 Inv-loop μ-loop
 returns-3 c = search needs
@@ -63,18 +60,17 @@ next-spec =
     (tie.spec
     Inv-loop
     μ-loop
-    open-requires
-    moved-requires
+    element-write-place
+    element-copy-out-if1
     returns
-    moved-requires-2
+    element-write-place-2
     loop-holds
     turn-requires
+    element-copy-out-if2
     sub-turns
     loop-less
     loop-again
     same-length
-    same-length-2
     returns-2
-    same-length-3
-    same-length-4
+    same-length-2
     returns-3)

@@ -7,22 +7,22 @@ use Rattle.reading.proofs.cursor.skip.Statement.{statement}
 use Rattle.reading.proofs.cursor.skip.Tie as tie
 
 abbrev Inv-loop : tie.InvT-loop
-Inv-loop input₀ none₀ here₀ turns₀ input none here turns = (length input ≡ length input₀) × (length none ≡ 1)
+Inv-loop room₀ place₀ turns₀ room place turns = (length room ≡ length room₀)
 
 abbrev μ-loop : tie.MeasureT-loop
-μ-loop input₀ none₀ here₀ turns₀ input none here turns = turns
+μ-loop room₀ place₀ turns₀ room place turns = turns
 
 loop-holds : tie.Need-loop-holds Inv-loop μ-loop
 loop-holds c = search needs
 
-open-requires : tie.Need-open-requires Inv-loop μ-loop
-open-requires c κs = search needs
+element-copy-out-if1 : tie.Need-element-copy-out-if1 Inv-loop μ-loop
+element-copy-out-if1 c = search needs
 
-slice-aggregate-next : tie.Need-slice-aggregate-next Inv-loop μ-loop
-slice-aggregate-next c = search needs
+advance-requires : tie.Need-advance-requires Inv-loop μ-loop
+advance-requires c κs = search needs
 
-next-requires : tie.Need-next-requires Inv-loop μ-loop
-next-requires c κs = search needs
+element-write-place : tie.Need-element-write-place Inv-loop μ-loop
+element-write-place c = search needs
 
 sub-turns : tie.Need-sub-turns Inv-loop μ-loop
 sub-turns c = search needs
@@ -52,9 +52,9 @@ skip-spec =
     Inv-loop
     μ-loop
     loop-holds
-    open-requires
-    slice-aggregate-next
-    next-requires
+    element-copy-out-if1
+    advance-requires
+    element-write-place
     sub-turns
     loop-less
     loop-again

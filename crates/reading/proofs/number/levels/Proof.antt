@@ -8,16 +8,19 @@ use Rattle.reading.proofs.number.levels.Statement.{statement}
 use Rattle.reading.proofs.number.levels.Tie as tie
 
 abbrev Inv-loop : tie.InvT-loop
-Inv-loop input₀ token₀ n cells₀ here₀ i₀ input token cells here i = (length input ≡ length input₀) × (length token ≡ length token₀) × (length cells ≡ length cells₀)
+Inv-loop room₀ place₀ n cells₀ i₀ room place cells i = (length room ≡ length room₀) × (length cells ≡ length cells₀)
 
 abbrev μ-loop : tie.MeasureT-loop
-μ-loop input₀ token₀ n cells₀ here₀ i₀ input token cells here i = n - i
+μ-loop room₀ place₀ n cells₀ i₀ room place cells i = n - i
 
 loop-holds : tie.Need-loop-holds Inv-loop μ-loop
 loop-holds c = search needs
 
 read-level-requires : tie.Need-read-level-requires Inv-loop μ-loop
 read-level-requires c κs = search needs
+
+element-copy-out-if1 : tie.Need-element-copy-out-if1 Inv-loop μ-loop
+element-copy-out-if1 c = search needs
 
 store-requires : tie.Need-store-requires Inv-loop μ-loop
 store-requires c κs = search needs
@@ -37,20 +40,14 @@ same-length c = search needs
 same-length-2 : tie.Need-same-length-2 Inv-loop μ-loop
 same-length-2 c = search needs
 
-same-length-3 : tie.Need-same-length-3 Inv-loop μ-loop
-same-length-3 c = search needs
-
 returns : tie.Need-returns Inv-loop μ-loop
 returns c = search needs
 
+same-length-3 : tie.Need-same-length-3 Inv-loop μ-loop
+same-length-3 c = search needs
+
 same-length-4 : tie.Need-same-length-4 Inv-loop μ-loop
 same-length-4 c = search needs
-
-same-length-5 : tie.Need-same-length-5 Inv-loop μ-loop
-same-length-5 c = search needs
-
-same-length-6 : tie.Need-same-length-6 Inv-loop μ-loop
-same-length-6 c = search needs
 
 returns-2 : tie.Need-returns-2 Inv-loop μ-loop
 returns-2 c = search needs
@@ -63,15 +60,14 @@ levels-spec =
     μ-loop
     loop-holds
     read-level-requires
+    element-copy-out-if1
     store-requires
     add-i
     loop-less
     loop-again
     same-length
     same-length-2
-    same-length-3
     returns
+    same-length-3
     same-length-4
-    same-length-5
-    same-length-6
     returns-2)
