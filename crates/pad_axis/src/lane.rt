@@ -89,10 +89,10 @@ fn level_of(statistic: Statistic, line: &[i64]) -> i64
     ensures { λ r. ⌜ r ≡ statisticOf statistic (now (line .entry)) ⌝ }
 {
     match statistic {
-        Statistic::Maximum => statistics::maximum(line),
-        Statistic::Mean => statistics::mean(line),
-        Statistic::Median => statistics::median(line),
-        Statistic::Minimum => statistics::minimum(line),
+        Statistic::Maximum => line_extremes::maximum(line),
+        Statistic::Mean => line_mean::mean(line),
+        Statistic::Median => line_median::median(line),
+        Statistic::Minimum => line_extremes::minimum(line),
     }
 }
 
