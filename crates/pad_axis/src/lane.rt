@@ -109,7 +109,7 @@ fn level_by(
     requires { ⌜ (laneInside (length (now line)) s l (length (now grid)) ≡ true) × (left + n ≤ length (now line)) ⌝ }
     ensures { λ r. ⌜ r ≡ statisticOf statistic (take n (drop left (lane (pos 0) (length (now (line .entry))) s l (now (grid .entry))))) ⌝ }
 {
-    lanes::read_lane(grid, s, l, line);
+    lane_cells::read_lane(grid, s, l, line);
     let e = left + n;
     level_of(statistic, &line[left..e])
 }
