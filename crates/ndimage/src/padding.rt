@@ -2,7 +2,7 @@
 use crate::filter::answered;
 use crate::filter::lent;
 use border::PadMode;
-use pad_judge::Pair;
+use pad_levels::Pair;
 use reading::cursor;
 use reading::cursor::Cursor;
 use reading::mode;
