@@ -54,7 +54,7 @@ fn filter_lane(
     pad_line::pad_lane(data, stride, lane, n, mode, left, right, line);
     let total = left + n + right;
     filter_line(filter, weights, left + right + 1, &line[..total], swept);
-    lanes::write_lane(swept, stride, lane, out);
+    lane_cells::write_lane(swept, stride, lane, out);
 }
 
 // As filter_lane, on every lane of the axis. The line and swept are buffers, of 1,088 cells and as long as the axis.

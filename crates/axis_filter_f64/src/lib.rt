@@ -33,7 +33,7 @@ fn correlate_lane(
     pad_line_f64::pad_lane_f64(data, stride, lane, n, mode, left, right, line);
     let total = left + n + right;
     correlate_line_f64::correlate_line_f64(weights, class, &line[..total], swept);
-    lanes::write_lane_f64(swept, stride, lane, out);
+    lane_cells_f64::write_lane_f64(swept, stride, lane, out);
 }
 
 // As correlate_lane, on every lane of the axis. The line and swept are buffers, of 1,088 cells and as long as the axis.

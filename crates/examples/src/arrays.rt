@@ -65,10 +65,10 @@ pub fn lane_examples() {
     line(down.count);
     let mut grid = [1i64, 2, 3, 4, 5, 6];
     let mut column = [0i64; 2];
-    lanes::read_lane(&grid, 3, 1, &mut column);
+    lane_cells::read_lane(&grid, 3, 1, &mut column);
     levels(&column);
-    lanes::read_lane(&grid, 3, 3, &mut column);
+    lane_cells::read_lane(&grid, 3, 3, &mut column);
     levels(&column);
-    lanes::write_lane(&[7, 8], 3, 1, &mut grid);
+    lane_cells::write_lane(&[7, 8], 3, 1, &mut grid);
     levels(&grid);
 }

@@ -1,22 +1,22 @@
-// The examples of `statistics`.
+// The examples of `line_extremes`, `line_mean` and `line_median`.
 use print::levels;
 
 pub fn extremes() {
-    levels(&[statistics::minimum(&[4, 2, 7, 1])]);
-    levels(&[statistics::minimum(&[])]);
-    levels(&[statistics::maximum(&[4, 2, 7, 1])]);
-    levels(&[statistics::maximum(&[])]);
+    levels(&[line_extremes::minimum(&[4, 2, 7, 1])]);
+    levels(&[line_extremes::minimum(&[])]);
+    levels(&[line_extremes::maximum(&[4, 2, 7, 1])]);
+    levels(&[line_extremes::maximum(&[])]);
 }
 
 pub fn means() {
-    levels(&[statistics::mean(&[-1, -2])]);
-    levels(&[statistics::mean(&[])]);
-    levels(&[statistics::mean(&[2147483648])]);
+    levels(&[line_mean::mean(&[-1, -2])]);
+    levels(&[line_mean::mean(&[])]);
+    levels(&[line_mean::mean(&[2147483648])]);
 }
 
 pub fn medians() {
-    levels(&[statistics::median(&[1, 2, 4, 9])]);
-    levels(&[statistics::median(&[-1, -2])]);
-    levels(&[statistics::median(&[])]);
-    levels(&[statistics::median(&[2147483648])]);
+    levels(&[line_median::median(&[1, 2, 4, 9])]);
+    levels(&[line_median::median(&[-1, -2])]);
+    levels(&[line_median::median(&[])]);
+    levels(&[line_median::median(&[2147483648])]);
 }

@@ -1,6 +1,6 @@
 // The examples of `pad`: T1, T10, a square under each statistic, rims that stay, and refused calls, which leave the lent cells.
 use border::PadMode;
-use pad_judge::Pair;
+use pad_levels::Pair;
 use print::levels;
 use print::line;
 

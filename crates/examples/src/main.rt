@@ -17,7 +17,7 @@ fn rows() {
     minlist::rows();
     statistics::rows();
     pad_axis::rows();
-    pad_judge::rows();
+    pad_levels::rows();
     pad_grid::rows();
     pad::rows();
     sweeps::rows();

@@ -21,10 +21,10 @@ use Rattle.array.proofs.Shapes.{count-accepted, length-judged}
 use Rattle.border.specs.declared.PadMode.{PadMode}
 use Rattle.pad_line.specs.Line.{badPad}
 use Rattle.pad_axis.specs.Fill.{rimOf}
-use Rattle.pad_judge.specs.Conditions.{badConstant, badCount, overPad, paddedCount, badPads, badReachOn, badReach, padJudged}
-use Rattle.pad_judge.specs.Pads.{pairOf, leftsOf, rightsOf, paddedShape}
-use Rattle.pad_judge.specs.declared.pads.Pair.{Pair}
-use Rattle.pad_judge.proofs.Pairs.{axis-at, padded-length, padded-short}
+use Rattle.pad_levels.specs.Conditions.{badConstant, badCount, overPad, paddedCount, badPads, badReachOn, badReach, padJudged}
+use Rattle.pad_levels.specs.Pads.{pairOf, leftsOf, rightsOf, paddedShape}
+use Rattle.pad_levels.specs.declared.Pair.{Pair}
+use Rattle.pad_levels.proofs.Pairs.{axis-at, padded-length, padded-short}
 use Rattle.pad_grid.specs.Frame.{Framed, Filling}
 
 -- what each condition of an accepted call says

@@ -12,9 +12,9 @@ use Rattle.numbers.proofs.Tabulate.{length-tabulate, getD-tabulate, tabulate-un
 use Rattle.array.specs.Conditions.{badLevel}
 use Rattle.array.specs.Grid.{cellCount, coordinate}
 use Rattle.border.specs.declared.PadMode.{PadMode}
-use Rattle.pad_judge.specs.Levels.{levelTo, keepsRim}
-use Rattle.pad_judge.specs.Pads.{inMiddle, allFrom, middleFrom}
-use Rattle.pad_judge.proofs.Levels.{level-rest}
+use Rattle.pad_levels.specs.Levels.{levelTo, keepsRim}
+use Rattle.pad_levels.specs.Pads.{inMiddle, allFrom, middleFrom}
+use Rattle.pad_levels.proofs.Levels.{level-rest}
 use Rattle.pad_grid.specs.Frame.{middleSet}
 use Rattle.pad_grid.specs.Filled.{Filled}
 use Rattle.pad.specs.Laid.{laidOver}

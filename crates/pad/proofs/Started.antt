@@ -17,9 +17,9 @@ use Rattle.border.specs.declared.PadMode.{PadMode}
 use Rattle.border.specs.declared.PadMode.the-variants.{Constant, Edge, Maximum, Mean, Median, Minimum, Reflect, Symmetric, Wrap}
 use Rattle.pad_line.specs.Line.{paddedAt}
 use Rattle.pad_line.proofs.Padded.{constant-before, constant-after}
-use Rattle.pad_judge.specs.Levels.{levelTo, ownCells, paddedLevel, paddedGrid, paddedOver}
-use Rattle.pad_judge.specs.Pads.{inMiddle, allFrom, middleFrom, paddedShape}
-use Rattle.pad_judge.proofs.Levels.{level-middle}
+use Rattle.pad_levels.specs.Levels.{levelTo, ownCells, paddedLevel, paddedGrid, paddedOver}
+use Rattle.pad_levels.specs.Pads.{inMiddle, allFrom, middleFrom, paddedShape}
+use Rattle.pad_levels.proofs.Levels.{level-middle}
 use Rattle.pad.specs.Laid.{laidOver, started}
 
 -- a run's last member

@@ -10,8 +10,8 @@ use Rattle.numbers.specs.Lists.{tabulate}
 use Rattle.array.specs.Grid.{cellCount, coordinate}
 use Rattle.border.specs.declared.PadMode.{PadMode}
 use Rattle.border.specs.declared.PadMode.the-variants.{Constant, Edge, Maximum, Mean, Median, Minimum, Reflect, Symmetric, Wrap}
-use Rattle.pad_judge.specs.Levels.{levelTo, keepsRim}
-use Rattle.pad_judge.specs.Pads.{middleFrom}
+use Rattle.pad_levels.specs.Levels.{levelTo, keepsRim}
+use Rattle.pad_levels.specs.Pads.{middleFrom}
 
 unfoldable pub laidOver : PadMode → List ℕ → List ℕ → List ℕ → List ℤ → List ℤ → List ℤ
 laidOver mode ns lefts ps cells held =

@@ -6,13 +6,13 @@ ghost use Rattle.numbers.specs.Lists.{anyOf};
 ghost use Rattle.numbers.specs.Refusal.{refusalOf, Answers};
 ghost use Rattle.array.specs.Conditions.{badLevel};
 ghost use Rattle.array.specs.Grid.{cellCount};
-ghost use Rattle.pad_judge.specs.Conditions.{padJudged};
-ghost use Rattle.pad_judge.specs.Levels.{keepsRim, paddedGrid, paddedOver};
-ghost use Rattle.pad_judge.specs.Pads.{leftsOf, rightsOf};
+ghost use Rattle.pad_levels.specs.Conditions.{padJudged};
+ghost use Rattle.pad_levels.specs.Levels.{keepsRim, paddedGrid, paddedOver};
+ghost use Rattle.pad_levels.specs.Pads.{leftsOf, rightsOf};
 ghost use Rattle.pad_grid.specs.Frame.{Filling};
 ghost use Rattle.pad.specs.Laid.{laidOver, started};
 use border::PadMode;
-use pad_judge::Pair;
+use pad_levels::Pair;
 
 // Whether the rim keeps what was lent: under Constant.
 fn keeps_rim(mode: PadMode) -> bool

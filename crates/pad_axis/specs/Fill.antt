@@ -20,8 +20,8 @@ use Rattle.border.specs.declared.PadMode.{PadMode}
 use Rattle.border.specs.declared.PadMode.the-variants.{Constant, Edge, Maximum, Mean, Median, Minimum, Reflect, Symmetric, Wrap}
 use Rattle.pad_line.specs.Line.{paddedLine, badPad}
 use Rattle.statistics.specs.Statistics.{minimumOf, maximumOf, meanOf, medianOf, answered}
-use Rattle.pad_axis.specs.declared.lane.Statistic.{Statistic}
-use Rattle.pad_axis.specs.declared.lane.Statistic.the-variants as Statistic
+use Rattle.pad_axis.specs.declared.Statistic.{Statistic}
+use Rattle.pad_axis.specs.declared.Statistic.the-variants as Statistic
 
 abbrev pub rimOf : PadMode → List ℤ → Border ℤ
 rimOf (Constant c) s = constant c

@@ -8,8 +8,8 @@ use lib.ListN.{length, getD}
 use Rattle.numbers.specs.Lists.{tabulate}
 use Rattle.numbers.proofs.Tabulate.{getD-tabulate, tabulate-agree}
 use Rattle.array.specs.Grid.{lengthOf}
-use Rattle.pad_judge.specs.Pads.{pairOf, leftsOf, rightsOf, paddedShape}
-use Rattle.pad_judge.specs.declared.pads.Pair.{Pair}
+use Rattle.pad_levels.specs.Pads.{pairOf, leftsOf, rightsOf, paddedShape}
+use Rattle.pad_levels.specs.declared.Pair.{Pair}
 
 abbrev pub leftAt : List Pair → ℕ → ℕ → ℕ
 leftAt pads count a = pairOf pads count a .left

@@ -18,7 +18,7 @@ use Rattle.array.proofs.Places.{length-pos}
 use Rattle.array.proofs.Strides.{outerOf, count-split}
 use Rattle.array.proofs.Shapes.{stride-past}
 use Rattle.lanes.proofs.AlongAxis.{count-lanes}
-use Rattle.pad_judge.specs.Pads.{middleFrom}
+use Rattle.pad_levels.specs.Pads.{middleFrom}
 use Rattle.pad_grid.specs.Frame.{Framed, targetOf, rowLength, rowSet, middleSet}
 use Rattle.pad_grid.proofs.Room.{grid-accepted}
 use Rattle.pad_grid.proofs.Targets.{sourceOf, target-lt, target-middle, source-target, source-lt, target-source}

@@ -20,7 +20,7 @@ use Rattle.border.specs.declared.Along.the-variants.{Nearest, Mirror, Reflect, 
 use Rattle.pad_line.specs.Line.{paddedAt, badAlong, badPad}
 use Rattle.pad_axis.specs.Fill.{rimOf}
 use Rattle.pad_axis.proofs.Rims.{ownOf}
-use Rattle.pad_judge.proofs.Axis.{final-lane}
+use Rattle.pad_levels.proofs.Axis.{final-lane}
 use Rattle.pad_grid.specs.Frame.{Framed, Filling}
 use Rattle.pad_grid.specs.Filled.{Fills}
 use Rattle.pad_grid.specs.Runs.{modeAlong, Runs, InRim, extendedAt, rimSet}

@@ -10,7 +10,7 @@ use lib.Dec.{ltb}
 use lib.ListN.{length, getD}
 use Rattle.array.specs.Grid.{cellCount, lengthOf, strideOf, coordinate}
 use Rattle.array.proofs.Strides.{coordinate-digit}
-use Rattle.pad_judge.specs.Pads.{inMiddle, allFrom}
+use Rattle.pad_levels.specs.Pads.{inMiddle, allFrom}
 use Rattle.pad_grid.specs.Frame.{Framed}
 use Rattle.pad_grid.proofs.Room.{padded-full}
 

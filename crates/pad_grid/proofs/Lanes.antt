@@ -31,11 +31,11 @@ use Rattle.statistics.specs.Statistics.{meanOf, medianOf, unserved}
 use Rattle.statistics.proofs.Served.{sized-served, answered-served}
 use Rattle.pad_axis.specs.Fill.{rimOf, answeredRim, laneServes, filledLane}
 use Rattle.pad_axis.proofs.Rims.{ownOf, length-own}
-use Rattle.pad_judge.specs.Levels.{levelTo}
-use Rattle.pad_judge.specs.Pads.{inMiddle, allFrom, middleFrom}
-use Rattle.pad_judge.proofs.Axis.{middle-ext, final, lane-place, same-coordinates, own-lane, final-lane}
-use Rattle.pad_judge.proofs.Levels.{middle-in, moved-off, all-agree}
-use Rattle.pad_judge.proofs.Sizes.{limit, size-level}
+use Rattle.pad_levels.specs.Levels.{levelTo}
+use Rattle.pad_levels.specs.Pads.{inMiddle, allFrom, middleFrom}
+use Rattle.pad_levels.proofs.Axis.{middle-ext, final, lane-place, same-coordinates, own-lane, final-lane}
+use Rattle.pad_levels.proofs.Levels.{middle-in, moved-off, all-agree}
+use Rattle.pad_levels.proofs.Sizes.{limit, size-level}
 use Rattle.pad_grid.specs.Frame.{Framed, Filling}
 use Rattle.pad_grid.specs.Filled.{Filled}
 use Rattle.pad_grid.proofs.Room.{grid-accepted, padded-full, frame, axis-length, axis-stride}

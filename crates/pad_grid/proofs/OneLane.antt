@@ -12,7 +12,7 @@ use Rattle.array.specs.Grid.{cellCount, lengthOf, strideOf, coordinate}
 use Rattle.lanes.specs.Lanes.{laneBase, laneInside}
 use Rattle.lanes.proofs.AlongAxis.{lanes-within}
 use Rattle.lanes.proofs.Cells.{lane-inside}
-use Rattle.pad_judge.specs.Pads.{middleFrom}
+use Rattle.pad_levels.specs.Pads.{middleFrom}
 use Rattle.pad_grid.specs.Frame.{Framed}
 use Rattle.pad_grid.proofs.Room.{padded-full}
 

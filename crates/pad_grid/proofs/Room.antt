@@ -8,7 +8,7 @@ use Rattle.array.specs.Grid.{lengthOf, strideOf}
 use Rattle.array.proofs.Places.{Positive, length-pos}
 use Rattle.array.proofs.Shapes.{Accepted, shape-accepted}
 use Rattle.array.proofs.Strides.{stride-pos}
-use Rattle.pad_judge.proofs.Axis.{Frame}
+use Rattle.pad_levels.proofs.Axis.{Frame}
 use Rattle.pad_grid.specs.Frame.{Framed}
 
 pub lengths-positive : (ps : List ℕ) → ((a : ℕ) → a < length ps → 0 < lengthOf ps a) → Positive ps

@@ -14,7 +14,7 @@ use Rattle.array.specs.Grid.{cellCount, lengthOf, placeOf, coordinate, moved}
 use Rattle.array.proofs.Places.{Within, length-pos, coordinate-within, place-coordinate}
 use Rattle.array.proofs.Strides.{coordinate-digit}
 use Rattle.array.proofs.Shapes.{stride-past}
-use Rattle.pad_judge.proofs.Levels.{moved-at, moved-off}
+use Rattle.pad_levels.proofs.Levels.{moved-at, moved-off}
 use Rattle.pad_grid.specs.Frame.{Framed, targetOf, rowLength}
 use Rattle.pad_grid.proofs.Room.{grid-accepted}
 use Rattle.pad_grid.proofs.Targets.{framedAt, target-place}

@@ -10,8 +10,8 @@ use lib.ListN.{length, getD}
 use Rattle.numbers.proofs.Tests.{and-true}
 use Rattle.array.specs.Grid.{cellCount, lengthOf, placeOf, coordinate}
 use Rattle.array.proofs.Places.{Within, place-lt, coordinate-place, coordinate-within, place-coordinate, place-ext}
-use Rattle.pad_judge.specs.Pads.{inMiddle, allFrom, middleFrom}
-use Rattle.pad_judge.proofs.Levels.{in-middle, middle-in}
+use Rattle.pad_levels.specs.Pads.{inMiddle, allFrom, middleFrom}
+use Rattle.pad_levels.proofs.Levels.{in-middle, middle-in}
 use Rattle.pad_grid.specs.Frame.{Framed, targetOf}
 use Rattle.pad_grid.proofs.Room.{grid-accepted, padded-full}
 

@@ -11,8 +11,8 @@ use Rattle.numbers.specs.Lists.{anyOf}
 use Rattle.array.specs.Conditions.{badLevel}
 use Rattle.array.specs.Grid.{cellCount, coordinate}
 use Rattle.border.specs.declared.PadMode.{PadMode}
-use Rattle.pad_judge.specs.Levels.{levelTo}
-use Rattle.pad_judge.specs.Pads.{middleFrom}
+use Rattle.pad_levels.specs.Levels.{levelTo}
+use Rattle.pad_levels.specs.Pads.{middleFrom}
 
 pub record Filled (mode : PadMode) (ns lefts ps : List ℕ) (cells : List ℤ) (d : ℕ) (out : List ℤ) : Type 0 where
   pub levels : anyOf badLevel cells ≡ false

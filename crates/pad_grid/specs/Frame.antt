@@ -18,8 +18,8 @@ use Rattle.array.specs.Grid.{cellCount, lengthOf, placeOf, coordinate, levelAt}
 use Rattle.border.specs.declared.PadMode.{PadMode}
 use Rattle.pad_line.specs.Line.{badPad}
 use Rattle.pad_axis.specs.Fill.{rimOf}
-use Rattle.pad_judge.specs.Conditions.{badConstant}
-use Rattle.pad_judge.specs.Pads.{middleFrom}
+use Rattle.pad_levels.specs.Conditions.{badConstant}
+use Rattle.pad_levels.specs.Pads.{middleFrom}
 
 pub record Framed (ns lefts ps : List ℕ) : Type 0 where
   pub shape : badShape ns ≡ false

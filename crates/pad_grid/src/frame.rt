@@ -4,9 +4,9 @@ ghost use mathlib.Core.Bool.{false};
 ghost use lib.ListN.{length, take};
 ghost use Rattle.numbers.specs.Lists.{anyOf};
 ghost use Rattle.array.specs.Conditions.{badShape};
-ghost use Rattle.pad_judge.specs.Conditions.{badCount, overPad};
-ghost use Rattle.pad_judge.specs.Pads.{leftsOf, rightsOf, paddedShape};
-use pad_judge::Pair;
+ghost use Rattle.pad_levels.specs.Conditions.{badCount, overPad};
+ghost use Rattle.pad_levels.specs.Pads.{leftsOf, rightsOf, paddedShape};
+use pad_levels::Pair;
 
 // Sets the pad before each axis and the padded length of each axis of an accepted shape whose pads are at most 64.
 //
@@ -27,7 +27,7 @@ pub fn set_frame(
 {
     let mut a = 0;
     while a < shape.len() {
-        let p = pad_judge::pair_of(pads, count, a);
+        let p = pad_levels::pair_of(pads, count, a);
         lefts[a] = p.left;
         padded[a] = p.left + shapes::len_of(shape, a) + p.right;
         a += 1;

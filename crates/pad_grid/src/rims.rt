@@ -7,7 +7,7 @@ ghost use lib.ListN.{length, getD};
 ghost use Rattle.array.specs.Grid.{cellCount, lengthOf, strideOf, coordinate};
 ghost use Rattle.lanes.specs.Lanes.{laneBase};
 ghost use Rattle.pad_axis.specs.Fill.{filledLane};
-ghost use Rattle.pad_judge.specs.Pads.{inMiddle, middleFrom};
+ghost use Rattle.pad_levels.specs.Pads.{inMiddle, middleFrom};
 ghost use Rattle.pad_grid.specs.Frame.{Framed, Filling};
 ghost use Rattle.pad_grid.specs.Filled.{Fills};
 use crate::runs::copy_axes;
@@ -66,7 +66,7 @@ fn fill_lane(
     if !middle_from(shape, lefts, padded, axis + 1, first) {
         return;
     }
-    pad_axis::fill_lane(
+    lane_rims::fill_lane(
         mode,
         p,
         s,

@@ -1,13 +1,91 @@
-// The pads of a grid and the conditions of padding: what `pad` and `pad_to` refuse, judged before anything is stored.
-ghost use Rattle.pad_judge.specs.Rows.{PadRows};
+// Conditions 9 and 11 on the pads of a grid, and the judge of `pad` and `pad_to`: what both refuse, before anything is stored. Condition 10 is `padded_count`'s.
+ghost use mathlib.Core.Path.{_≡_};
+ghost use Rattle.numbers.specs.Refusal.{refusalOf};
+ghost use Rattle.pad_levels.specs.Conditions.{badConstant, badReachOn, badReach, padJudged};
+use pad_levels::Pair;
+use pad_levels::pair_of;
 
-mod pads;
+// Condition 9: whether mode carries a level that condition 3 would refuse.
+fn bad_constant(mode: border::PadMode) -> bool
+    ensures { λ r. ⌜ r ≡ badConstant mode ⌝ }
+{
+    match mode {
+        border::PadMode::Constant(t) => conditions::bad_level(t),
+        border::PadMode::Edge => false,
+        border::PadMode::Maximum => false,
+        border::PadMode::Mean => false,
+        border::PadMode::Median => false,
+        border::PadMode::Minimum => false,
+        border::PadMode::Reflect => false,
+        border::PadMode::Symmetric => false,
+        border::PadMode::Wrap => false,
+    }
+}
 
-pub use pads::Pair;
-pub use pads::judge;
-pub use pads::pair_of;
+// Condition 11 of an axis.
+fn bad_reach_on(
+    mode: border::PadMode,
+    shape: &[usize],
+    pads: [Pair; 3],
+    count: usize,
+    axis: usize,
+) -> bool
+    ensures { λ r. ⌜ r ≡ badReachOn mode (now (shape .entry)) pads count axis ⌝ }
+{
+    let n = shapes::len_of(shape, axis);
+    let p = pair_of(pads, count, axis);
+    if pad_axis::bad_pad(mode, n, p.left) {
+        return true;
+    }
+    pad_axis::bad_pad(mode, n, p.right)
+}
 
-// Worked rows of this crate's definitions: T1, T10, corners under each mode, rims that stay, and refusals at their limits. Refuses nothing.
-pub fn rows()
-    ensures { λ _. ⌜ PadRows ⌝ }
-{}
+// Condition 11: on some axis a pad that the mode cannot fill.
+fn bad_reach(mode: border::PadMode, shape: &[usize], pads: [Pair; 3], count: usize) -> bool
+    ensures { λ r. ⌜ r ≡ badReach mode (now (shape .entry)) pads count ⌝ }
+{
+    let mut a = 0;
+    while a < shape.len() {
+        if bad_reach_on(mode, shape, pads, count, a) {
+            return true;
+        }
+        a += 1;
+    }
+    false
+}
+
+// What `pad` and `pad_to` refuse, in rising order: the number of the first condition that holds, or 0.
+//
+// * `data` - the cells of the grid.
+// * `shape` - the length of each axis.
+// * `pads`, `count` - the pairs of pads, and how many of them count: one for all axes, or one for each.
+// * `mode` - the padding mode.
+// * `out` - the length of the lent output.
+//
+// Refuses: 1, 2, 3, 9, 10, 11. 12 never occurs: no sum of accepted levels leaves 64 bits.
+// Three cells with a pad of 3 under Reflect give 11.
+pub fn judge(
+    data: &[i64],
+    shape: &[usize],
+    pads: [Pair; 3],
+    count: usize,
+    mode: border::PadMode,
+    out: usize,
+) -> u8
+    ensures { λ r. ⌜ r ≡ refusalOf (padJudged mode (now (shape .entry)) pads count (now («data» .entry)) out) ⌝ }
+{
+    let refusal = conditions::judge_grid(data, shape, data.len(), data.len());
+    if refusal != 0 {
+        return refusal;
+    }
+    if bad_constant(mode) {
+        return numbers::CONSTANT;
+    }
+    if padded_count::bad_pads(shape, pads, count, out) {
+        return numbers::PADS;
+    }
+    if bad_reach(mode, shape, pads, count) {
+        return numbers::REACH;
+    }
+    numbers::ACCEPTED
+}

@@ -104,7 +104,7 @@ pub fn pad_lane(
         return;
     }
     let e = left + n;
-    lanes::read_lane(grid, stride, lane, &mut line[left..e]);
+    lane_cells::read_lane(grid, stride, lane, &mut line[left..e]);
     extension::extend(mode, left, n, right, line);
 }
 

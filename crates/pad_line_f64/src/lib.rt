@@ -49,7 +49,7 @@ pub fn pad_lane_f64(
         return;
     }
     let e = left + n;
-    lanes::read_lane_f64(grid, stride, lane, &mut line[left..e]);
+    lane_cells_f64::read_lane_f64(grid, stride, lane, &mut line[left..e]);
     extension::extend_f64(mode, left, n, right, line);
 }
 

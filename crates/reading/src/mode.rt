@@ -5,7 +5,7 @@ use crate::number;
 use border::BorderMode;
 use border::BorderModeF64;
 use border::PadMode;
-use pad_judge::Pair;
+use pad_levels::Pair;
 
 // Three pairs of pads, and how many were given.
 pub struct Pads {

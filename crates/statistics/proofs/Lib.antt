@@ -1,6 +1,5 @@
 -- Laws that belong to no one function, leaves first.
 pub mod Computed
-pub mod Extremes
 pub mod Running
 pub mod Sorting
 pub mod Rank

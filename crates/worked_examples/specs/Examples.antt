@@ -20,9 +20,9 @@ use Rattle.border.specs.Border.{Border, constant, along}
 use Rattle.border.specs.declared.Along.the-variants as borders
 use Rattle.border.specs.declared.PadMode.{PadMode}
 use Rattle.border.specs.declared.PadMode.the-variants as modes
-use Rattle.pad_judge.specs.Levels.{paddedGrid}
-use Rattle.pad_judge.specs.Pads.{leftsOf, rightsOf}
-use Rattle.pad_judge.specs.declared.pads.Pair.{Pair}
+use Rattle.pad_levels.specs.Levels.{paddedGrid}
+use Rattle.pad_levels.specs.Pads.{leftsOf, rightsOf}
+use Rattle.pad_levels.specs.declared.Pair.{Pair}
 use Rattle.sweeps.specs.Call.{Call}
 use Rattle.sweeps.specs.Run.{answerOf, run}
 use Rattle.correlation.specs.Correlated.{correlate1dZ, convolve1dZ}

@@ -5,7 +5,7 @@ use Rattle.numbers.specs.Lists.{tabulate}
 use Rattle.array.specs.Grid.{placeOf, coordinate}
 use Rattle.border.specs.Border.{cellFor, extendedLane}
 use Rattle.pad_line.specs.Line.{paddedAt}
-use Rattle.pad_judge.specs.Levels.{levelTo}
+use Rattle.pad_levels.specs.Levels.{levelTo}
 use Rattle.pad.specs.Laid.{laidOver}
 use Rattle.pad.proofs.rows.Statement.{statement}
 use Rattle.pad.proofs.rows.Tie as tie

@@ -16,7 +16,7 @@ use Rattle.origin.specs.Origin.{badOrigin}
 use Rattle.pad_line.specs.Line.{paddedAt, paddedLine}
 use Rattle.statistics.specs.Sorting.{inserted, sorted}
 use Rattle.statistics.specs.Statistics.{medianOf}
-use Rattle.pad_judge.specs.Levels.{levelTo, paddedGrid}
+use Rattle.pad_levels.specs.Levels.{levelTo, paddedGrid}
 use Rattle.sweeps.specs.Call.{firstIn, lastIn, numberOf, gridNumber}
 use Rattle.sweeps.specs.Run.{answerOf, after, run}
 use Rattle.correlation.specs.Weighed.{summed}

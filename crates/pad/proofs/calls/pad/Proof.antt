@@ -6,9 +6,9 @@ use Prim.Native.Nat.{ℕ}
 use denote.Ref.{now}
 use Rattle.numbers.specs.Refusal.{refusalOf}
 use Rattle.numbers.proofs.Refusal.{answers-refused, answers-accepted}
-use Rattle.pad_judge.specs.Conditions.{padJudged}
-use Rattle.pad_judge.specs.Levels.{paddedOver}
-use Rattle.pad_judge.specs.Pads.{leftsOf, rightsOf}
+use Rattle.pad_levels.specs.Conditions.{padJudged}
+use Rattle.pad_levels.specs.Levels.{paddedOver}
+use Rattle.pad_levels.specs.Pads.{leftsOf, rightsOf}
 use Rattle.pad.proofs.Accepted.{passed}
 use Rattle.pad.proofs.Started.{over-started}
 use borrow.Author.Needs.{needs}

@@ -9,9 +9,9 @@ use Rattle.numbers.specs.Lists.{tabulate}
 use denote.Ref.{now}
 use Rattle.numbers.proofs.Stored.{Stored, front-none, front-more, front-all}
 use Rattle.array.specs.Grid.{lengthOf}
-use Rattle.pad_judge.specs.Pads.{pairOf}
-use Rattle.pad_judge.specs.declared.pads.Pair.{Pair}
-use Rattle.pad_judge.proofs.Pairs.{pair-asked, pad-limits}
+use Rattle.pad_levels.specs.Pads.{pairOf}
+use Rattle.pad_levels.specs.declared.Pair.{Pair}
+use Rattle.pad_levels.proofs.Pairs.{pair-asked, pad-limits}
 use Rattle.pad_grid.proofs.AxisByAxis.{leftAt, paddedLengthAt, padded-table}
 use borrow.Author.Needs.{needs}
 use Rattle.pad_grid.proofs.frame.set_frame.Statement.{statement}

@@ -7,7 +7,7 @@ use native.Mathlib.Omega.{arith}
 use lib.ListN.{length}
 use denote.Ref.{now}
 use Rattle.array.specs.Grid.{coordinate}
-use Rattle.pad_judge.specs.Pads.{inMiddle, allFrom, middleFrom}
+use Rattle.pad_levels.specs.Pads.{inMiddle, allFrom, middleFrom}
 use Rattle.pad_grid.proofs.InMiddle.{all-stops, all-goes, all-ends}
 use borrow.Author.Needs.{needs}
 use Rattle.pad_grid.proofs.rims.middle_from.Statement.{statement}
