@@ -5,7 +5,7 @@ use mathlib.Core.List.{[], _∷_, map}
 use Rattle.numbers.specs.Rows.{wholes}
 use Rattle.border.specs.declared.Along.the-variants.{Nearest, Mirror, Reflect, Wrap}
 use Rattle.pad_frame.specs.Frame.{targetOf, rowLength, rowSet, middleSet}
-use Rattle.pad_frame.specs.Runs.{readFrom, coordinateSet, rimSet}
+use Rattle.pad_frame.specs.Runs.{readFrom, coordinateSet, rimSet, axisSet}
 
 pub record PadFrameRows : Type 0 where
   -- the rows 1 2 3 / 4 5 6 in a grid of 4 by 5, one row and two columns from its start
@@ -20,3 +20,4 @@ pub record PadFrameRows : Type 0 where
   pub coordinate-set : coordinateSet 2 2 1 0 (wholes (1 ∷ 2 ∷ 3 ∷ 4 ∷ 5 ∷ 6 ∷ 7 ∷ 8 ∷ [])) ≡ wholes (3 ∷ 4 ∷ 3 ∷ 4 ∷ 7 ∷ 8 ∷ 7 ∷ 8 ∷ [])
   pub rim-before : rimSet Wrap 4 2 1 2 0 1 (wholes (9 ∷ 9 ∷ 1 ∷ 2 ∷ 3 ∷ 4 ∷ 9 ∷ 9 ∷ [])) ≡ wholes (3 ∷ 4 ∷ 1 ∷ 2 ∷ 3 ∷ 4 ∷ 9 ∷ 9 ∷ [])
   pub rim-after : rimSet Wrap 4 2 1 2 3 1 (wholes (9 ∷ 9 ∷ 1 ∷ 2 ∷ 3 ∷ 4 ∷ 9 ∷ 9 ∷ [])) ≡ wholes (9 ∷ 9 ∷ 1 ∷ 2 ∷ 3 ∷ 4 ∷ 1 ∷ 2 ∷ [])
+  pub both-rims : axisSet Wrap 4 2 1 2 (wholes (9 ∷ 9 ∷ 1 ∷ 2 ∷ 3 ∷ 4 ∷ 9 ∷ 9 ∷ [])) ≡ wholes (3 ∷ 4 ∷ 1 ∷ 2 ∷ 3 ∷ 4 ∷ 1 ∷ 2 ∷ [])

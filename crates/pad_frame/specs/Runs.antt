@@ -7,6 +7,7 @@
 --   coordinateSet p s from at g      g with each cell of coordinate at as the cell of coordinate from in its lane
 --   extendedAt m p s left n g k      the level at place k, where the own cells of its lane are extended along m
 --   rimSet m p s left n a count g    g with these levels at the count coordinates from a on
+--   axisSet m p s left n g           g with these levels at every place
 use Prim.Native.Nat.{ℕ, _+_, _-_, _*_, _/_, _%_, _≤_, _<_}
 use mathlib.Core.Path.{_≡_}
 use mathlib.Core.Bool.{false, _&&_, cond}
@@ -56,3 +57,6 @@ extendedAt m p s left n g k = paddedAt (pos 0) (along m) left (take n (drop left
 unfoldable pub rimSet : Along → ℕ → ℕ → ℕ → ℕ → ℕ → ℕ → List ℤ → List ℤ
 rimSet m p s left n a count g =
     tabulate (λ k. cond (leb a (k / s % p) && ltb (k / s % p) (a + count)) (extendedAt m p s left n g k) (getD g k (pos 0))) 0 (length g)
+
+unfoldable pub axisSet : Along → ℕ → ℕ → ℕ → ℕ → List ℤ → List ℤ
+axisSet m p s left n g = tabulate (extendedAt m p s left n g) 0 (length g)

@@ -4,12 +4,12 @@
 use mathlib.Core.Path.{_≡_, refl, sym, ap, _∙_}
 use mathlib.Core.Bool.{false}
 use mathlib.Core.List.{List, []}
-use mathlib.Core.Logic.{inl, inr}
 use Prim.Native.Nat.{ℕ, suc, _+_, _-_, _*_, _/_, _%_, _≤_, _<_}
 use native.Mathlib.Nat.{mul-pos, mul-div-cancel, mul-le-mul, le-refl}
 use native.Mathlib.Omega.{arith}
 use lib.IntN.{ℤ, pos}
 use lib.ListN.{length, getD}
+use Rattle.numbers.proofs.Tabulate.{length-tabulate, getD-tabulate}
 use Rattle.array.specs.Grid.{cellCount, lengthOf, strideOf, coordinate}
 use Rattle.array.proofs.Places.{length-pos}
 use Rattle.array.proofs.Strides.{outerOf, outer-pos, count-split}
@@ -23,23 +23,14 @@ use Rattle.pad_axis.proofs.Rims.{ownOf}
 use Rattle.pad_judge.proofs.Axis.{final-lane}
 use Rattle.pad_frame.specs.Frame.{Framed, Filling}
 use Rattle.pad_frame.specs.Filled.{Fills}
-use Rattle.pad_frame.specs.Runs.{modeAlong, Runs, InRim, extendedAt, rimSet}
+use Rattle.pad_frame.specs.Runs.{modeAlong, Runs, extendedAt, axisSet}
 use Rattle.pad_frame.proofs.Room.{grid-accepted, padded-full, frame, axis-length, axis-stride}
-use Rattle.pad_runs.proofs.CopiedRims.{rims-length, rims-filled}
 
 rim-along : (m : Along) (s : List ℤ) → rimOf (modeAlong m) s ≡ along m
 rim-along Nearest s = refl
 rim-along Mirror s = refl
 rim-along Reflect s = refl
 rim-along Wrap s = refl
-
--- ---- the coordinates of the two rims
-module _ (left n p : ℕ) where
-  pub rim-before : (k : ℕ) → 0 ≤ k → k < 0 + left → InRim left n p k
-  rim-before k lo hi = inl (omega arith)
-
-  pub rim-beyond : (k : ℕ) → left + n ≤ k → k < left + n + (p - (left + n)) → InRim left n p k
-  rim-beyond k lo hi = inr (lo, omega arith)
 
 module _ (m : Along) {ns lefts ps : List ℕ} (G : Filling (modeAlong m) ns lefts ps) {a p n s len : ℕ} (h : a < length ns) (e : p ≡ lengthOf ps a) (f : n ≡ lengthOf ns a) (g : s ≡ strideOf ps a)
     (k : len ≡ cellCount ps) where
@@ -77,12 +68,13 @@ module _ (m : Along) {ns lefts ps : List ℕ} (G : Filling (modeAlong m) ns left
       whole = blocks ∙ ap (λ x. x * (p * s)) (sym (ap (λ x. x / (p * s)) blocks ∙ mul-div-cancel (outerOf ps a) block-some))
 
   -- ---- the levels
-  pub axis-copied : (out₀ : List ℤ) {out₁ out₂ : List ℤ} → length out₀ ≡ len → out₁ ≡ rimSet m p s (getD lefts a 0) n 0 (getD lefts a 0) out₀
-      → out₂ ≡ rimSet m p s (getD lefts a 0) n (getD lefts a 0 + n) (p - (getD lefts a 0 + n)) out₁ → Fills (modeAlong m) ns lefts ps a (suc a) out₀ out₂
-  axis-copied out₀ {out₁} {out₂} w e₁ e₂ cells A = record {
+  pub axis-copied : (out₀ : List ℤ) {out : List ℤ} → out ≡ axisSet m p s (getD lefts a 0) n out₀ → length out₀ ≡ len → Fills (modeAlong m) ns lefts ps a (suc a) out₀ out
+  unfolding axisSet
+  axis-copied out₀ {out} c w cells A = record {
     levels = A .levels;
-    count = rims-length axis-runs out₀ w e₁ e₂ ∙ A .count;
-    finals = λ q b mid. rims-filled axis-runs out₀ w e₁ e₂ q (omega (arith, k)) ∙ (λ j. extendedAt m (e j) (g j) (getD lefts a 0) (f j) out₀ q) ∙ level q b ∙ sym (final-lane (modeAlong m) ns lefts ps cells (frame F) a h q b out₀ mid (A .finals));
+    count = ap length c ∙ length-tabulate (extendedAt m p s (getD lefts a 0) n out₀) 0 (length out₀) ∙ A .count;
+    finals = λ q b mid. ap (λ x. getD x q (pos 0)) c ∙ getD-tabulate (extendedAt m p s (getD lefts a 0) n out₀) (length out₀) q (pos 0) (omega (arith, k))
+        ∙ (λ j. extendedAt m (e j) (g j) (getD lefts a 0) (f j) out₀ q) ∙ level q b ∙ sym (final-lane (modeAlong m) ns lefts ps cells (frame F) a h q b out₀ mid (A .finals));
   }
     where
       level : (q : ℕ) → q < cellCount ps → extendedAt m (lengthOf ps a) (strideOf ps a) (getD lefts a 0) (lengthOf ns a) out₀ q

@@ -1,3 +1,3 @@
--- Laws of the rims that are copied.
-pub mod CopiedRims
+-- Laws of an axis whose rims are copied, some blocks at a time.
+pub mod FewBlocks
 pub mod CopiedAxis

@@ -1,47 +1,49 @@
-// The rims under the modes that copy cells: Edge, Reflect, Symmetric and Wrap. Each coordinate of a rim is copied from one in the middle. Lent cells are
+// The rims under the modes that copy cells: Edge, Reflect, Symmetric and Wrap. Of each axis some blocks are filled at a time. Lent cells are
 // copied too, onto places that are not in the middle on a later axis: filling that axis overwrites them.
 ghost use mathlib.Core.Path.{_≡_};
-ghost use Prim.Native.Nat.{ℕ, suc, _+_, _≤_, _<_};
+ghost use Prim.Native.Nat.{suc, _≤_, _<_};
 ghost use lib.ListN.{length};
 ghost use Rattle.array.specs.Grid.{cellCount};
 ghost use Rattle.pad_frame.specs.Filled.{Fills};
 ghost use Rattle.pad_frame.specs.Frame.{Filling};
-ghost use Rattle.pad_frame.specs.Runs.{modeAlong, Runs, InRim, readFrom, rimSet};
+ghost use Rattle.pad_frame.specs.Runs.{modeAlong, Runs, axisSet};
 use border::Along;
-use pad_copy::copy_coordinate;
+use pad_rims::copy_rims;
 
-// The coordinate that a coordinate in a rim reads; the lane's own cells are the n from `left` on.
-fn read_from(mode: Along, left: usize, n: usize, p: usize, k: usize) -> usize
-    requires { ⌜ (left + n ≤ p) × (p ≤ 1152) × InRim left n p k ⌝ }
-    ensures { λ r. ⌜ r ≡ readFrom mode left n k ⌝ }
+// About how many cells of the grid are filled together: 32 kB.
+const NEAR_CELLS: usize = 4096;
+
+// The lesser of two numbers.
+fn least(a: usize, b: usize) -> usize
+    ensures { λ r. ⌜ (r ≤ b) × (0 < a → 0 < b → 0 < r) ⌝ }
 {
-    if k < left {
-        return left + border::cell_before(mode, n, left - k);
+    if a < b {
+        return a;
     }
-    left + border::cell_after(mode, n, k + 1 - (left + n))
+    b
 }
 
-// Fills `count` coordinates of the axis, those from `a` on, which are in one rim.
-fn copy_rim(
+// Fills both rims of the axis, `few` blocks at a time: so many stay in the cache while one coordinate after the other is copied.
+fn copy_blocks(
     mode: Along,
     p: usize,
     s: usize,
     blocks: usize,
+    few: usize,
     left: usize,
     n: usize,
-    a: usize,
-    count: usize,
     out: &mut [i64],
 )
-    requires { ⌜ Runs mode p s blocks left n (length (now out)) × ((k : ℕ) → a ≤ k → k < a + count → InRim left n p k) ⌝ }
-    ensures { λ _. ⌜ now (out .exit) ≡ rimSet mode p s left n a count (now (out .entry)) ⌝ }
+    requires { ⌜ Runs mode p s blocks left n (length (now out)) × (0 < few) ⌝ }
+    ensures { λ _. ⌜ now (out .exit) ≡ axisSet mode p s left n (now (out .entry)) ⌝ }
 {
-    let mut j = 0;
-    while j < count {
-        let at = a + j;
-        let from = read_from(mode, left, n, p, at);
-        copy_coordinate(from, at, p, s, blocks, out);
-        j += 1;
+    let mut first = 0;
+    while first < blocks {
+        let count = least(few, blocks - first);
+        let a = first * (p * s);
+        let e = a + count * (p * s);
+        copy_rims(mode, p, s, count, left, n, &mut out[a..e]);
+        first += count;
     }
 }
 
@@ -60,11 +62,10 @@ fn copy_axis(
     let p = shapes::len_of(padded, axis);
     let n = shapes::len_of(shape, axis);
     let s = lanes::stride_of(padded, axis);
-    let blocks = out.len() / (p * s);
-    let left = lefts[axis];
-    let e = left + n;
-    copy_rim(mode, p, s, blocks, left, n, 0, left, out);
-    copy_rim(mode, p, s, blocks, left, n, e, p - e, out);
+    let block = p * s;
+    let blocks = out.len() / block;
+    let few = NEAR_CELLS / block + 1;
+    copy_blocks(mode, p, s, blocks, few, lefts[axis], n, out);
 }
 
 // Fills every axis in rising order: where the middle held its levels, every place then does.

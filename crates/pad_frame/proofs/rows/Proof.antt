@@ -7,12 +7,12 @@ use Rattle.lanes.specs.Lanes.{laneAt}
 use Rattle.border.specs.Border.{cellFor, extendedLane}
 use Rattle.pad_line.specs.Line.{paddedAt}
 use Rattle.pad_frame.specs.Frame.{rowSet, middleSet}
-use Rattle.pad_frame.specs.Runs.{coordinateSet, rimSet}
+use Rattle.pad_frame.specs.Runs.{coordinateSet, rimSet, axisSet}
 use Rattle.pad_frame.proofs.rows.Statement.{statement}
 use Rattle.pad_frame.proofs.rows.Tie as tie
 
 returns : tie.Need-returns
-unfolding tabulate placeOf coordinate rowSet middleSet laneAt extendedLane cellFor paddedAt coordinateSet rimSet
+unfolding tabulate placeOf coordinate rowSet middleSet laneAt extendedLane cellFor paddedAt coordinateSet rimSet axisSet
 returns c = record {
   row = refl;
   targets = refl;
@@ -23,6 +23,7 @@ returns c = record {
   coordinate-set = refl;
   rim-before = refl;
   rim-after = refl;
+  both-rims = refl;
 }
 
 pub rows-spec : {M : Type 1} → statement M

@@ -1,14 +1,14 @@
--- `pad_runs::copy_rim` meets its contract: coordinate by coordinate, what is read is in the middle of the axis.
+-- `pad_rims::copy_rim` meets its contract: coordinate by coordinate, what is read is in the middle of the axis.
 -- Assumes nothing.
 use mathlib.Core.Path.{_≡_, refl, _∙_}
 use Prim.Native.Nat.{ℕ, _+_, _-_, _≤_, _<_}
 use native.Mathlib.Omega.{arith}
 use lib.ListN.{length}
 use Rattle.pad_frame.specs.Runs.{InRim, readFrom}
-use Rattle.pad_runs.proofs.CopiedRims.{RimStored, rim-none, rim-more, rim-all, rim-below, rim-off, read-middle}
+use Rattle.pad_rims.proofs.CopiedRims.{RimStored, rim-none, rim-more, rim-all, rim-below, rim-off, read-middle}
 use borrow.Author.Needs.{needs}
-use Rattle.pad_runs.proofs.copy_rim.Statement.{statement}
-use Rattle.pad_runs.proofs.copy_rim.Tie as tie
+use Rattle.pad_rims.proofs.copy_rim.Statement.{statement}
+use Rattle.pad_rims.proofs.copy_rim.Tie as tie
 
 abbrev Inv-loop : tie.InvT-loop
 Inv-loop mode p s blocks left n a count out₀ j₀ out j = (j ≤ count) × RimStored mode p s left n a out₀ out j

@@ -14,6 +14,7 @@ use lib.IntN.{ℤ, pos}
 use lib.ListN.{length, getD}
 use lib.Seq.{ext-getD}
 use Rattle.numbers.proofs.Stored.{Stored, stored-none, stored-table, table-stored}
+use Rattle.numbers.proofs.Tabulate.{tabulate-unique}
 use Rattle.numbers.proofs.Tests.{cond-yes, cond-no}
 use Rattle.lanes.specs.Lanes.{laneOf, laneBase}
 use Rattle.lanes.proofs.Cells.{lane-of-cell, place-of-cell, cell-of-lane, base-of, step-le}
@@ -24,7 +25,7 @@ use Rattle.pad_line.specs.Line.{paddedAt}
 use Rattle.pad_line.proofs.Padded.{padded-inside, padded-before, padded-after}
 use Rattle.pad_line.proofs.Reach.{cell-before-in, cell-after-in}
 use Rattle.pad_axis.proofs.Rims.{ownOf, length-own, getD-own}
-use Rattle.pad_frame.specs.Runs.{Runs, InRim, readFrom, coordinateSet, extendedAt, rimSet}
+use Rattle.pad_frame.specs.Runs.{Runs, InRim, readFrom, coordinateSet, extendedAt, rimSet, axisSet}
 use Rattle.pad_frame.proofs.OneRow.{onRow, row-yes, row-in, row-no, row-empty, row-longer, stored-over}
 use Rattle.pad_copy.proofs.RunByRun.{cellFrom}
 
@@ -46,6 +47,14 @@ module _ (n : ℕ) {left p k : ℕ} (r : InRim left n p k) where
 
   pub rim-off : left ≤ k → k < left + n → ⊥
   rim-off h l = omega (arith, rim-after h)
+
+-- ---- the coordinates of the two rims
+module _ (left n p : ℕ) where
+  pub rim-before : (k : ℕ) → 0 ≤ k → k < 0 + left → InRim left n p k
+  rim-before k lo hi = inl (omega arith)
+
+  pub rim-beyond : (k : ℕ) → left + n ≤ k → k < left + n + (p - (left + n)) → InRim left n p k
+  rim-beyond k lo hi = inr (lo, omega arith)
 
 -- ---- the coordinate that it reads is small
 pub before-small : (m : Along) (n k : ℕ) → cellBefore m n k ≤ n + k
@@ -73,7 +82,7 @@ rim-all {m} {p} {s} {left} {n} {a} {g₀} {g} {j} count e S =
     stored-table (pos 0) (extendedAt m p s left n g₀) (λ k. onRow a count (k / s % p)) (subst (RimStored m p s left n a g₀ g) e S .stored)
 
 module _ {m : Along} {p s blocks left n len : ℕ} (R : Runs m p s blocks left n len) where
-  some-cells : 0 < p
+  pub some-cells : 0 < p
   some-cells = omega (arith, R .room, R .some)
 
   -- the coordinate that a coordinate in a rim reads is in the middle
@@ -89,10 +98,10 @@ module _ {m : Along} {p s blocks left n len : ℕ} (R : Runs m p s blocks left n
 
   module _ (k : ℕ) (b : k < len) where
     -- the cell of the lane through place k with coordinate c is in the grid, and has that coordinate
-    abbrev cellAt : ℕ → ℕ
+    abbrev pub cellAt : ℕ → ℕ
     cellAt c = laneBase p s (laneOf p s k) + c * s
 
-    cell-in : (c : ℕ) → c < p → cellAt c < len
+    pub cell-in : (c : ℕ) → c < p → cellAt c < len
     cell-in c h =
         let d : k / (p * s) < blocks = div-lt-iff-lt-mul (mul-pos some-cells (R .apart)) .1 (omega (arith, R .whole)) in
         omega (arith, base-of p s some-cells (R .apart) k, mod-lt k (R .apart), step-le s h, step-le (p * s) d, R .whole)
@@ -175,7 +184,7 @@ module _ {m : Along} {p s blocks left n len : ℕ} (R : Runs m p s blocks left n
     unfolding rimSet
     after = table-stored (pos 0) (extendedAt m p s left n g₁) (λ k. onRow (left + n) (p - (left + n)) (k / s % p)) g₁ g₂ e₂
 
-    pub rims-length : length g₂ ≡ length g₀
+    rims-length : length g₂ ≡ length g₀
     rims-length = after .kept ∙ before .kept
 
     -- a place that is not in the first rim, and one that is not in the second
@@ -201,7 +210,7 @@ module _ {m : Along} {p s blocks left n len : ℕ} (R : Runs m p s blocks left n
             ∙ not-before (cellAt k b (left + i)) (cell-in k b (left + i) c) (omega (arith, cell-coordinate k b (left + i) c))
             ∙ sym (read-own k b g₀ i h)
 
-    pub rims-filled : (k : ℕ) → k < len → getD g₂ k (pos 0) ≡ extendedAt m p s left n g₀ k
+    rims-filled : (k : ℕ) → k < len → getD g₂ k (pos 0) ≡ extendedAt m p s left n g₀ k
     rims-filled k b = go (ltb (k / s % p) left) refl (ltb (k / s % p) (left + n)) refl
       where
         go : (t : Bool) → ltb (k / s % p) left ≡ t → (u : Bool) → ltb (k / s % p) (left + n) ≡ u → getD g₂ k (pos 0) ≡ extendedAt m p s left n g₀ k
@@ -217,3 +226,7 @@ module _ {m : Along} {p s blocks left n len : ℕ} (R : Runs m p s blocks left n
             after .cells k (omega (arith, before .kept))
             ∙ cond-yes (onRow (left + n) (p - (left + n)) (k / s % p)) _ _ (row-yes (left + n) (p - (left + n)) (k / s % p) hi (omega (arith, below k b)))
             ∙ ap (λ x. paddedAt (pos 0) (along m) left x (k / s % p)) (own-same k b)
+
+    pub rims-all : g₂ ≡ axisSet m p s left n g₀
+    unfolding axisSet
+    rims-all = tabulate-unique (pos 0) (extendedAt m p s left n g₀) g₂ (length g₀) rims-length (λ k b. rims-filled k (omega arith))
