@@ -18,7 +18,7 @@ fn rows() {
     statistics::rows();
     pad_axis::rows();
     pad_levels::rows();
-    pad_grid::rows();
+    pad_frame::rows();
     pad::rows();
     sweeps::rows();
     sweeps::order_of_axes();

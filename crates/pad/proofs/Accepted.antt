@@ -25,7 +25,7 @@ use Rattle.pad_levels.specs.Conditions.{badConstant, badCount, overPad, paddedC
 use Rattle.pad_levels.specs.Pads.{pairOf, leftsOf, rightsOf, paddedShape}
 use Rattle.pad_levels.specs.declared.Pair.{Pair}
 use Rattle.pad_levels.proofs.Pairs.{axis-at, padded-length, padded-short}
-use Rattle.pad_grid.specs.Frame.{Framed, Filling}
+use Rattle.pad_frame.specs.Frame.{Framed, Filling}
 
 -- what each condition of an accepted call says
 pub record Passed (mode : PadMode) (ns : List ℕ) (pads : List Pair) (count : ℕ) (cells : List ℤ) (out : ℕ) : Type 0 where

@@ -15,8 +15,8 @@ use Rattle.border.specs.declared.PadMode.{PadMode}
 use Rattle.pad_levels.specs.Levels.{levelTo, keepsRim}
 use Rattle.pad_levels.specs.Pads.{inMiddle, allFrom, middleFrom}
 use Rattle.pad_levels.proofs.Levels.{level-rest}
-use Rattle.pad_grid.specs.Frame.{middleSet}
-use Rattle.pad_grid.specs.Filled.{Filled}
+use Rattle.pad_frame.specs.Frame.{middleSet}
+use Rattle.pad_frame.specs.Filled.{Filled}
 use Rattle.pad.specs.Laid.{laidOver}
 
 module _ (mode : PadMode) (ns lefts ps : List ℕ) (cells : List ℤ) where

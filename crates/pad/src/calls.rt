@@ -9,7 +9,7 @@ ghost use Rattle.array.specs.Grid.{cellCount};
 ghost use Rattle.pad_levels.specs.Conditions.{padJudged};
 ghost use Rattle.pad_levels.specs.Levels.{keepsRim, paddedGrid, paddedOver};
 ghost use Rattle.pad_levels.specs.Pads.{leftsOf, rightsOf};
-ghost use Rattle.pad_grid.specs.Frame.{Filling};
+ghost use Rattle.pad_frame.specs.Frame.{Filling};
 ghost use Rattle.pad.specs.Laid.{laidOver, started};
 use border::PadMode;
 use pad_levels::Pair;
@@ -60,7 +60,7 @@ fn lay_over(
     requires { ⌜ Filling mode (now shape) (now lefts) (now padded) × (anyOf badLevel (now «data») ≡ false) × (length (now «data») ≡ cellCount (now shape)) × (length (now out) ≡ cellCount (now padded)) ⌝ }
     ensures { λ _. ⌜ now (out .exit) ≡ laidOver mode (now (shape .entry)) (now (lefts .entry)) (now (padded .entry)) (now («data» .entry)) (now (out .entry)) ⌝ }
 {
-    pad_grid::copy_middle(data, shape, lefts, padded, out);
+    pad_middle::copy_middle(data, shape, lefts, padded, out);
     if keeps_rim(mode) {
         return;
     }
@@ -81,7 +81,7 @@ fn lay_in(
     requires { ⌜ (refusalOf (padJudged mode (now shape) pads count (now «data») (length (now out))) ≡ 0) × (length (now lefts) ≡ length (now shape)) × (length (now padded) ≡ length (now shape)) ⌝ }
     ensures { λ _. ⌜ now (out .exit) ≡ paddedOver mode (now (shape .entry)) (leftsOf (now (shape .entry)) pads count) (rightsOf (now (shape .entry)) pads count) (now («data» .entry)) (now (out .entry)) ⌝ }
 {
-    pad_grid::set_frame(shape, pads, count, lefts, padded);
+    pad_frame::set_frame(shape, pads, count, lefts, padded);
     lay_over(data, shape, lefts, padded, mode, out);
 }
 

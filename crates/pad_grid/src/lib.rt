@@ -1,16 +1,69 @@
-// The workers of padded grids: the frame is set, the grid copied into its middle, and the rims filled axis by axis.
-ghost use Rattle.pad_grid.specs.Rows.{PadGridRows};
+// The rims of a padded grid, axis by axis in rising order: the modes that copy cells go to `pad_runs`, those that take one level for a lane to `pad_lanes`.
+ghost use mathlib.Core.Path.{_≡_};
+ghost use lib.ListN.{length};
+ghost use Rattle.array.specs.Grid.{cellCount};
+ghost use Rattle.pad_frame.specs.Filled.{Fills};
+ghost use Rattle.pad_frame.specs.Frame.{Filling};
+use pad_lanes::fill_axis;
+use pad_runs::copy_axes;
 
-mod frame;
-mod middle;
-mod rims;
-mod runs;
+// Fills every axis in rising order; the line is a buffer of 1,152 cells.
+fn fill_in(
+    mode: border::PadMode,
+    shape: &[usize],
+    lefts: &[usize],
+    padded: &[usize],
+    line: &mut [i64],
+    out: &mut [i64],
+)
+    requires { ⌜ Filling mode (now shape) (now lefts) (now padded) × (length (now line) ≡ 1152) × (length (now out) ≡ cellCount (now padded)) ⌝ }
+    ensures { λ _. ⌜ Fills mode (now (shape .entry)) (now (lefts .entry)) (now (padded .entry)) 0 (length (now (shape .entry))) (now (out .entry)) (now (out .exit)) ⌝ }
+{
+    let mut axis = 0;
+    while axis < shape.len() {
+        fill_axis(mode, shape, lefts, padded, axis, line, out);
+        axis += 1;
+    }
+}
 
-pub use frame::set_frame;
-pub use middle::copy_middle;
-pub use rims::fill_axes;
+// Fills every axis under a mode that takes one level for a lane.
+fn fill_levels(
+    mode: border::PadMode,
+    shape: &[usize],
+    lefts: &[usize],
+    padded: &[usize],
+    out: &mut [i64],
+)
+    requires { ⌜ Filling mode (now shape) (now lefts) (now padded) × (length (now out) ≡ cellCount (now padded)) ⌝ }
+    ensures { λ _. ⌜ Fills mode (now (shape .entry)) (now (lefts .entry)) (now (padded .entry)) 0 (length (now (shape .entry))) (now (out .entry)) (now (out .exit)) ⌝ }
+{
+    let mut line = [0; 1152];
+    fill_in(mode, shape, lefts, padded, &mut line, out);
+}
 
-// Worked rows of this crate's definitions. Refuses nothing.
-pub fn rows()
-    ensures { λ _. ⌜ PadGridRows ⌝ }
-{}
+// Fills every axis: where the middle held its levels, every place then does.
+//
+// * `mode` - the padding mode.
+// * `shape` - the length of each axis of the grid in the middle.
+// * `lefts`, `padded` - the pad before each axis, and its padded length.
+// * `out` - the padded grid.
+//
+// Supposes `Filling`, and refuses nothing. Of 9 1 2 8 with 1 2 in the middle, under Edge: 1 1 2 2.
+pub fn fill_axes(
+    mode: border::PadMode,
+    shape: &[usize],
+    lefts: &[usize],
+    padded: &[usize],
+    out: &mut [i64],
+)
+    requires { ⌜ Filling mode (now shape) (now lefts) (now padded) × (length (now out) ≡ cellCount (now padded)) ⌝ }
+    ensures { λ _. ⌜ Fills mode (now (shape .entry)) (now (lefts .entry)) (now (padded .entry)) 0 (length (now (shape .entry))) (now (out .entry)) (now (out .exit)) ⌝ }
+{
+    match mode {
+        border::PadMode::Edge => copy_axes(border::Along::Nearest, shape, lefts, padded, out),
+        border::PadMode::Reflect => copy_axes(border::Along::Mirror, shape, lefts, padded, out),
+        border::PadMode::Symmetric => copy_axes(border::Along::Reflect, shape, lefts, padded, out),
+        border::PadMode::Wrap => copy_axes(border::Along::Wrap, shape, lefts, padded, out),
+        _ => fill_levels(mode, shape, lefts, padded, out),
+    }
+}

@@ -1,0 +1,5 @@
+-- Laws of a grid in the middle of a padded one.
+pub mod Targets
+pub mod Row
+pub mod RowPlace
+pub mod Copied

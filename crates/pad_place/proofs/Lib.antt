@@ -1,0 +1,2 @@
+-- Laws of the test of whether a place is in the middle.
+pub mod InMiddle

@@ -1,0 +1,2 @@
+-- Laws of the rims that are copied.
+pub mod CopiedRims
