@@ -17,7 +17,7 @@ use Rattle.border.specs.Border.{Border, constant, along, cellFor, inside, exten
 use Rattle.border.specs.Modes.{badConstantBy}
 use Rattle.pad_line.specs.Line.{paddedAt, paddedLine}
 use Rattle.minlist.specs.Firsts.{firsts, Served}
-use Rattle.correlate_line.specs.Sizes.{Weighable}
+use Rattle.line_sums.specs.Sizes.{Weighable}
 use Rattle.uniform_line.specs.Mean.{Averaged}
 use Rattle.axis_filter.specs.Lane.{Room}
 use Rattle.axis_filter.specs.Filter.{filtered, ServedLine, Averaging, Supposed}

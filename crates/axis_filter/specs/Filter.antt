@@ -24,7 +24,7 @@ use Rattle.symmetry.specs.Class.{classZ}
 use Rattle.symmetry.specs.declared.SymmetryState.{SymmetryState}
 use Rattle.symmetry.specs.declared.SymmetryState.the-variants.{NonSymmetric}
 use Rattle.correlation.specs.Weighed.{wholeOps, weighedLine}
-use Rattle.correlate_line.specs.Sizes.{Weighable}
+use Rattle.line_sums.specs.Sizes.{Weighable}
 use Rattle.uniform_line.specs.Mean.{means, Averaged}
 use Rattle.axis_filter.specs.declared.LineFilter.{LineFilter}
 use Rattle.axis_filter.specs.declared.LineFilter.the-variants.{Least, Greatest, Weighed, Mean}

@@ -16,7 +16,7 @@ use Rattle.array.specs.Conditions.{badLevel}
 use Rattle.array.proofs.Judged.{levels-sized}
 use Rattle.border.specs.Border.{Border, constant, along}
 use Rattle.border.specs.Modes.{badConstantBy}
-use Rattle.correlate_line.proofs.Computed.{read}
+use Rattle.line_sums.proofs.Computed.{read}
 use Rattle.correlate_judge.specs.Judge.{badWeight, appliedOrigin, appliedWeights}
 use Rattle.correlate_judge.proofs.Applied.{applied-weights}
 use Rattle.correlate1d.proofs.Passed.{Passed, placed-accepted}

@@ -16,7 +16,7 @@ use Rattle.symmetry.specs.declared.SymmetryState.{SymmetryState}
 use Rattle.correlation.specs.Weighed.{Ops}
 use Rattle.correlation.specs.Correlated.{correlatedBy}
 use Rattle.correlate_judge.specs.Judge.{badWeight}
-use Rattle.correlate_line.proofs.Computed.{Computed, read, computed, computed-level}
+use Rattle.line_sums.proofs.Computed.{Computed, read, computed, computed-level}
 use Rattle.correlate1d.specs.Weighs.{Scales}
 
 -- the product as the machine computes it

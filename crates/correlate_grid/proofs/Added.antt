@@ -14,7 +14,7 @@ use Rattle.numbers.specs.Ranges.{outsideZ}
 use Rattle.numbers.proofs.Size.{Size, size-add, member-sized, tested-sized}
 use Rattle.numbers.proofs.Stored.{Stored, front-more}
 use Rattle.numbers.proofs.Tests.{cond-no}
-use Rattle.correlate_line.proofs.Computed.{read, Computed, computed-level, computed-read, computed}
+use Rattle.line_sums.proofs.Computed.{read, Computed, computed-level, computed-read, computed}
 
 -- every cell of a list that a test found inside is small, and so is what stands past its end
 sized : (p : ℕ) (s : List ℤ) → anyOf (outsideZ (negℤ (pos p)) (pos p)) s ≡ false → (k : ℕ) → Size (getD s k (pos 0)) p

@@ -30,7 +30,7 @@ use Rattle.correlate_grid.proofs.Sources.{ReadsIn}
 use Rattle.numbers.specs.Ranges.{outsideZ}
 use Rattle.numbers.proofs.Size.{size-le, size-inside, inside-sized}
 use Rattle.array.specs.Conditions.{badLevel}
-use Rattle.correlate_line.specs.Sizes.{Weighable}
+use Rattle.line_sums.specs.Sizes.{Weighable}
 
 module _ (b : Border ℤ) (z : Axis) (none row : ℕ) (cells : List ℤ) where
   abbrev total : ℕ

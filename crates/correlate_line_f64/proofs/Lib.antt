@@ -1,1 +1,2 @@
--- No law of its own: the laws of the loops are those of `correlation`.
+-- Laws of the loops that take four weights a pass.
+pub mod Turns

@@ -1,12 +1,15 @@
 // As `correlate_line`, of floats: bit for bit the sums in the order of roundings that the class of the weights has.
 ghost use mathlib.Core.Path.{_≡_};
-ghost use Prim.Native.Nat.{_+_, _-_, _/_, _≤_, _<_};
+ghost use Prim.Native.Nat.{_+_, _≤_, _<_};
 ghost use lib.ListN.{length};
 ghost use Rattle.numbers.specs.Lists.{tabulate};
-ghost use Rattle.symmetry.specs.declared.SymmetryState.the-variants.{NonSymmetric, Symmetric, AntiSymmetric};
-ghost use Rattle.correlation.specs.Weighed.{floatOps, cellTerm, plainTo, pairsTo, weighedLine};
-ghost use Rattle.correlate_line_f64.specs.Lengths.{Windows};
+ghost use Rattle.symmetry.specs.declared.SymmetryState.the-variants.{NonSymmetric};
+ghost use Rattle.correlation.specs.Weighed.{floatOps, plainTo, weighedLine};
+ghost use Rattle.line_sums.specs.Lengths.{Windows};
+use pair_line_f64::pair_line_f64;
 use symmetry::SymmetryState;
+use terms_f64::four_more;
+use terms_f64::four_weights;
 
 // Sets every cell to 0.0 and the term of the first cell of its window.
 fn start_row(weights: &[f64], line: &[f64], out: &mut [f64])
@@ -27,14 +30,11 @@ fn start_four_rows(weights: &[f64], line: &[f64], out: &mut [f64])
     requires { ⌜ Windows (now weights) (now line) (length (now out)) × (4 ≤ length (now weights)) ⌝ }
     ensures { λ _. ⌜ now (out .exit) ≡ tabulate (plainTo floatOps (now (weights .entry)) (now (line .entry)) 4) 0 (length (now (out .entry))) ⌝ }
 {
-    let w0 = weights[0];
-    let w1 = weights[1];
-    let w2 = weights[2];
-    let w3 = weights[3];
+    let four = four_weights(weights, 0);
     let n = out.len();
     let mut i = 0;
     while i < n {
-        out[i] = 0.0 + line[i] * w0 + line[i + 1] * w1 + line[i + 2] * w2 + line[i + 3] * w3;
+        out[i] = four_more(0.0, line, i, four);
         i += 1;
     }
 }
@@ -50,20 +50,6 @@ fn start_rows(weights: &[f64], line: &[f64], out: &mut [f64]) -> usize
     }
     start_four_rows(weights, line, out);
     4
-}
-
-// Sets every cell to cell j of its window times weight j.
-fn set_row(weights: &[f64], line: &[f64], j: usize, out: &mut [f64])
-    requires { ⌜ Windows (now weights) (now line) (length (now out)) × (j < length (now weights)) ⌝ }
-    ensures { λ _. ⌜ now (out .exit) ≡ tabulate (λ i. cellTerm floatOps (now (weights .entry)) (now (line .entry)) i j) 0 (length (now (out .entry))) ⌝ }
-{
-    let weight = weights[j];
-    let n = out.len();
-    let mut i = 0;
-    while i < n {
-        out[i] = line[i + j] * weight;
-        i += 1;
-    }
 }
 
 // Adds to every cell the term of cell j of its window.
@@ -85,82 +71,11 @@ fn add_four_rows(weights: &[f64], line: &[f64], j: usize, out: &mut [f64])
     requires { ⌜ Windows (now weights) (now line) (length (now out)) × (j + 4 ≤ length (now weights)) × (now out ≡ tabulate (plainTo floatOps (now weights) (now line) j) 0 (length (now out))) ⌝ }
     ensures { λ _. ⌜ now (out .exit) ≡ tabulate (plainTo floatOps (now (weights .entry)) (now (line .entry)) (j + 4)) 0 (length (now (out .entry))) ⌝ }
 {
-    let w0 = weights[j];
-    let w1 = weights[j + 1];
-    let w2 = weights[j + 2];
-    let w3 = weights[j + 3];
+    let four = four_weights(weights, j);
     let n = out.len();
     let mut i = 0;
     while i < n {
-        out[i] = out[i]
-            + line[i + j] * w0
-            + line[i + j + 1] * w1
-            + line[i + j + 2] * w2
-            + line[i + j + 3] * w3;
-        i += 1;
-    }
-}
-
-// Adds to every cell the term of its window's cells left and right, which mirror each other, joined by sum.
-fn add_pairs(weights: &[f64], line: &[f64], left: usize, right: usize, out: &mut [f64])
-    requires { ⌜ Windows (now weights) (now line) (length (now out)) × (left < length (now weights) / 2) × (right ≡ length (now weights) - 1 - left) × (now out ≡ tabulate (pairsTo floatOps (floatOps .sum) (now weights) (now line) left) 0 (length (now out))) ⌝ }
-    ensures { λ _. ⌜ now (out .exit) ≡ tabulate (pairsTo floatOps (floatOps .sum) (now (weights .entry)) (now (line .entry)) (left + 1)) 0 (length (now (out .entry))) ⌝ }
-{
-    let shared = weights[left];
-    let n = out.len();
-    let mut i = 0;
-    while i < n {
-        out[i] = out[i] + (line[i + left] + line[i + right]) * shared;
-        i += 1;
-    }
-}
-
-// Adds to every cell the terms of two pairs, left and right and the pair inside it, joined by sum, one after the other.
-fn add_two_pairs(weights: &[f64], line: &[f64], left: usize, right: usize, out: &mut [f64])
-    requires { ⌜ Windows (now weights) (now line) (length (now out)) × (left + 1 < length (now weights) / 2) × (right ≡ length (now weights) - 1 - left) × (now out ≡ tabulate (pairsTo floatOps (floatOps .sum) (now weights) (now line) left) 0 (length (now out))) ⌝ }
-    ensures { λ _. ⌜ now (out .exit) ≡ tabulate (pairsTo floatOps (floatOps .sum) (now (weights .entry)) (now (line .entry)) (left + 2)) 0 (length (now (out .entry))) ⌝ }
-{
-    let s0 = weights[left];
-    let s1 = weights[left + 1];
-    let inner = right - 1;
-    let n = out.len();
-    let mut i = 0;
-    while i < n {
-        out[i] = out[i]
-            + (line[i + left] + line[i + right]) * s0
-            + (line[i + left + 1] + line[i + inner]) * s1;
-        i += 1;
-    }
-}
-
-// Adds to every cell the term of its window's cells left and right, which mirror each other, joined by difference.
-fn add_differences(weights: &[f64], line: &[f64], left: usize, right: usize, out: &mut [f64])
-    requires { ⌜ Windows (now weights) (now line) (length (now out)) × (left < length (now weights) / 2) × (right ≡ length (now weights) - 1 - left) × (now out ≡ tabulate (pairsTo floatOps (floatOps .difference) (now weights) (now line) left) 0 (length (now out))) ⌝ }
-    ensures { λ _. ⌜ now (out .exit) ≡ tabulate (pairsTo floatOps (floatOps .difference) (now (weights .entry)) (now (line .entry)) (left + 1)) 0 (length (now (out .entry))) ⌝ }
-{
-    let signed = weights[left];
-    let n = out.len();
-    let mut i = 0;
-    while i < n {
-        out[i] = out[i] + (line[i + left] - line[i + right]) * signed;
-        i += 1;
-    }
-}
-
-// Adds to every cell the terms of two pairs, left and right and the pair inside it, joined by difference, one after the other.
-fn add_two_differences(weights: &[f64], line: &[f64], left: usize, right: usize, out: &mut [f64])
-    requires { ⌜ Windows (now weights) (now line) (length (now out)) × (left + 1 < length (now weights) / 2) × (right ≡ length (now weights) - 1 - left) × (now out ≡ tabulate (pairsTo floatOps (floatOps .difference) (now weights) (now line) left) 0 (length (now out))) ⌝ }
-    ensures { λ _. ⌜ now (out .exit) ≡ tabulate (pairsTo floatOps (floatOps .difference) (now (weights .entry)) (now (line .entry)) (left + 2)) 0 (length (now (out .entry))) ⌝ }
-{
-    let s0 = weights[left];
-    let s1 = weights[left + 1];
-    let inner = right - 1;
-    let n = out.len();
-    let mut i = 0;
-    while i < n {
-        out[i] = out[i]
-            + (line[i + left] - line[i + right]) * s0
-            + (line[i + left + 1] - line[i + inner]) * s1;
+        out[i] = four_more(out[i], line, i + j, four);
         i += 1;
     }
 }
@@ -182,45 +97,6 @@ fn plain_line(weights: &[f64], line: &[f64], out: &mut [f64])
     }
 }
 
-// The middle cell and then the pairs from the outside in, joined by sum. The loop ends by left and right: where it ends by left and a count, LLVM (22) takes
-// the test that line and out do not overlap out of the loop, can't make it for a place that goes down, and leaves the row's loop without vectors.
-fn symmetric_line(weights: &[f64], line: &[f64], out: &mut [f64])
-    requires { ⌜ Windows (now weights) (now line) (length (now out)) ⌝ }
-    ensures { λ _. ⌜ now (out .exit) ≡ weighedLine floatOps Symmetric (now (weights .entry)) (now (line .entry)) (length (now (out .entry))) ⌝ }
-{
-    let half = weights.len() / 2;
-    set_row(weights, line, half, out);
-    let mut left = 0;
-    let mut right = weights.len() - 1;
-    while left + 2 < right {
-        add_two_pairs(weights, line, left, right, out);
-        left += 2;
-        right -= 2;
-    }
-    if left < right {
-        add_pairs(weights, line, left, right, out);
-    }
-}
-
-// The middle cell and then the pairs from the outside in, joined by difference.
-fn antisymmetric_line(weights: &[f64], line: &[f64], out: &mut [f64])
-    requires { ⌜ Windows (now weights) (now line) (length (now out)) ⌝ }
-    ensures { λ _. ⌜ now (out .exit) ≡ weighedLine floatOps AntiSymmetric (now (weights .entry)) (now (line .entry)) (length (now (out .entry))) ⌝ }
-{
-    let half = weights.len() / 2;
-    set_row(weights, line, half, out);
-    let mut left = 0;
-    let mut right = weights.len() - 1;
-    while left + 2 < right {
-        add_two_differences(weights, line, left, right, out);
-        left += 2;
-        right -= 2;
-    }
-    if left < right {
-        add_differences(weights, line, left, right, out);
-    }
-}
-
 // Sets each cell of out to the weighted sum of its window of the padded line, summed as the class says: each operation rounded, in that order.
 pub fn correlate_line_f64(weights: &[f64], class: SymmetryState, line: &[f64], out: &mut [f64])
     requires { ⌜ Windows (now weights) (now line) (length (now out)) ⌝ }
@@ -228,7 +104,7 @@ pub fn correlate_line_f64(weights: &[f64], class: SymmetryState, line: &[f64], o
 {
     match class {
         SymmetryState::NonSymmetric => plain_line(weights, line, out),
-        SymmetryState::Symmetric => symmetric_line(weights, line, out),
-        SymmetryState::AntiSymmetric => antisymmetric_line(weights, line, out),
+        SymmetryState::Symmetric => pair_line_f64(weights, false, line, out),
+        SymmetryState::AntiSymmetric => pair_line_f64(weights, true, line, out),
     }
 }

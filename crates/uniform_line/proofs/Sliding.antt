@@ -12,9 +12,9 @@ use Rattle.numbers.proofs.Any.{none-any, every-imp}
 use Rattle.numbers.proofs.Size.{Size, size-le, inside-sized}
 use Rattle.array.proofs.Judged.{levels-sized}
 use Rattle.correlation.specs.WindowSum.{windowSum}
-use Rattle.correlate_line.specs.Sizes.{Summable}
-use Rattle.correlate_line.proofs.Computed.{read}
-use Rattle.correlate_line.proofs.SlidingSum.{total-read}
+use Rattle.line_sums.specs.Sizes.{Summable}
+use Rattle.line_sums.proofs.Computed.{read}
+use Rattle.line_sums.proofs.SlidingSum.{total-read}
 use Rattle.uniform_line.specs.Mean.{cut, Averaged}
 
 module _ {s : List ℤ} {size n : ℕ} (A : Averaged s size n) where

@@ -5,7 +5,7 @@ ghost use Prim.Native.Nat.{_≤_, _<_};
 ghost use lib.ListN.{length};
 ghost use Rattle.uniform_line.specs.Mean.{cut, means, Averaged};
 ghost use Rattle.uniform_line.specs.Rows.{UniformLineRows};
-use correlate_line::running::first_sum;
+use line_sums::first_sum;
 
 // The sum of a window over the number of its cells, cut toward zero.
 fn cut_mean(total: i64, size: usize) -> i64

@@ -13,7 +13,7 @@ use mir.ValLaws.{toZ-ofZ}
 use Rattle.numbers.specs.Lists.{tabulate}
 use Rattle.numbers.proofs.Stored.{Stored, front-none, front-more, front-all}
 use Rattle.correlation.proofs.Reversed.{map-table}
-use Rattle.correlate_line.proofs.Computed.{computed-read}
+use Rattle.line_sums.proofs.Computed.{computed-read}
 use Rattle.correlate1d.proofs.Stores.{scaled}
 use borrow.Author.Needs.{needs}
 use Rattle.correlate1d.proofs.scale.Statement.{statement}

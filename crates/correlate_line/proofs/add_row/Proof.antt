@@ -8,7 +8,8 @@ use lib.IntN.{pos}
 use lib.ListN.{length}
 use Rattle.numbers.proofs.Stored.{Stored, front-none, front-all}
 use Rattle.correlation.specs.Weighed.{wholeOps, plainTo}
-use Rattle.correlate_line.proofs.Turns.{term, plain-sum, plain-stored}
+use Rattle.line_sums.proofs.Terms.{term}
+use Rattle.correlate_line.proofs.Turns.{plain-sum, plain-stored}
 use borrow.Author.Needs.{needs}
 use Rattle.correlate_line.proofs.add_row.Statement.{statement}
 use Rattle.correlate_line.proofs.add_row.Tie as tie

@@ -4,7 +4,7 @@ use mathlib.Core.Path.{sym, _∙_}
 use denote.Ref.{now}
 use lib.ListN.{length}
 use Rattle.symmetry.specs.declared.SymmetryState.the-variants.{Symmetric, AntiSymmetric}
-use Rattle.correlation.proofs.Classes.{weighed-line}
+use Rattle.correlate_line.proofs.Turns.{class-line}
 use borrow.Author.Needs.{needs}
 use Rattle.correlate_line.proofs.correlate_line.Statement.{statement}
 use Rattle.correlate_line.proofs.correlate_line.Tie as tie
@@ -15,8 +15,8 @@ pays-requires c κs = search needs
 is-narrow-requires : tie.Need-is-narrow-requires
 is-narrow-requires c κs = search needs
 
-narrow-line-requires : tie.Need-narrow-line-requires
-narrow-line-requires c κs = (c .before .before .before .before .before .pre .0, c .before .before .is-narrow .ensures (c .before .if2 .taken))
+raised-line-requires : tie.Need-raised-line-requires
+raised-line-requires c κs = (c .before .before .before .before .before .pre .0, c .before .before .is-narrow .ensures (c .before .if2 .taken))
 
 same-length : tie.Need-same-length
 same-length c = search needs
@@ -33,14 +33,14 @@ plain-line-requires c κs = search needs
 enum-told-2 : tie.Need-enum-told-2
 enum-told-2 c = search needs
 
-symmetric-line-requires : tie.Need-symmetric-line-requires
-symmetric-line-requires c κs = search needs
+pair-line-requires : tie.Need-pair-line-requires
+pair-line-requires c κs = search needs
 
 enum-told-3 : tie.Need-enum-told-3
 enum-told-3 c = search needs
 
-antisymmetric-line-requires : tie.Need-antisymmetric-line-requires
-antisymmetric-line-requires c κs = search needs
+pair-line-requires-2 : tie.Need-pair-line-requires-2
+pair-line-requires-2 c κs = search needs
 
 same-length-2 : tie.Need-same-length-2
 same-length-2 c = search needs
@@ -54,7 +54,7 @@ same-length-3 c = search needs
 returns-3 : tie.Need-returns-3
 returns-3 c =
     let s = c .before .before .before .before .before .before .before in
-    c .before .symmetric-line .ensures ∙ weighed-line (now (s .args .weights)) (now (s .args .line)) (length (now (s .args .out))) Symmetric (sym (c .before .before .before .enum-told2 .given .1) ∙ s .pre .1)
+    class-line (now (s .args .weights)) (now (s .args .line)) (length (now (s .args .out))) Symmetric (c .before .pair-line .ensures) (sym (c .before .before .before .enum-told2 .given .1) ∙ s .pre .1)
 
 same-length-4 : tie.Need-same-length-4
 same-length-4 c = search needs
@@ -62,7 +62,7 @@ same-length-4 c = search needs
 returns-4 : tie.Need-returns-4
 returns-4 c =
     let s = c .before .before .before .before .before .before .before in
-    c .before .antisymmetric-line .ensures ∙ weighed-line (now (s .args .weights)) (now (s .args .line)) (length (now (s .args .out))) AntiSymmetric (sym (c .before .before .before .enum-told3 .given .1) ∙ s .pre .1)
+    class-line (now (s .args .weights)) (now (s .args .line)) (length (now (s .args .out))) AntiSymmetric (c .before .pair-line2 .ensures) (sym (c .before .before .before .enum-told3 .given .1) ∙ s .pre .1)
 
 pub correlate-line-spec : {M : Type 1} → statement M
 correlate-line-spec =
@@ -70,15 +70,15 @@ correlate-line-spec =
     (tie.spec
     pays-requires
     is-narrow-requires
-    narrow-line-requires
+    raised-line-requires
     same-length
     returns
     enum-told
     plain-line-requires
     enum-told-2
-    symmetric-line-requires
+    pair-line-requires
     enum-told-3
-    antisymmetric-line-requires
+    pair-line-requires-2
     same-length-2
     returns-2
     same-length-3

@@ -8,7 +8,7 @@ use lib.IntN.{+ℤ-idl}
 use lib.ListN.{length}
 use Rattle.correlation.specs.Weighed.{wholeOps, plainTo}
 use Rattle.correlation.proofs.Along.{Row, row-length, row-own, row-next, plain-set, plain-end}
-use Rattle.correlate_line.proofs.Turns.{weighable-kept}
+use Rattle.line_sums.proofs.Terms.{weighable-kept}
 use borrow.Author.Needs.{needs}
 use Rattle.correlate_line.proofs.plain_line.Statement.{statement}
 use Rattle.correlate_line.proofs.plain_line.Tie as tie

@@ -9,106 +9,37 @@ use lib.Ieee.{nan}
 use lib.ListN.{length}
 use Rattle.numbers.proofs.Stored.{Stored, front-none, front-all}
 use Rattle.correlation.specs.Weighed.{floatOps, plainTo}
-use Rattle.correlation.proofs.Along.{plain-four}
+use Rattle.correlate_line_f64.proofs.Turns.{four-stored}
 use borrow.Author.Needs.{needs}
 use Rattle.correlate_line_f64.proofs.add_four_rows.Statement.{statement}
 use Rattle.correlate_line_f64.proofs.add_four_rows.Tie as tie
 
 abbrev Inv-loop : tie.InvT-loop
-Inv-loop weights line j out₀ w0 w1 w2 w3 n i₀ out i = (i ≤ n) × (n ≡ length out₀) × Stored nan (λ k. ltb k i) (plainTo floatOps weights line (j + 4)) out₀ out
+Inv-loop weights line j out₀ four n i₀ out i = (i ≤ n) × (n ≡ length out₀) × Stored nan (λ k. ltb k i) (plainTo floatOps weights line (j + 4)) out₀ out
 
 abbrev μ-loop : tie.MeasureT-loop
-μ-loop weights line j out₀ w0 w1 w2 w3 n i₀ out i = n - i
+μ-loop weights line j out₀ four n i₀ out i = n - i
 
-mul-w0 : tie.Need-mul-w0 Inv-loop μ-loop
-mul-w0 c = search needs
-
-shared-slice-read-w0 : tie.Need-shared-slice-read-w0 Inv-loop μ-loop
-shared-slice-read-w0 c = search needs
-
-add-w1 : tie.Need-add-w1 Inv-loop μ-loop
-add-w1 c = search needs
-
-mul-w1 : tie.Need-mul-w1 Inv-loop μ-loop
-mul-w1 c = search needs
-
-shared-slice-read-w1 : tie.Need-shared-slice-read-w1 Inv-loop μ-loop
-shared-slice-read-w1 c = search needs
-
-add-w2 : tie.Need-add-w2 Inv-loop μ-loop
-add-w2 c = search needs
-
-mul-w2 : tie.Need-mul-w2 Inv-loop μ-loop
-mul-w2 c = search needs
-
-shared-slice-read-w2 : tie.Need-shared-slice-read-w2 Inv-loop μ-loop
-shared-slice-read-w2 c = search needs
-
-add-w3 : tie.Need-add-w3 Inv-loop μ-loop
-add-w3 c = search needs
-
-mul-w3 : tie.Need-mul-w3 Inv-loop μ-loop
-mul-w3 c = search needs
-
-shared-slice-read-w3 : tie.Need-shared-slice-read-w3 Inv-loop μ-loop
-shared-slice-read-w3 c = search needs
+four-weights-requires : tie.Need-four-weights-requires Inv-loop μ-loop
+four-weights-requires c κs = search needs
 
 loop-holds : tie.Need-loop-holds Inv-loop μ-loop
 loop-holds c = (search needs, refl, front-none nan _ _)
 
+mul-four-more : tie.Need-mul-four-more Inv-loop μ-loop
+mul-four-more c = search needs
+
+slice-read-four-more : tie.Need-slice-read-four-more Inv-loop μ-loop
+slice-read-four-more c = search needs
+
+add-four-more : tie.Need-add-four-more Inv-loop μ-loop
+add-four-more c = search needs
+
+four-more-requires : tie.Need-four-more-requires Inv-loop μ-loop
+four-more-requires c κs = search needs
+
 mul-out : tie.Need-mul-out Inv-loop μ-loop
 mul-out c = search needs
-
-slice-read-out : tie.Need-slice-read-out Inv-loop μ-loop
-slice-read-out c = search needs
-
-add-out : tie.Need-add-out Inv-loop μ-loop
-add-out c = search needs
-
-mul-out-2 : tie.Need-mul-out-2 Inv-loop μ-loop
-mul-out-2 c = search needs
-
-shared-slice-read-out : tie.Need-shared-slice-read-out Inv-loop μ-loop
-shared-slice-read-out c = search needs
-
-add-out-2 : tie.Need-add-out-2 Inv-loop μ-loop
-add-out-2 c = search needs
-
-add-out-3 : tie.Need-add-out-3 Inv-loop μ-loop
-add-out-3 c = search needs
-
-mul-out-3 : tie.Need-mul-out-3 Inv-loop μ-loop
-mul-out-3 c = search needs
-
-shared-slice-read-out-2 : tie.Need-shared-slice-read-out-2 Inv-loop μ-loop
-shared-slice-read-out-2 c = search needs
-
-add-out-4 : tie.Need-add-out-4 Inv-loop μ-loop
-add-out-4 c = search needs
-
-add-out-5 : tie.Need-add-out-5 Inv-loop μ-loop
-add-out-5 c = search needs
-
-mul-out-4 : tie.Need-mul-out-4 Inv-loop μ-loop
-mul-out-4 c = search needs
-
-shared-slice-read-out-3 : tie.Need-shared-slice-read-out-3 Inv-loop μ-loop
-shared-slice-read-out-3 c = search needs
-
-add-out-6 : tie.Need-add-out-6 Inv-loop μ-loop
-add-out-6 c = search needs
-
-add-out-7 : tie.Need-add-out-7 Inv-loop μ-loop
-add-out-7 c = search needs
-
-mul-out-5 : tie.Need-mul-out-5 Inv-loop μ-loop
-mul-out-5 c = search needs
-
-shared-slice-read-out-4 : tie.Need-shared-slice-read-out-4 Inv-loop μ-loop
-shared-slice-read-out-4 c = search needs
-
-mul-out-6 : tie.Need-mul-out-6 Inv-loop μ-loop
-mul-out-6 c = search needs
 
 slice-write-out : tie.Need-slice-write-out Inv-loop μ-loop
 slice-write-out c = search needs
@@ -121,9 +52,9 @@ loop-less c = search needs
 
 loop-again : tie.Need-loop-again Inv-loop μ-loop
 loop-again c =
-    let s = c .before .before .before .before .before .before .before .before .before .before .before in
-    let l = c .before .before .before .before .before .before .loop in
-    (search needs, l .inv .1, plain-four floatOps (now (s .args .weights)) (now (s .args .line)) (s .args .j) (s .pre .2) (omega arith) (l .inv .2))
+    let s = c .before .before .before .before .before .before .before .before in
+    let l = c .before .before .before .loop in
+    (search needs, l .inv .1, four-stored (now (s .args .weights)) (now (s .args .line)) (s .args .j) (c .before .before .before .before .four-weights .ensures) (s .pre .2) (omega arith) (l .inv .2) (c .four-more .ensures))
 
 same-length : tie.Need-same-length Inv-loop μ-loop
 same-length c = c .before .loop .inv .2 .kept
@@ -137,36 +68,13 @@ add-four-rows-spec =
     (tie.spec
     Inv-loop
     μ-loop
-    mul-w0
-    shared-slice-read-w0
-    add-w1
-    mul-w1
-    shared-slice-read-w1
-    add-w2
-    mul-w2
-    shared-slice-read-w2
-    add-w3
-    mul-w3
-    shared-slice-read-w3
+    four-weights-requires
     loop-holds
+    mul-four-more
+    slice-read-four-more
+    add-four-more
+    four-more-requires
     mul-out
-    slice-read-out
-    add-out
-    mul-out-2
-    shared-slice-read-out
-    add-out-2
-    add-out-3
-    mul-out-3
-    shared-slice-read-out-2
-    add-out-4
-    add-out-5
-    mul-out-4
-    shared-slice-read-out-3
-    add-out-6
-    add-out-7
-    mul-out-5
-    shared-slice-read-out-4
-    mul-out-6
     slice-write-out
     add-i
     loop-less

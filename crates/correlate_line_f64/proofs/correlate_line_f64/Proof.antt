@@ -13,14 +13,14 @@ plain-line-requires c κs = search needs
 enum-told-2 : tie.Need-enum-told-2
 enum-told-2 c = search needs
 
-symmetric-line-requires : tie.Need-symmetric-line-requires
-symmetric-line-requires c κs = search needs
+pair-line-f64-requires : tie.Need-pair-line-f64-requires
+pair-line-f64-requires c κs = search needs
 
 enum-told-3 : tie.Need-enum-told-3
 enum-told-3 c = search needs
 
-antisymmetric-line-requires : tie.Need-antisymmetric-line-requires
-antisymmetric-line-requires c κs = search needs
+pair-line-f64-requires-2 : tie.Need-pair-line-f64-requires-2
+pair-line-f64-requires-2 c κs = search needs
 
 same-length : tie.Need-same-length
 same-length c = search needs
@@ -32,13 +32,13 @@ same-length-2 : tie.Need-same-length-2
 same-length-2 c = search needs
 
 returns-2 : tie.Need-returns-2
-returns-2 c = rw (c .before .before .before .before .enum-told2 .given .1) (c .before .before .symmetric-line .ensures)
+returns-2 c = rw (c .before .before .before .before .enum-told2 .given .1) (c .before .before .pair-line-f64 .ensures)
 
 same-length-3 : tie.Need-same-length-3
 same-length-3 c = search needs
 
 returns-3 : tie.Need-returns-3
-returns-3 c = rw (c .before .before .before .before .enum-told3 .given .1) (c .before .before .antisymmetric-line .ensures)
+returns-3 c = rw (c .before .before .before .before .enum-told3 .given .1) (c .before .before .pair-line-f642 .ensures)
 
 pub correlate-line-f64-spec : {M : Type 1} → statement M
 correlate-line-f64-spec =
@@ -47,9 +47,9 @@ correlate-line-f64-spec =
     enum-told
     plain-line-requires
     enum-told-2
-    symmetric-line-requires
+    pair-line-f64-requires
     enum-told-3
-    antisymmetric-line-requires
+    pair-line-f64-requires-2
     same-length
     returns
     same-length-2

@@ -13,7 +13,7 @@ use mir.Val.{toZ}
 use Rattle.numbers.proofs.Read.{read}
 use Rattle.numbers.proofs.Stored.{Stored, front-none, front-more, front-all}
 use Rattle.correlation.specs.WindowSum.{windowSum}
-use Rattle.correlate_line.proofs.SlidingSum.{sum-computed, left-computed, left-read}
+use Rattle.line_sums.proofs.SlidingSum.{sum-computed, left-computed, left-read}
 use Rattle.uniform_line.specs.Mean.{cut}
 use Rattle.uniform_line.proofs.Sliding.{cells, first-summable, mean-read}
 use borrow.Author.Needs.{needs}

@@ -3,7 +3,7 @@
 use mathlib.Core.Path.{_≡_, _∙_}
 use native.Mathlib.Omega.{arith}
 use Rattle.numbers.proofs.Size.{Size}
-use Rattle.correlate_line.proofs.Computed.{computed-level, computed-read}
+use Rattle.line_sums.proofs.Computed.{computed-level, computed-read}
 use Rattle.correlate_grid.specs.ByRows.{rowFor}
 use Prim.Native.Nat.{_+_, _/_, _%_, _≤_}
 use denote.Ref.{now}

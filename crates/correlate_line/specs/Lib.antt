@@ -1,3 +1,0 @@
--- What the line workers suppose.
-pub mod Sizes
-pub mod Raised

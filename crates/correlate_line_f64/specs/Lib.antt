@@ -1,2 +1,0 @@
--- What the line workers suppose.
-pub mod Lengths

@@ -1,0 +1,3 @@
+-- Laws of numbers that may be raised, leaves first.
+pub mod LowBits
+pub mod RaisedLists

@@ -1,0 +1,2 @@
+-- Numbers that may be raised.
+pub mod Narrow

@@ -1,0 +1,2 @@
+-- Laws of the sums by pairs.
+pub mod Turns

@@ -1,0 +1,3 @@
+-- Laws of the row that raised sums start from, leaves first.
+pub mod RaisedBase
+pub mod RaisedStart

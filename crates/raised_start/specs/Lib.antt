@@ -1,0 +1,2 @@
+-- Weighted sums of raised numbers.
+pub mod Raised

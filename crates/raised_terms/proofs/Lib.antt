@@ -1,0 +1,2 @@
+-- Laws of raised numbers on the machine.
+pub mod RaisedNumber

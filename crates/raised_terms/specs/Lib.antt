@@ -1,0 +1,2 @@
+-- Products of raised numbers.
+pub mod Products

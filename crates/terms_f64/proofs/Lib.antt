@@ -1,0 +1,2 @@
+-- A law of joined pairs.
+pub mod Told

@@ -1,0 +1,2 @@
+-- Terms of a float sum.
+pub mod Four
