@@ -1,2 +1,3 @@
--- Laws of the running sum.
+-- Laws of the running sum, and of the quotient at 32 bits.
 pub mod Sliding
+pub mod Narrow
