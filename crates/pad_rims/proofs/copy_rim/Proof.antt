@@ -6,8 +6,8 @@ use native.Mathlib.Omega.{arith}
 use denote.Ref.{now}
 use lib.ListN.{length}
 use Rattle.pad_frame.specs.Runs.{InRim, readFrom, rimSet}
-use Rattle.pad_rims.proofs.CopiedRims.{RimStored, rim-none, rim-more, rim-all, rim-below, rim-off, read-middle}
-use Rattle.pad_rims.proofs.Steps.{one-lane, lane-runs}
+use Rattle.pad_steps.proofs.CopiedRims.{RimStored, rim-none, rim-more, rim-all, rim-below, rim-off, read-middle}
+use Rattle.pad_steps.proofs.Steps.{one-lane, lane-runs}
 use borrow.Author.Needs.{needs}
 use Rattle.pad_rims.proofs.copy_rim.Statement.{statement}
 use Rattle.pad_rims.proofs.copy_rim.Tie as tie

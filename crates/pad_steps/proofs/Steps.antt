@@ -18,8 +18,8 @@ use Rattle.border.specs.declared.Along.the-variants.{Nearest, Mirror, Reflect, 
 use Rattle.pad_line.specs.Line.{badAlong}
 use Rattle.pad_frame.specs.Runs.{Runs, InRim, readFrom}
 use Rattle.pad_copy.proofs.RunByRun.{lane-one}
-use Rattle.pad_rims.specs.Steps.{stepUp, stepDown}
-use Rattle.pad_rims.proofs.CopiedRims.{RimStored, rim-more, rim-below, rim-off, read-middle}
+use Rattle.pad_steps.specs.Steps.{stepUp, stepDown}
+use Rattle.pad_steps.proofs.CopiedRims.{RimStored, rim-more, rim-below, rim-off, read-middle}
 
 pub up-small : (m : Along) (j : ℕ) → stepUp m * j ≤ j
 up-small Nearest j = omega arith

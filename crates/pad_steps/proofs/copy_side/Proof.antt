@@ -1,4 +1,4 @@
--- `pad_rims::copy_side` meets its contract: the cells of the rim are read step by step, from the lane's own cells.
+-- `pad_steps::copy_side` meets its contract: the cells of the rim are read step by step, from the lane's own cells.
 -- Assumes nothing.
 use mathlib.Core.Path.{_≡_, refl, sym}
 use Prim.Native.Nat.{ℕ, _+_, _-_, _*_, _≤_, _<_}
@@ -8,11 +8,11 @@ use lib.ListN.{length}
 use Rattle.numbers.proofs.Read.{read}
 use Rattle.border.specs.declared.Along.{Along}
 use Rattle.pad_frame.specs.Runs.{Runs}
-use Rattle.pad_rims.proofs.CopiedRims.{RimStored, rim-none, rim-all}
-use Rattle.pad_rims.proofs.Steps.{StepsOf, on-small, back-small, step-at, step-in, side-below, side-more}
+use Rattle.pad_steps.proofs.CopiedRims.{RimStored, rim-none, rim-all}
+use Rattle.pad_steps.proofs.Steps.{StepsOf, on-small, back-small, step-at, step-in, side-below, side-more}
 use borrow.Author.Needs.{needs}
-use Rattle.pad_rims.proofs.copy_side.Statement.{statement}
-use Rattle.pad_rims.proofs.copy_side.Tie as tie
+use Rattle.pad_steps.proofs.copy_side.Statement.{statement}
+use Rattle.pad_steps.proofs.copy_side.Tie as tie
 
 -- the loop does not know the mode, only its steps
 abbrev Inv-loop : tie.InvT-loop
