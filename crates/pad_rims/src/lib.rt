@@ -1,21 +1,12 @@
-// Both rims of the lanes of an axis, copied coordinate by coordinate from the lanes' own cells, which never change.
+// Both rims of the lanes of an axis, copied from the lanes' own cells, which never change: coordinate by coordinate, and in a single lane step by step.
 ghost use mathlib.Core.Path.{_≡_};
 ghost use Prim.Native.Nat.{ℕ, _+_, _≤_, _<_};
 ghost use lib.ListN.{length};
-ghost use Rattle.pad_frame.specs.Runs.{Runs, InRim, readFrom, rimSet, axisSet};
+ghost use Rattle.pad_frame.specs.Runs.{Runs, InRim, rimSet, axisSet};
 use border::Along;
 use pad_copy::copy_coordinate;
-
-// The coordinate that a coordinate in a rim reads; the lane's own cells are the n from `left` on.
-fn read_from(mode: Along, left: usize, n: usize, p: usize, k: usize) -> usize
-    requires { ⌜ (left + n ≤ p) × (p ≤ 1152) × InRim left n p k ⌝ }
-    ensures { λ r. ⌜ r ≡ readFrom mode left n k ⌝ }
-{
-    if k < left {
-        return left + border::cell_before(mode, n, left - k);
-    }
-    left + border::cell_after(mode, n, k + 1 - (left + n))
-}
+use pad_steps::copy_side;
+use pad_steps::read_from;
 
 // Fills `count` coordinates of the axis, those from `a` on, which are in one rim.
 fn copy_rim(
@@ -32,6 +23,11 @@ fn copy_rim(
     requires { ⌜ Runs mode p s blocks left n (length (now out)) × ((k : ℕ) → a ≤ k → k < a + count → InRim left n p k) ⌝ }
     ensures { λ _. ⌜ now (out .exit) ≡ rimSet mode p s left n a count (now (out .entry)) ⌝ }
 {
+    if out.len() == p {
+        // The grid is one lane.
+        copy_side(mode, p, left, n, a, count, out);
+        return;
+    }
     let mut j = 0;
     while j < count {
         let at = a + j;

@@ -23,7 +23,7 @@ use Rattle.pad_line.specs.Line.{paddedAt}
 use Rattle.pad_axis.proofs.Rims.{ownOf, length-own, getD-own}
 use Rattle.pad_frame.specs.Runs.{Runs, extendedAt, axisSet}
 use Rattle.pad_frame.proofs.OneRow.{onRow, row-yes, row-in, row-no, stored-over}
-use Rattle.pad_rims.proofs.CopiedRims.{some-cells, cell-in}
+use Rattle.pad_steps.proofs.CopiedRims.{some-cells, cell-in}
 
 -- ---- a part put back: the places from a on hold it
 pub part-put : {A : Type 0} (d : A) (a n : ℕ) (g part : List A) → a + n ≤ length g → length part ≡ n → Stored d (onRow a n) (λ k. getD part (k - a) d) g (putMid a (a + n - a) g part)

@@ -4,7 +4,7 @@ use mathlib.Core.Path.{refl, sym, subst}
 use native.Mathlib.Omega.{arith}
 use denote.Ref.{now}
 use Rattle.pad_frame.specs.Runs.{Runs}
-use Rattle.pad_rims.proofs.CopiedRims.{rim-before, rim-beyond, rims-all}
+use Rattle.pad_steps.proofs.CopiedRims.{rim-before, rim-beyond, rims-all}
 use borrow.Author.Needs.{needs}
 use Rattle.pad_rims.proofs.copy_rims.Statement.{statement}
 use Rattle.pad_rims.proofs.copy_rims.Tie as tie

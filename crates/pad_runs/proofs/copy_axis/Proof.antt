@@ -2,7 +2,6 @@
 -- Assumes nothing.
 use mathlib.Core.Path.{_≡_, refl}
 use Prim.Native.Nat.{_/_, _*_}
-use native.Mathlib.Nat.{div-le-self}
 use native.Mathlib.Omega.{arith}
 use denote.Ref.{now}
 use lib.ListN.{length, getD}
@@ -32,12 +31,6 @@ div-blocks c =
     let s = c .before .before .before .before .before .before in
     block-some (s .args .mode) (s .pre .0) (s .pre .1) (c .before .before .len-of .ensures) (c .before .len-of2 .ensures) (c .stride-of .ensures) (s .pre .2)
 
-div-few : tie.Need-div-few
-div-few c = div-blocks c
-
-add-few : tie.Need-add-few
-add-few c = omega (arith, div-le-self 4096 (c .before .before .len-of .result * c .stride-of .result))
-
 -- the padded grid is blocks of runs
 runs : (c : tie.After-stride-of) → let a = c .before .before .before .before .before .before .args in
     let p = c .before .before .len-of .result in
@@ -47,6 +40,12 @@ runs c =
     let s = c .before .before .before .before .before .before in
     axis-runs (s .args .mode) (s .pre .0) (s .pre .1) (c .before .before .len-of .ensures) (c .before .len-of2 .ensures) (c .stride-of .ensures) (s .pre .2)
 
+sub-few-blocks : tie.Need-sub-few-blocks
+sub-few-blocks c = let R = runs c in omega (arith, R .room)
+
+few-blocks-requires : tie.Need-few-blocks-requires
+few-blocks-requires c κs = div-blocks c
+
 mul-copy-blocks : tie.Need-mul-copy-blocks
 mul-copy-blocks c = search needs
 
@@ -54,14 +53,14 @@ shared-slice-read-copy-blocks : tie.Need-shared-slice-read-copy-blocks
 shared-slice-read-copy-blocks c = search needs
 
 copy-blocks-requires : tie.Need-copy-blocks-requires
-copy-blocks-requires c κs = (runs (c .before .before), omega arith)
+copy-blocks-requires c κs = (runs (c .before .before .before), c .before .before .few-blocks .ensures)
 
 same-length : tie.Need-same-length
 same-length c = search needs
 
 returns : tie.Need-returns
 returns c =
-    let t = c .before .before .before .before in
+    let t = c .before .before .before .before .before in
     let s = t .before .before .before .before .before .before in
     axis-copied (s .args .mode) (s .pre .0) (s .pre .1) (t .before .before .len-of .ensures) (t .before .len-of2 .ensures) (t .stride-of .ensures) (s .pre .2) (now (s .args .out)) (c .before .copy-blocks .ensures) refl
 
@@ -74,8 +73,8 @@ copy-axis-spec =
     stride-of-requires
     mul-block
     div-blocks
-    div-few
-    add-few
+    sub-few-blocks
+    few-blocks-requires
     mul-copy-blocks
     shared-slice-read-copy-blocks
     copy-blocks-requires

@@ -1,2 +1,3 @@
 -- Laws of the rims that are copied.
 pub mod CopiedRims
+pub mod Steps

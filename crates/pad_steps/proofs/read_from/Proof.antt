@@ -1,14 +1,14 @@
--- `pad_rims::read_from` meets its contract, before the lane's own cells and after them; no sum wraps.
+-- `pad_steps::read_from` meets its contract, before the lane's own cells and after them; no sum wraps.
 -- Assumes nothing.
 use mathlib.Core.Path.{_≡_, sym, ap, _∙_}
 use Prim.Native.Nat.{_+_, _-_, _≤_}
 use native.Mathlib.Omega.{arith}
 use borrow.Author.Tests.{lt-ltb, le-ltb}
 use Rattle.numbers.proofs.Tests.{cond-yes, cond-no}
-use Rattle.pad_rims.proofs.CopiedRims.{rim-below, rim-after, before-small, after-small}
+use Rattle.pad_steps.proofs.CopiedRims.{rim-below, rim-after, before-small, after-small}
 use borrow.Author.Needs.{needs}
-use Rattle.pad_rims.proofs.read_from.Statement.{statement}
-use Rattle.pad_rims.proofs.read_from.Tie as tie
+use Rattle.pad_steps.proofs.read_from.Statement.{statement}
+use Rattle.pad_steps.proofs.read_from.Tie as tie
 
 sub-cell-before : tie.Need-sub-cell-before
 sub-cell-before c = search needs

@@ -1,0 +1,22 @@
+-- `pad_runs::few_blocks` meets its contract: there is always one; no sum wraps.
+-- Assumes nothing.
+use native.Mathlib.Nat.{div-le-self}
+use native.Mathlib.Omega.{arith}
+use borrow.Author.Needs.{needs}
+use Rattle.pad_runs.proofs.few_blocks.Statement.{statement}
+use Rattle.pad_runs.proofs.few_blocks.Tie as tie
+
+returns : tie.Need-returns
+returns c = search needs
+
+div-result : tie.Need-div-result
+div-result c = search needs
+
+add-result : tie.Need-add-result
+add-result c = omega (arith, div-le-self 4096 (c .before .args .block))
+
+returns-2 : tie.Need-returns-2
+returns-2 c = search needs
+
+pub few-blocks-spec : {M : Type 1} → statement M
+few-blocks-spec = tie.close (tie.spec returns div-result add-result returns-2)

@@ -1,0 +1,2 @@
+-- How a rim is read.
+pub mod Steps
