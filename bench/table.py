@@ -22,12 +22,17 @@ def main():
         beside = "%10.3f %8.2f" % (scipy[name], scipy[name] / ours) if name in scipy else "%10s %8s" % ("-", "-")
         print("%-62s %10.3f %10.3f %8.2f %s" % (name, theirs, ours, quotient, beside))
     calls = {}
-    for quotient, name, _, _ in rows:
-        calls.setdefault(name.split()[0], []).append(quotient)
+    for quotient, name, _, ours in rows:
+        rust, other = calls.setdefault(name.split()[0], ([], []))
+        rust.append(quotient)
+        if name in scipy:
+            other.append(scipy[name] / ours)
     print()
-    print("%-20s %6s %10s %10s" % ("call", "cases", "smallest", "mean"))
-    for call, quotients in sorted(calls.items(), key=lambda kept: min(kept[1])):
-        print("%-20s %6d %10.2f %10.2f" % (call, len(quotients), min(quotients), mean(quotients)))
+    print("%-20s %6s %7s %9s %9s %9s %9s" % ("call", "cases", "slower", "smallest", "mean", "SciPy's", "mean"))
+    for call, (rust, other) in sorted(calls.items(), key=lambda kept: min(kept[1][0])):
+        slower = sum(quotient < 1 for quotient in rust)
+        beside = "%9.2f %9.2f" % (min(other), mean(other)) if other else "%9s %9s" % ("-", "-")
+        print("%-20s %6d %7d %9.2f %9.2f %s" % (call, len(rust), slower, min(rust), mean(rust), beside))
     if scipy:
         beside = [(scipy[name] / ours, name) for _, name, _, ours in rows if name in scipy]
         print("\nSciPy: smallest quotient %.2f (%s), geometric mean %.2f over %d cases"
