@@ -4,7 +4,7 @@ use mathlib.Core.Path.{_≡_, refl, sym, ap, _∙_}
 use mathlib.Core.Bool.{Bool, true, false, _&&_}
 use mathlib.Core.List.{List}
 use Prim.Native.Nat.{ℕ, zero, suc, _+_, _*_, _-_, _/_, _%_, _≤_, _<_, _^_}
-use native.Mathlib.Nat.{not-suc-le-zero, suc-mul, add-mul, mul-assoc, mul-le-mul, le-refl, le-trans, div-le-self, mod-lt, div-add-mod', div-lt-iff-lt-mul}
+use native.Mathlib.Nat.{not-suc-le-zero, suc-mul, add-mul, mul-assoc, mul-le-mul, le-refl, le-trans, div-le-self, mod-lt, mod-eq-of-lt, div-one, div-eq-of-lt, div-add-mod', div-lt-iff-lt-mul, mul-one, zero-mul}
 use native.Mathlib.Omega.{arith}
 use borrow.Author.Tests.{le-leb, lt-ltb, leb-true, ltb-true, eqb-true, eqb-false, eq-eqb}
 use lib.Arith.{digits-lt, digits-div, digits-mod, mod-mul}
@@ -97,6 +97,15 @@ base-over n s l pn = omega (arith, div-add-mod' l s, mul-le-mul (le-refl (l / s)
 pub base-small : {n s l c : ℕ} → n ≤ c → s ≤ c → l ≤ c → 0 < s → c ≤ 32768 → laneBase n s l < 2 ^ 46
 base-small {n} {s} {l} {c} hn hs hl ps hc =
     omega (arith, mul-le-mul (le-trans (div-le-self l s) (le-trans hl hc)) (mul-le-mul (le-trans hn hc) (le-trans hs hc)), mod-lt l ps)
+
+-- a lane of neighbouring cells, and one of the first run of lanes
+pub base-neighbours : (n l : ℕ) → laneBase n 1 l ≡ l * n
+base-neighbours n l =
+    let e : l / 1 * (n * 1) ≡ l * n = (λ j. div-one l j * mul-one n j) in
+    omega (arith, mod-lt l {m = 1} (le-refl 1), e)
+
+pub base-first : (n : ℕ) {s l : ℕ} → l < s → laneBase n s l ≡ l
+base-first n {s} {l} h = omega (arith, ap (λ q. q * (n * s)) (div-eq-of-lt h), zero-mul (n * s), mod-eq-of-lt h)
 
 -- ---- a lane that is inside
 pub record Inside (n s l count : ℕ) : Type 0 where

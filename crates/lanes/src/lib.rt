@@ -1,7 +1,7 @@
 // The lanes of an axis: how long, how far apart and how many they are, and where a lane starts. `lane_cells` and `lane_cells_f64` read and write them.
 ghost use mathlib.Core.Path.{_≡_};
 ghost use mathlib.Core.Bool.{cond};
-ghost use Prim.Native.Nat.{ℕ, _≤_};
+ghost use Prim.Native.Nat.{ℕ, _≤_, _<_};
 ghost use lib.ListN.{length};
 ghost use Rattle.array.specs.Grid.{lengthOf, strideOf};
 ghost use Rattle.lanes.specs.Rows.{LanesRows};
@@ -52,6 +52,20 @@ pub fn lanes_of(shape: &[usize], axis: usize) -> Lanes
     }
 }
 
+// The place of a lane's first cell. Lanes of neighbouring cells, and those of an axis that has none before it, need no division.
+fn base_of(n: usize, stride: usize, lane: usize) -> usize
+    requires { ⌜ (0 < stride) × (n ≤ 32768) × (stride ≤ 32768) × (lane ≤ 32768) ⌝ }
+    ensures { λ r. ⌜ r ≡ laneBase n stride lane ⌝ }
+{
+    if stride == 1 {
+        return lane * n;
+    }
+    if lane < stride {
+        return lane;
+    }
+    lane / stride * (n * stride) + lane % stride
+}
+
 // The place of the first cell of a lane that is inside the grid, and the count of the grid's cells where it is not.
 //
 // * `count` - how many cells the grid has; a lane of a grid of over 32,768 cells is not inside.
@@ -80,7 +94,7 @@ pub fn first_place(count: usize, n: usize, stride: usize, lane: usize) -> usize
     if count <= lane {
         return count;
     }
-    let base = lane / stride * (n * stride) + lane % stride;
+    let base = base_of(n, stride, lane);
     if count <= base + (n - 1) * stride {
         return count;
     }

@@ -1,6 +1,6 @@
 -- `lanes::first_place` meets its contract: each early return has a reason why the lane is not inside, and past all of them it is; no product wraps.
 -- Assumes nothing.
-use mathlib.Core.Path.{sym}
+use mathlib.Core.Path.{sym, _∙_}
 use Prim.Native.Nat.{ℕ, _-_, _*_, _≤_, _<_, _^_}
 use native.Mathlib.Nat.{mul-le-mul, le-refl, le-trans, le-of-lt}
 use native.Mathlib.Omega.{arith}
@@ -29,40 +29,35 @@ returns-5 c = let a = c .before .before .before .before .before .args in sym (co
 returns-6 : tie.Need-returns-6
 returns-6 c = let a = c .before .before .before .before .before .before .args in sym (cond-no _ _ _ (inside-no (a .n) (a .stride) (a .lane) (a .count) (λ I. omega (arith, base-over (a .n) (a .stride) (a .lane) (I .some)))))
 
-div-base : tie.Need-div-base
-div-base c = search needs
+base-of-requires : tie.Need-base-of-requires
+base-of-requires c κs = (omega arith, omega arith, omega arith, omega arith)
 
 -- the tests passed so far keep every product small
-base-fits : (c : tie.Else6) → let a = c .before .before .before .before .before .before .args in laneBase (a .n) (a .stride) (a .lane) < 2 ^ 46
-base-fits c = base-small (c .before .if5 .left) (c .before .before .if4 .left) (le-of-lt (c .if6 .left)) (search needs) (search needs)
+base-fits : (c : tie.After-base-of) → c .base-of .result < 2 ^ 46
+base-fits c =
+    let e = c .before in
+    rw (c .base-of .ensures) (base-small (e .before .if5 .left) (e .before .before .if4 .left) (le-of-lt (e .if6 .left)) (search needs) (search needs))
 
 run-fits : (m s c : ℕ) → m ≤ c → s ≤ c → c ≤ 32768 → m * s < 2 ^ 31
 run-fits m s c h k l = omega (arith, mul-le-mul (le-trans h l) (le-trans k l))
 
-mul-base : tie.Need-mul-base
-mul-base c = let a = c .before .before .before .before .before .before .args in omega (arith, run-fits (a .n) (a .stride) (a .count) (omega arith) (omega arith) (omega arith))
-
-mul-base-2 : tie.Need-mul-base-2
-mul-base-2 c = omega (arith, base-fits c)
-
-rem-base : tie.Need-rem-base
-rem-base c = search needs
-
-add-base : tie.Need-add-base
-add-base c = omega (arith, base-fits c)
-
 mul-if7 : tie.Need-mul-if7
-mul-if7 c = let a = c .before .before .before .before .before .before .args in omega (arith, run-fits (a .n - 1) (a .stride) (a .count) (omega arith) (omega arith) (omega arith))
+mul-if7 c = let a = c .before .before .before .before .before .before .before .args in omega (arith, run-fits (a .n - 1) (a .stride) (a .count) (omega arith) (omega arith) (omega arith))
 
 add-if7 : tie.Need-add-if7
-add-if7 c = let a = c .before .before .before .before .before .before .args in omega (arith, base-fits c, run-fits (a .n - 1) (a .stride) (a .count) (omega arith) (omega arith) (omega arith))
+add-if7 c = let a = c .before .before .before .before .before .before .before .args in omega (arith, base-fits c, run-fits (a .n - 1) (a .stride) (a .count) (omega arith) (omega arith) (omega arith))
 
 returns-7 : tie.Need-returns-7
-returns-7 c = let a = c .before .before .before .before .before .before .before .args in sym (cond-no _ _ _ (inside-no (a .n) (a .stride) (a .lane) (a .count) (λ I. omega arith)))
+returns-7 c =
+    let a = c .before .before .before .before .before .before .before .before .args in
+    let e = c .before .base-of .ensures in
+    sym (cond-no _ _ _ (inside-no (a .n) (a .stride) (a .lane) (a .count) (λ I. omega arith)))
 
 returns-8 : tie.Need-returns-8
-returns-8 c = let a = c .before .before .before .before .before .before .before .args in
-    sym (cond-yes _ _ _ (inside-yes (record { small = omega arith; some = omega arith; apart = omega arith; short = omega arith; last = omega arith })))
+returns-8 c =
+    let a = c .before .before .before .before .before .before .before .before .args in
+    let e = c .before .base-of .ensures in
+    e ∙ sym (cond-yes _ _ _ (inside-yes (record { small = omega arith; some = omega arith; apart = omega arith; short = omega arith; last = omega arith })))
 
 pub first-place-spec : {M : Type 1} → statement M
 first-place-spec =
@@ -74,11 +69,7 @@ first-place-spec =
     returns-4
     returns-5
     returns-6
-    div-base
-    mul-base
-    mul-base-2
-    rem-base
-    add-base
+    base-of-requires
     mul-if7
     add-if7
     returns-7
