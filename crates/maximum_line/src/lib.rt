@@ -8,6 +8,7 @@ ghost use Rattle.minlist.specs.Firsts.{Served, firsts, sweptBy};
 use minlist::Pair;
 use minlist::place;
 use minlist::serves;
+use three_cells::three_cells;
 
 // Writes the greatest of line[i .. i + len] to each cell i of out.
 fn maximum_cells(line: &[i64], len: usize, out: &mut [i64])
@@ -93,7 +94,12 @@ fn maximum_cells(line: &[i64], len: usize, out: &mut [i64])
 pub fn maximum_line(line: &[i64], len: usize, out: &mut [i64])
     ensures { λ _. ⌜ now (out .exit) ≡ sweptBy atLeast (now (line .entry)) len (now (out .entry)) ⌝ }
 {
-    if serves(line.len(), len, out.len()) {
-        maximum_cells(line, len, out);
+    if !serves(line.len(), len, out.len()) {
+        return;
     }
+    if len == 3 {
+        three_cells(true, line, out);
+        return;
+    }
+    maximum_cells(line, len, out);
 }

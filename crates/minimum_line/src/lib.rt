@@ -8,6 +8,7 @@ ghost use Rattle.minlist.specs.Firsts.{Served, firsts, sweptBy};
 use minlist::Pair;
 use minlist::place;
 use minlist::serves;
+use three_cells::three_cells;
 
 // Writes the least of line[i .. i + len] to each cell i of out.
 fn minimum_cells(line: &[i64], len: usize, out: &mut [i64])
@@ -93,7 +94,12 @@ fn minimum_cells(line: &[i64], len: usize, out: &mut [i64])
 pub fn minimum_line(line: &[i64], len: usize, out: &mut [i64])
     ensures { λ _. ⌜ now (out .exit) ≡ sweptBy leZ (now (line .entry)) len (now (out .entry)) ⌝ }
 {
-    if serves(line.len(), len, out.len()) {
-        minimum_cells(line, len, out);
+    if !serves(line.len(), len, out.len()) {
+        return;
     }
+    if len == 3 {
+        three_cells(false, line, out);
+        return;
+    }
+    minimum_cells(line, len, out);
 }

@@ -15,7 +15,7 @@ use Rattle.numbers.specs.Lists.{tabulate}
 use Rattle.numbers.specs.Order.{atLeast}
 use Rattle.numbers.specs.Rows.{wholes}
 use Rattle.minlist.specs.declared.Pair.{Pair}
-use Rattle.minlist.specs.Firsts.{firsts, serving, sweptBy}
+use Rattle.minlist.specs.Firsts.{orderOf, firsts, serving, sweptBy}
 use Rattle.minlist.specs.Ring.{placeOf, itemsFrom}
 
 abbrev pub padded : List ℤ
@@ -31,6 +31,8 @@ abbrev pub full : List Pair
 full = tabulate (λ k. record { val = pos 0; death = k }) 0 65
 
 pub record MinlistRows : Type 0 where
+  -- 3 comes before 2 in the order of the greatest, not in that of the least
+  pub orders : orderOf true (pos 3) (pos 2) ∷ orderOf false (pos 3) (pos 2) ∷ [] ≡ true ∷ false ∷ []
   -- T4: windows of 3, then windows of 2 and one of the whole line
   pub least-three : leasts 3 4 ≡ wholes (2 ∷ 2 ∷ 1 ∷ 1 ∷ [])
   pub greatest-three : greatests 3 4 ≡ wholes (4 ∷ 7 ∷ 7 ∷ 7 ∷ [])

@@ -11,6 +11,7 @@ use Rattle.minlist.proofs.rows.Tie as tie
 returns : tie.Need-returns
 unfolding tabulate windowOf firsts sweptBy placeOf itemsFrom
 returns c = record {
+  orders = refl;
   least-three = refl;
   greatest-three = refl;
   least-two = refl;
