@@ -62,7 +62,7 @@ module _ {A : Type 0} (t : A → Bool) where
   any-padded d b left right n s l g z q e = any-table _ 0 _ (at-padded d b left (lane d n s l g) z q (any-lane d n s l g z e))
 
 -- ---- a lane with room serves the filter
-module _ {b : Border ℤ} {s l left right : ℕ} {g line₀ swept₀ out₀ : List ℤ} (R : Room b s l left right g line₀ swept₀ out₀) where
+module _ {b : Border ℤ} {s l base left right : ℕ} {g line₀ swept₀ out₀ : List ℤ} (R : Room b s l base left right g line₀ swept₀ out₀) where
   served : 1 < left + right + 1 → Served (length (paddedLine (pos 0) b left right (lane (pos 0) (length swept₀) s l g))) (left + right + 1) (length swept₀)
   served h =
       let p = length-line (pos 0) R in

@@ -33,7 +33,7 @@ fn filter_line(filter: LineFilter, weights: &[i64], size: usize, line: &[i64], o
     }
 }
 
-// Writes to a lane of out the filtered lane of data. The line has room for the padded lane, and swept is as long as the lane.
+// Writes to a lane of out the filtered lane of data, which starts at place base. The line has room for the padded lane, and swept is as long as the lane.
 fn filter_lane(
     filter: LineFilter,
     weights: &[i64],
@@ -41,20 +41,21 @@ fn filter_lane(
     data: &[i64],
     stride: usize,
     lane: usize,
+    base: usize,
     left: usize,
     right: usize,
     line: &mut [i64],
     swept: &mut [i64],
     out: &mut [i64],
 )
-    requires { ⌜ Room (borderOf mode) stride lane left right (now «data») (now line) (now swept) (now out) × Supposed filter (now weights) (left + right + 1) (borderOf mode) (now «data») ⌝ }
+    requires { ⌜ Room (borderOf mode) stride lane base left right (now «data») (now line) (now swept) (now out) × Supposed filter (now weights) (left + right + 1) (borderOf mode) (now «data») ⌝ }
     ensures { λ _. ⌜ now (out .exit) ≡ withLane (pos 0) (length (now (swept .entry))) stride lane (filteredLane (pos 0) (filtered filter (now (weights .entry)) (left + right + 1)) (borderOf mode) left right (laneOf (pos 0) (length (now (swept .entry))) stride lane (now («data» .entry)))) (now (out .entry)) ⌝ }
 {
     let n = swept.len();
-    pad_line::pad_lane(data, stride, lane, n, mode, left, right, line);
+    pad_line::pad_from(data, base, stride, n, mode, left, right, line);
     let total = left + n + right;
     filter_line(filter, weights, left + right + 1, &line[..total], swept);
-    lane_cells::write_lane(swept, stride, lane, out);
+    lane_cells::write_from(swept, stride, lane, base, out);
 }
 
 // As filter_lane, on every lane of the axis. The line and swept are buffers, of 1,088 cells and as long as the axis.
@@ -75,8 +76,13 @@ fn filter_lanes(
     ensures { λ _. ⌜ now (out .exit) ≡ alongAxis (pos 0) (filteredLane (pos 0) (filtered filter (now (weights .entry)) (left + right + 1)) (borderOf mode) left right) (now (shape .entry)) axis (now («data» .entry)) ⌝ }
 {
     let along = lanes::lanes_of(shape, axis);
+    let n = along.len;
     let stride = along.stride;
     let count = along.count;
+    let mut start = lanes::Start {
+        place: 0,
+        offset: 0,
+    };
     let mut lane = 0;
     while lane < count {
         filter_lane(
@@ -86,12 +92,14 @@ fn filter_lanes(
             data,
             stride,
             lane,
+            start.place,
             left,
             right,
             line,
             swept,
             out,
         );
+        start = lanes::next_start(n, stride, lane, start);
         lane += 1;
     }
 }

@@ -36,6 +36,30 @@ fn scatter(line: &[i64], stride: usize, lane: usize, base: usize, grid: &mut [i6
     }
 }
 
+// Copies the cells from base on, stride apart, into the line. Of 1 2 3 4 5 6 the two cells from place 1 on, 3 apart, are 2 5.
+pub fn read_from(grid: &[i64], base: usize, stride: usize, line: &mut [i64])
+    requires { ⌜ base + length (now line) * stride < length (now grid) + stride ⌝ }
+    ensures { λ _. ⌜ now (line .exit) ≡ laneAt (pos 0) (now (grid .entry)) base stride (length (now (line .entry))) ⌝ }
+{
+    if stride == 1 {
+        gather(grid, base, 1, line);
+        return;
+    }
+    gather(grid, base, stride, line);
+}
+
+// Copies the line to the cells of the lane, whose first cell is at base.
+pub fn write_from(line: &[i64], stride: usize, lane: usize, base: usize, grid: &mut [i64])
+    requires { ⌜ (0 < length (now line)) × (0 < stride) × (base ≡ laneBase (length (now line)) stride lane) × (base + length (now line) * stride < length (now grid) + stride) ⌝ }
+    ensures { λ _. ⌜ now (grid .exit) ≡ withLane (pos 0) (length (now (line .entry))) stride lane (now (line .entry)) (now (grid .entry)) ⌝ }
+{
+    if stride == 1 {
+        scatter(line, 1, lane, base, grid);
+        return;
+    }
+    scatter(line, stride, lane, base, grid);
+}
+
 // Reads a lane of the grid into the line.
 //
 // * `grid` - the cells of the grid.
@@ -53,11 +77,7 @@ pub fn read_lane(grid: &[i64], stride: usize, lane: usize, line: &mut [i64])
     if base == count {
         return;
     }
-    if stride == 1 {
-        gather(grid, base, 1, line);
-        return;
-    }
-    gather(grid, base, stride, line);
+    read_from(grid, base, stride, line);
 }
 
 // Writes the line to a lane of the grid; the arguments are those of `read_lane`.
@@ -72,9 +92,5 @@ pub fn write_lane(line: &[i64], stride: usize, lane: usize, grid: &mut [i64])
     if base == count {
         return;
     }
-    if stride == 1 {
-        scatter(line, 1, lane, base, grid);
-        return;
-    }
-    scatter(line, stride, lane, base, grid);
+    write_from(line, stride, lane, base, grid);
 }

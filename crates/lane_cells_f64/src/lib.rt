@@ -35,6 +35,30 @@ fn scatter_f64(line: &[f64], stride: usize, lane: usize, base: usize, grid: &mut
     }
 }
 
+// As `lane_cells::read_from`, of float levels.
+pub fn read_from_f64(grid: &[f64], base: usize, stride: usize, line: &mut [f64])
+    requires { ⌜ base + length (now line) * stride < length (now grid) + stride ⌝ }
+    ensures { λ _. ⌜ now (line .exit) ≡ laneAt nan (now (grid .entry)) base stride (length (now (line .entry))) ⌝ }
+{
+    if stride == 1 {
+        gather_f64(grid, base, 1, line);
+        return;
+    }
+    gather_f64(grid, base, stride, line);
+}
+
+// As `lane_cells::write_from`, of float levels.
+pub fn write_from_f64(line: &[f64], stride: usize, lane: usize, base: usize, grid: &mut [f64])
+    requires { ⌜ (0 < length (now line)) × (0 < stride) × (base ≡ laneBase (length (now line)) stride lane) × (base + length (now line) * stride < length (now grid) + stride) ⌝ }
+    ensures { λ _. ⌜ now (grid .exit) ≡ withLane nan (length (now (line .entry))) stride lane (now (line .entry)) (now (grid .entry)) ⌝ }
+{
+    if stride == 1 {
+        scatter_f64(line, 1, lane, base, grid);
+        return;
+    }
+    scatter_f64(line, stride, lane, base, grid);
+}
+
 // As `lane_cells::read_lane`, of float levels.
 pub fn read_lane_f64(grid: &[f64], stride: usize, lane: usize, line: &mut [f64])
     ensures { λ _. ⌜ now (line .exit) ≡ readLane nan stride lane (now (grid .entry)) (now (line .entry)) ⌝ }
@@ -44,11 +68,7 @@ pub fn read_lane_f64(grid: &[f64], stride: usize, lane: usize, line: &mut [f64])
     if base == count {
         return;
     }
-    if stride == 1 {
-        gather_f64(grid, base, 1, line);
-        return;
-    }
-    gather_f64(grid, base, stride, line);
+    read_from_f64(grid, base, stride, line);
 }
 
 // As `lane_cells::write_lane`, of float levels.
@@ -60,9 +80,5 @@ pub fn write_lane_f64(line: &[f64], stride: usize, lane: usize, grid: &mut [f64]
     if base == count {
         return;
     }
-    if stride == 1 {
-        scatter_f64(line, 1, lane, base, grid);
-        return;
-    }
-    scatter_f64(line, stride, lane, base, grid);
+    write_from_f64(line, stride, lane, base, grid);
 }

@@ -30,7 +30,7 @@ module _ (n s l count r : ℕ) (e : r ≡ cond (laneInside n s l count) (laneBas
   pub place-whole : (r ≡ count → ⊥) → r + n * s < count + s
   place-whole h = subst (λ (b : ℕ). b + n * s < count + s) (sym (place-base h)) (inside-whole (lane-inside n s l count (place-some h)))
 
--- ---- reading and writing, where the lane is not inside, and where it is, by cells t apart, which is s
+-- ---- reading and writing, where the lane is not inside, and where it is
 module _ {A : Type 0} (d : A) (s l : ℕ) (line g : List A) (r : ℕ) (e : r ≡ cond (laneInside (length line) s l (length g)) (laneBase (length line) s l) (length g)) where
   pub read-none : r ≡ length g → line ≡ readLane d s l g line
   read-none q = sym (cond-no _ _ line (place-none (length line) s l (length g) r e q))
@@ -38,21 +38,19 @@ module _ {A : Type 0} (d : A) (s l : ℕ) (line g : List A) (r : ℕ) (e : r ≡
   pub write-none : r ≡ length g → g ≡ writeLane d s l line g
   write-none q = sym (cond-no _ _ g (place-none (length line) s l (length g) r e q))
 
-  module _ {t : ℕ} (p : s ≡ t) (h : r ≡ length g → ⊥) where
-    pub read-room : r + length line * t < length g + t
-    read-room = subst (λ (t : ℕ). r + length line * t < length g + t) p (place-whole (length line) s l (length g) r e h)
+  module _ (h : r ≡ length g → ⊥) where
+    pub read-room : r + length line * s < length g + s
+    read-room = place-whole (length line) s l (length g) r e h
 
-    pub read-some : {left : List A} → left ≡ laneAt d g r t (length line) → left ≡ readLane d s l g line
+    pub read-some : {left : List A} → left ≡ laneAt d g r s (length line) → left ≡ readLane d s l g line
     read-some q =
-        q ∙ (λ i. laneAt d g (place-base (length line) s l (length g) r e h i) (sym p i) (length line))
+        q ∙ (λ i. laneAt d g (place-base (length line) s l (length g) r e h i) s (length line))
         ∙ sym (cond-yes _ (lane d (length line) s l g) line (place-some (length line) s l (length g) r e h))
 
-    pub write-room : (0 < length line) × (0 < t) × (r ≡ laneBase (length line) t l) × (r + length line * t < length g + t)
+    pub write-room : (0 < length line) × (0 < s) × (r ≡ laneBase (length line) s l) × (r + length line * s < length g + s)
     write-room =
         let I = lane-inside (length line) s l (length g) (place-some (length line) s l (length g) r e h) in
-        (I .some, subst (λ (t : ℕ). 0 < t) p (I .apart), place-base (length line) s l (length g) r e h ∙ ap (λ t. laneBase (length line) t l) p, read-room)
+        (I .some, I .apart, place-base (length line) s l (length g) r e h, read-room)
 
-    pub write-some : {left : List A} → left ≡ withLane d (length line) t l line g → left ≡ writeLane d s l line g
-    write-some q =
-        q ∙ ap (λ t. withLane d (length line) t l line g) (sym p)
-        ∙ sym (cond-yes _ (withLane d (length line) s l line g) g (place-some (length line) s l (length g) r e h))
+    pub write-some : {left : List A} → left ≡ withLane d (length line) s l line g → left ≡ writeLane d s l line g
+    write-some q = q ∙ sym (cond-yes _ (withLane d (length line) s l line g) g (place-some (length line) s l (length g) r e h))

@@ -1,11 +1,12 @@
 // The lanes of an axis: how long, how far apart and how many they are, and where a lane starts. `lane_cells` and `lane_cells_f64` read and write them.
 ghost use mathlib.Core.Path.{_≡_};
 ghost use mathlib.Core.Bool.{cond};
-ghost use Prim.Native.Nat.{ℕ, _≤_, _<_};
+ghost use Prim.Native.Nat.{ℕ, _+_, _≤_, _<_};
 ghost use lib.ListN.{length};
 ghost use Rattle.array.specs.Grid.{lengthOf, strideOf};
 ghost use Rattle.lanes.specs.Rows.{LanesRows};
 ghost use Rattle.lanes.specs.Lanes.{lanesOf, laneBase, laneInside};
+ghost use Rattle.lanes.specs.Starts.{Starts};
 
 // The lanes of an axis: the cells of each, how many places apart they stand, and how many lanes there are.
 pub struct Lanes {
@@ -99,6 +100,35 @@ pub fn first_place(count: usize, n: usize, stride: usize, lane: usize) -> usize
         return count;
     }
     base
+}
+
+// Where a lane starts: the place of its first cell, and how many lanes of its run stand before it.
+pub struct Start {
+    pub place: usize,
+    pub offset: usize,
+}
+
+// Where the next lane starts, without a division.
+//
+// * `n`, `stride` - the cells of a lane, and how many places apart they stand.
+// * `lane`, `start` - the number of a lane, and where it starts.
+//
+// Of 2 by 3 by 2 cells lane 1 of axis 1 starts at place 1 and is the last of its run, lane 2 at place 6.
+pub fn next_start(n: usize, stride: usize, lane: usize, start: Start) -> Start
+    requires { ⌜ Starts n stride lane start × (0 < n) × (n ≤ 32768) × (0 < stride) × (stride ≤ 32768) × (start .place ≤ 32768) ⌝ }
+    ensures { λ r. ⌜ Starts n stride (lane + 1) r ⌝ }
+{
+    let offset = start.offset + 1;
+    if offset == stride {
+        return Start {
+            place: start.place + (n - 1) * stride + 1,
+            offset: 0,
+        };
+    }
+    Start {
+        place: start.place + 1,
+        offset,
+    }
 }
 
 // Worked rows of this crate's definitions. Refuses nothing.

@@ -2,5 +2,6 @@
 pub mod Padded
 pub mod Reach
 pub mod Rims
+pub mod From
 pub mod Serves
 pub mod Sizes

@@ -1,23 +1,21 @@
--- Where a lane is padded and where the line stays as it was, by the answers of the tests; and that the lane read into the line's middle and extended there is the padded line.
+-- Where a lane is padded and where the line stays as it was, by the answers of the tests.
 -- Assumes nothing.
-use mathlib.Core.Path.{_≡_, refl, sym, ap, _∙_}
+use mathlib.Core.Path.{_≡_, refl, sym, ap, subst, _∙_}
 use mathlib.Core.Bool.{Bool, true, false, _&&_, not, cond, and-false}
 use mathlib.Core.List.{List, _++_}
-use Prim.Native.Nat.{ℕ, _+_, _-_, _≤_, _<_}
+use Prim.Native.Nat.{ℕ, _+_, _*_, _≤_, _<_}
 use native.Mathlib.Omega.{arith}
 use borrow.Author.Tests.{le-leb, lt-leb, leb-true}
-use borrow.Rule.Slice.PartMut.{midOf, postOf, putMid, mid-len, same-len-mid, drop-put}
 use lib.Dec.{leb}
-use lib.ListN.{length, take, drop}
-use lib.Seq.{length-take-le, take-at, drop-at, drop-drop}
+use lib.ListN.{length, drop}
 use Rattle.numbers.specs.Windows.{windowOf}
 use Rattle.numbers.proofs.Tests.{and-true, cond-yes, cond-no, told}
 use Rattle.numbers.proofs.Window.{window-append}
-use Rattle.lanes.specs.Lanes.{laneBase, laneInside, lane, readLane}
-use Rattle.lanes.proofs.Cells.{Inside, lane-inside, length-laneAt}
+use Rattle.lanes.specs.Lanes.{laneBase, laneInside, laneAt, lane}
+use Rattle.lanes.proofs.Cells.{lane-inside, inside-whole, length-laneAt}
 use Rattle.lanes.proofs.FirstPlace.{place-none, place-some}
 use Rattle.border.specs.Border.{Border}
-use Rattle.pad_line.specs.Line.{paddedLine, badPad, padMiddle, padServes, paddedLane}
+use Rattle.pad_line.specs.Line.{paddedLine, badPad, padServes, paddedLane, Padding}
 use Rattle.pad_line.proofs.Padded.{length-padded}
 
 -- ---- a lane that is inside, and a padded line that is short enough
@@ -55,7 +53,7 @@ module _ {A : Type 0} (d : A) (b : Border A) (n s l left right : ℕ) (g held : 
   unfolding padServes
   lane-stays e t = stays (ap (λ x. x && not (badPad b n left) && not (badPad b n right)) (told e t))
 
--- ---- the lane is read into the middle and extended
+-- ---- the lane is padded
 -- what the tests have told where the lane is padded
 pub record Serves {A : Type 0} (b : Border A) (n s l left right : ℕ) (g held : List A) : Type 0 where
   pub fits : laneInside n s l (length g) && leb (left + n + right) (length held) ≡ true
@@ -85,37 +83,19 @@ module _ {A : Type 0} (d : A) {b : Border A} {n s l left right : ℕ} {g held : 
       ap (λ (x : List A). windowOf x i len) served-line
       ∙ window-append (paddedLine d b left right (lane d n s l g)) (drop (left + n + right) held) i len (omega (arith, length-padded d left (lane d n s l g) b right, length-laneAt d g (laneBase n s l) s n))
 
-  cells : length (midOf left (left + n - left) held) ≡ n
-  cells = mid-len left (left + n) held (omega (arith, line-room)) ∙ omega arith
+  -- ---- where the lane starts, as `first_place` answers it
+  module _ {base : ℕ} (e : base ≡ cond (laneInside n s l (length g)) (laneBase n s l) (length g)) where
+    base-is : base ≡ laneBase n s l
+    base-is = e ∙ cond-yes (laneInside n s l (length g)) (laneBase n s l) (length g) inside
 
-  module _ {part : List A} (read : part ≡ readLane d s l g (midOf left (left + n - left) held)) where
-    read-is : part ≡ lane d n s l g
-    read-is =
-        read ∙ (λ j. cond (laneInside (cells j) s l (length g)) (lane d (cells j) s l g) (midOf left (left + n - left) held))
-        ∙ cond-yes (laneInside n s l (length g)) (lane d n s l g) (midOf left (left + n - left) held) inside
+    pub served-from : Padding b n s base left right g held
+    served-from = record {
+      some = some-cells;
+      inside = subst (λ (k : ℕ). k + n * s < length g + s) (sym base-is) (inside-whole (lane-inside n s l (length g) inside));
+      fits = line-room;
+      fills-left = S .fills-left;
+      fills-right = S .fills-right;
+    }
 
-    size : length part ≡ n
-    size = ap length read-is ∙ length-laneAt d g _ s n
-
-    pub read-room : left + n + right ≤ length (putMid left (left + n - left) held part)
-    read-room = omega (arith, line-room, same-len-mid left (left + n - left) held part (size ∙ sym cells))
-
-    pub lane-padded : {line : List A} → line ≡ padMiddle d b left n right (putMid left (left + n - left) held part) → line ≡ paddedLane d b n s l left right g held
-    lane-padded e =
-        e ∙ (λ j. paddedLine d b left right (middle j) ++ rest j)
-        ∙ sym served-line
-      where
-        post : List A
-        post = postOf left (left + n - left) held
-
-        room : left ≤ length held
-        room = omega (arith, line-room)
-
-        middle : take n (drop left (putMid left (left + n - left) held part)) ≡ lane d n s l g
-        middle = ap (take n) (drop-at (take left held) (part ++ post) left (length-take-le left held room)) ∙ take-at part post n size ∙ read-is
-
-        rest : drop (left + n + right) (putMid left (left + n - left) held part) ≡ drop (left + n + right) held
-        rest =
-            sym (drop-drop right (left + n) (putMid left (left + n - left) held part))
-            ∙ ap (drop right) (drop-put left (left + n) held part (omega arith) (omega (arith, line-room)) (size ∙ omega arith))
-            ∙ drop-drop right (left + n) held
+    pub lane-padded : {line : List A} → line ≡ paddedLine d b left right (laneAt d g base s n) ++ drop (left + n + right) held → line ≡ paddedLane d b n s l left right g held
+    lane-padded q = q ∙ ap (λ k. paddedLine d b left right (laneAt d g k s n) ++ drop (left + n + right) held) base-is ∙ sym served-line

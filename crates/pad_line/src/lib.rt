@@ -4,9 +4,11 @@ ghost use mathlib.Core.Bool.{_&&_};
 ghost use Prim.Native.Nat.{_+_};
 ghost use lib.Dec.{leb};
 ghost use lib.IntN.{pos};
-ghost use Rattle.lanes.specs.Lanes.{laneInside};
+ghost use lib.ListN.{drop};
+ghost use mathlib.Core.List.{_++_};
+ghost use Rattle.lanes.specs.Lanes.{laneInside, laneAt};
 ghost use Rattle.border.specs.Modes.{borderOf};
-ghost use Rattle.pad_line.specs.Line.{badPad, paddedLane};
+ghost use Rattle.pad_line.specs.Line.{badPad, paddedLine, paddedLane, Padding};
 ghost use Rattle.pad_line.specs.Rows.{PadLineRows};
 use border::BorderMode;
 
@@ -71,6 +73,26 @@ pub fn lane_fits(
     true
 }
 
+// Reads the n cells of the grid from place base on, stride apart, into a lent line and extends them by the border. The other arguments are those of `pad_lane`, for a caller
+// that has tested them. Of 4 5 6 1 2 3 the three neighbours from place 3 on, with pads 2 and 2 under Mirror, are 3 2 1 2 3 2 1.
+pub fn pad_from(
+    grid: &[i64],
+    base: usize,
+    stride: usize,
+    n: usize,
+    mode: BorderMode,
+    left: usize,
+    right: usize,
+    line: &mut [i64],
+)
+    requires { ⌜ Padding (borderOf mode) n stride base left right (now grid) (now line) ⌝ }
+    ensures { λ _. ⌜ now (line .exit) ≡ paddedLine (pos 0) (borderOf mode) left right (laneAt (pos 0) (now (grid .entry)) base stride n) ++ drop (left + n + right) (now (line .entry)) ⌝ }
+{
+    let e = left + n;
+    lane_cells::read_from(grid, base, stride, &mut line[left..e]);
+    extension::extend(mode, left, n, right, line);
+}
+
 // Reads a lane of the grid into a lent line and extends it by the border: the padded line.
 //
 // * `grid` - the cells of the grid.
@@ -103,9 +125,8 @@ pub fn pad_lane(
     if !lane_fits(grid.len(), stride, lane, n, left, right, line.len()) {
         return;
     }
-    let e = left + n;
-    lane_cells::read_lane(grid, stride, lane, &mut line[left..e]);
-    extension::extend(mode, left, n, right, line);
+    let base = lanes::first_place(grid.len(), n, stride, lane);
+    pad_from(grid, base, stride, n, mode, left, right, line);
 }
 
 // Worked rows of this crate's definitions: T1, unequal pads, condition 11, windows, and lines that stay as they were. Refuses nothing.

@@ -1,8 +1,12 @@
 // The float twin of `pad_line`: a lane of floats read into a lent line and extended in place, and condition 11.
 ghost use mathlib.Core.Path.{_≡_};
+ghost use mathlib.Core.List.{_++_};
+ghost use Prim.Native.Nat.{_+_};
 ghost use lib.Ieee.{nan};
+ghost use lib.ListN.{drop};
+ghost use Rattle.lanes.specs.Lanes.{laneAt};
 ghost use Rattle.border.specs.Modes.{borderOfF64};
-ghost use Rattle.pad_line.specs.Line.{badPad, paddedLane};
+ghost use Rattle.pad_line.specs.Line.{badPad, paddedLine, paddedLane, Padding};
 ghost use Rattle.pad_line_f64.specs.Rows.{PadLineF64Rows};
 use border::BorderModeF64;
 
@@ -24,6 +28,25 @@ pub fn bad_pad_f64(mode: BorderModeF64, n: usize, pad: usize) -> bool
         BorderModeF64::Reflect => n < pad,
         BorderModeF64::Wrap => n < pad,
     }
+}
+
+// As `pad_line::pad_from`, of float levels.
+pub fn pad_from_f64(
+    grid: &[f64],
+    base: usize,
+    stride: usize,
+    n: usize,
+    mode: BorderModeF64,
+    left: usize,
+    right: usize,
+    line: &mut [f64],
+)
+    requires { ⌜ Padding (borderOfF64 mode) n stride base left right (now grid) (now line) ⌝ }
+    ensures { λ _. ⌜ now (line .exit) ≡ paddedLine nan (borderOfF64 mode) left right (laneAt nan (now (grid .entry)) base stride n) ++ drop (left + n + right) (now (line .entry)) ⌝ }
+{
+    let e = left + n;
+    lane_cells_f64::read_from_f64(grid, base, stride, &mut line[left..e]);
+    extension::extend_f64(mode, left, n, right, line);
 }
 
 // As `pad_line::pad_lane`, of float levels.
@@ -48,9 +71,8 @@ pub fn pad_lane_f64(
     if !pad_line::lane_fits(grid.len(), stride, lane, n, left, right, line.len()) {
         return;
     }
-    let e = left + n;
-    lane_cells_f64::read_lane_f64(grid, stride, lane, &mut line[left..e]);
-    extension::extend_f64(mode, left, n, right, line);
+    let base = lanes::first_place(grid.len(), n, stride, lane);
+    pad_from_f64(grid, base, stride, n, mode, left, right, line);
 }
 
 // Worked rows on floats of `pad_line`'s definitions: T1 on any three floats, condition 11, a window, and a line that stays. Refuses nothing.

@@ -9,14 +9,14 @@ use lib.ListN.{length}
 use lib.Seq.{length-take-le}
 use denote.Ref.{now}
 use Rattle.axis_filter.specs.Filter.{filtered, ServedLine}
-use Rattle.axis_filter.proofs.OneLane.{line-room, front-is, lane-filtered}
+use Rattle.axis_filter.proofs.OneLane.{line-room, lane-padding, write-room, front-is, length-swept, lane-filtered}
 use Rattle.axis_filter.proofs.Supposed.{length-filtered, line-served}
 use borrow.Author.Needs.{needs}
 use Rattle.axis_filter.proofs.filter_lane.Statement.{statement}
 use Rattle.axis_filter.proofs.filter_lane.Tie as tie
 
-pad-lane-requires : tie.Need-pad-lane-requires
-pad-lane-requires c κs = search needs
+pad-from-requires : tie.Need-pad-from-requires
+pad-from-requires c κs = lane-padding (pos 0) (c .before .pre .0)
 
 add-total : tie.Need-add-total
 add-total c = search needs
@@ -31,7 +31,7 @@ add-filter-line-2 : tie.Need-add-filter-line-2
 add-filter-line-2 c = search needs
 
 slice-reshare-prefix-filter-line : tie.Need-slice-reshare-prefix-filter-line
-slice-reshare-prefix-filter-line c = omega (arith, line-room (pos 0) (c .before .before .before .pre .0), c .before .pad-lane .kept .1 .1 .1 .1 .1 .1 .1 .0)
+slice-reshare-prefix-filter-line c = omega (arith, line-room (pos 0) (c .before .before .before .pre .0), c .before .pad-from .kept .1 .1 .1 .1 .1 .1 .1 .0)
 
 slice-aggregate-filter-line : tie.Need-slice-aggregate-filter-line
 slice-aggregate-filter-line c = sym (length-take-le _ _ (slice-reshare-prefix-filter-line (c .before)))
@@ -40,10 +40,10 @@ filter-line-requires : tie.Need-filter-line-requires
 filter-line-requires c κs =
     let s = c .before .before .before .before .before in
     subst (λ (p : List ℤ). ServedLine (s .args .filter) (now (s .args .weights)) (s .args .left + s .args .right + 1) p (length (now (s .args .swept))))
-    (sym (front-is (pos 0) (s .pre .0) (c .before .before .before .pad-lane .ensures))) (line-served (s .pre .0) (s .args .filter) (now (s .args .weights)) (s .pre .1))
+    (sym (front-is (pos 0) (s .pre .0) (c .before .before .before .pad-from .ensures))) (line-served (s .pre .0) (s .args .filter) (now (s .args .weights)) (s .pre .1))
 
-write-lane-requires : tie.Need-write-lane-requires
-write-lane-requires c κs = search needs
+write-from-requires : tie.Need-write-from-requires
+write-from-requires c κs = write-room (pos 0) (c .before .before .before .before .before .before .before .before .before .pre .0) (c .before .before .before .filter-line .last .1 .1 .1 .1 .0) (c .before .before .before .filter-line .kept .1 .1 .1 .1 .0)
 
 same-length : tie.Need-same-length
 same-length c = search needs
@@ -56,14 +56,14 @@ same-length-3 c = search needs
 
 returns : tie.Need-returns
 returns c = let s = c .before .before .before .before .before .before .before .before .before .before .before in
-    lane-filtered (pos 0) (s .pre .0) (c .before .before .before .before .before .before .before .before .before .pad-lane .ensures) (filtered (s .args .filter) (now (s .args .weights)) (s .args .left + s .args .right + 1))
-    (length-filtered (s .args .filter) (now (s .args .weights)) (s .args .left + s .args .right + 1)) (c .before .before .before .before .before .filter-line .ensures) (c .before .write-lane .ensures)
+    lane-filtered (pos 0) (s .pre .0) (c .before .before .before .before .before .before .before .before .before .pad-from .ensures) (filtered (s .args .filter) (now (s .args .weights)) (s .args .left + s .args .right + 1))
+    (length-filtered (s .args .filter) (now (s .args .weights)) (s .args .left + s .args .right + 1)) (c .before .before .before .before .before .filter-line .ensures) (c .before .write-from .ensures)
 
 pub filter-lane-spec : {M : Type 1} → statement M
 filter-lane-spec =
     tie.close
     (tie.spec
-    pad-lane-requires
+    pad-from-requires
     add-total
     add-total-2
     add-filter-line
@@ -71,7 +71,7 @@ filter-lane-spec =
     slice-reshare-prefix-filter-line
     slice-aggregate-filter-line
     filter-line-requires
-    write-lane-requires
+    write-from-requires
     same-length
     same-length-2
     same-length-3

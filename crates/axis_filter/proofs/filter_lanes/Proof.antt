@@ -6,17 +6,17 @@ use mathlib.Core.Path.{sym, _∙_}
 use lib.IntN.{pos}
 use Rattle.border.specs.Modes.{borderOf}
 use Rattle.axis_filter.specs.Filter.{filtered}
-use Rattle.axis_filter.proofs.EveryLane.{Sweeping, lanes-accepted, sweeping-none, lane-room, sweeping-more, sweeping-all}
+use Rattle.axis_filter.proofs.EveryLane.{Sweeping, lanes-accepted, sweeping-none, lane-room, start-room, sweeping-more, sweeping-all}
 use borrow.Author.Needs.{needs}
 use Rattle.axis_filter.proofs.filter_lanes.Statement.{statement}
 use Rattle.axis_filter.proofs.filter_lanes.Tie as tie
 
 abbrev Inv-loop : tie.InvT-loop
-Inv-loop filter weights mode «data» shape axis left right line₀ swept₀ out₀ stride count lane₀ line swept out lane =
-    Sweeping (pos 0) (filtered filter weights (left + right + 1)) (borderOf mode) shape axis left right «data» out₀ stride count lane line swept out
+Inv-loop filter weights mode «data» shape axis left right line₀ swept₀ out₀ n stride count start₀ lane₀ line swept out start lane =
+    Sweeping (pos 0) (filtered filter weights (left + right + 1)) (borderOf mode) shape axis left right «data» out₀ n stride count lane start line swept out
 
 abbrev μ-loop : tie.MeasureT-loop
-μ-loop filter weights mode «data» shape axis left right line₀ swept₀ out₀ stride count lane₀ line swept out lane = count - lane
+μ-loop filter weights mode «data» shape axis left right line₀ swept₀ out₀ n stride count start₀ lane₀ line swept out start lane = count - lane
 
 lanes-of-requires : tie.Need-lanes-of-requires Inv-loop μ-loop
 lanes-of-requires c κs = search needs
@@ -33,6 +33,12 @@ filter-lane-requires c κs =
     let a = s .args in
     (lane-room (pos 0) (filtered (a .filter) (now (a .weights)) (a .left + a .right + 1)) (s .pre .0) (c .before .before .before .before .loop .inv) (search needs), s .pre .1)
 
+next-start-requires : tie.Need-next-start-requires Inv-loop μ-loop
+next-start-requires c κs =
+    let s = c .before .before .before .before .before .before .before .before .before .before .before in
+    let a = s .args in
+    start-room (pos 0) (filtered (a .filter) (now (a .weights)) (a .left + a .right + 1)) (s .pre .0) (c .before .before .before .before .before .before .before .before .loop .inv) (search needs)
+
 add-lane : tie.Need-add-lane Inv-loop μ-loop
 add-lane c = search needs
 
@@ -41,11 +47,11 @@ loop-less c = search needs
 
 loop-again : tie.Need-loop-again Inv-loop μ-loop
 loop-again c =
-    let s = c .before .before .before .before .before .before .before .before .before .before .before in
+    let s = c .before .before .before .before .before .before .before .before .before .before .before .before in
     let a = s .args in
-    let k = c .before .before .before .filter-lane in
-    sweeping-more (pos 0) (filtered (a .filter) (now (a .weights)) (a .left + a .right + 1)) (s .pre .0) (c .before .before .before .before .before .before .before .before .loop .inv) (search needs)
-    (k .kept .1 .1 .1 .1 .1 .1 .1 .1 .0) (k .kept .1 .1 .1 .1 .1 .1 .1 .1 .1 .0) (k .ensures)
+    let k = c .before .before .before .before .filter-lane in
+    sweeping-more (pos 0) (filtered (a .filter) (now (a .weights)) (a .left + a .right + 1)) (s .pre .0) (c .before .before .before .before .before .before .before .before .before .loop .inv) (search needs) (c .next-start .ensures)
+    (k .kept .1 .1 .1 .1 .1 .1 .1 .1 .1 .0) (k .kept .1 .1 .1 .1 .1 .1 .1 .1 .1 .1 .0) (k .ensures)
 
 same-length : tie.Need-same-length Inv-loop μ-loop
 same-length c = c .before .loop .inv .buffer ∙ sym (c .before .before .before .before .pre .2)
@@ -71,6 +77,7 @@ filter-lanes-spec =
     lanes-of-requires
     loop-holds
     filter-lane-requires
+    next-start-requires
     add-lane
     loop-less
     loop-again

@@ -1,6 +1,5 @@
--- `lane_cells::read_lane` meets its contract: the first place tells whether the lane is inside; neighbouring cells are 1 apart.
+-- `lane_cells::read_lane` meets its contract: the first place tells whether the lane is inside.
 -- Assumes nothing.
-use mathlib.Core.Path.{refl}
 use denote.Ref.{now}
 use lib.IntN.{pos}
 use Rattle.lanes.proofs.FirstPlace.{read-none, read-room, read-some}
@@ -14,11 +13,11 @@ first-place-requires c κs = search needs
 returns : tie.Need-returns
 returns c = let f = c .before in let a = f .before .args in read-none (pos 0) (a .stride) (a .lane) (now (a .line)) (now (a .grid)) _ (f .first-place .ensures) (c .if1 .taken)
 
-gather-requires : tie.Need-gather-requires
-gather-requires c κs =
-    let f = c .before .before .before in
+read-from-requires : tie.Need-read-from-requires
+read-from-requires c κs =
+    let f = c .before .before in
     let a = f .before .args in
-    read-room (pos 0) (a .stride) (a .lane) (now (a .line)) (now (a .grid)) _ (f .first-place .ensures) (c .before .if2 .taken) (c .before .before .if1 .left)
+    read-room (pos 0) (a .stride) (a .lane) (now (a .line)) (now (a .grid)) _ (f .first-place .ensures) (c .before .if1 .left)
 
 same-length : tie.Need-same-length
 same-length c = search needs
@@ -26,35 +25,9 @@ same-length c = search needs
 returns-2 : tie.Need-returns-2
 returns-2 c =
     let t = c .before .before .before in
-    let f = t .before .before in
+    let f = t .before in
     let a = f .before .args in
-    read-some (pos 0) (a .stride) (a .lane) (now (a .line)) (now (a .grid)) _ (f .first-place .ensures) (t .if2 .taken) (t .before .if1 .left) (c .before .gather .ensures)
-
-gather-requires-2 : tie.Need-gather-requires-2
-gather-requires-2 c κs =
-    let f = c .before .before .before in
-    let a = f .before .args in
-    read-room (pos 0) (a .stride) (a .lane) (now (a .line)) (now (a .grid)) _ (f .first-place .ensures) refl (c .before .before .if1 .left)
-
-same-length-2 : tie.Need-same-length-2
-same-length-2 c = search needs
-
-returns-3 : tie.Need-returns-3
-returns-3 c =
-    let t = c .before .before .before in
-    let f = t .before .before in
-    let a = f .before .args in
-    read-some (pos 0) (a .stride) (a .lane) (now (a .line)) (now (a .grid)) _ (f .first-place .ensures) refl (t .before .if1 .left) (c .before .gather2 .ensures)
+    read-some (pos 0) (a .stride) (a .lane) (now (a .line)) (now (a .grid)) _ (f .first-place .ensures) (t .if1 .left) (c .before .read-from .ensures)
 
 pub read-lane-spec : {M : Type 1} → statement M
-read-lane-spec =
-    tie.close
-    (tie.spec
-    first-place-requires
-    returns
-    gather-requires
-    same-length
-    returns-2
-    gather-requires-2
-    same-length-2
-    returns-3)
+read-lane-spec = tie.close (tie.spec first-place-requires returns read-from-requires same-length returns-2)

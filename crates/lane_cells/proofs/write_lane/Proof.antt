@@ -1,6 +1,5 @@
--- `lane_cells::write_lane` meets its contract: the first place tells whether the lane is inside; neighbouring cells are 1 apart.
+-- `lane_cells::write_lane` meets its contract: the first place tells whether the lane is inside.
 -- Assumes nothing.
-use mathlib.Core.Path.{refl}
 use denote.Ref.{now}
 use lib.IntN.{pos}
 use Rattle.lanes.proofs.FirstPlace.{write-none, write-room, write-some}
@@ -14,11 +13,11 @@ first-place-requires c κs = search needs
 returns : tie.Need-returns
 returns c = let f = c .before in let a = f .before .args in write-none (pos 0) (a .stride) (a .lane) (now (a .line)) (now (a .grid)) _ (f .first-place .ensures) (c .if1 .taken)
 
-scatter-requires : tie.Need-scatter-requires
-scatter-requires c κs =
-    let f = c .before .before .before in
+write-from-requires : tie.Need-write-from-requires
+write-from-requires c κs =
+    let f = c .before .before in
     let a = f .before .args in
-    write-room (pos 0) (a .stride) (a .lane) (now (a .line)) (now (a .grid)) _ (f .first-place .ensures) (c .before .if2 .taken) (c .before .before .if1 .left)
+    write-room (pos 0) (a .stride) (a .lane) (now (a .line)) (now (a .grid)) _ (f .first-place .ensures) (c .before .if1 .left)
 
 same-length : tie.Need-same-length
 same-length c = search needs
@@ -26,35 +25,9 @@ same-length c = search needs
 returns-2 : tie.Need-returns-2
 returns-2 c =
     let t = c .before .before .before in
-    let f = t .before .before in
+    let f = t .before in
     let a = f .before .args in
-    write-some (pos 0) (a .stride) (a .lane) (now (a .line)) (now (a .grid)) _ (f .first-place .ensures) (t .if2 .taken) (t .before .if1 .left) (c .before .scatter .ensures)
-
-scatter-requires-2 : tie.Need-scatter-requires-2
-scatter-requires-2 c κs =
-    let f = c .before .before .before in
-    let a = f .before .args in
-    write-room (pos 0) (a .stride) (a .lane) (now (a .line)) (now (a .grid)) _ (f .first-place .ensures) refl (c .before .before .if1 .left)
-
-same-length-2 : tie.Need-same-length-2
-same-length-2 c = search needs
-
-returns-3 : tie.Need-returns-3
-returns-3 c =
-    let t = c .before .before .before in
-    let f = t .before .before in
-    let a = f .before .args in
-    write-some (pos 0) (a .stride) (a .lane) (now (a .line)) (now (a .grid)) _ (f .first-place .ensures) refl (t .before .if1 .left) (c .before .scatter2 .ensures)
+    write-some (pos 0) (a .stride) (a .lane) (now (a .line)) (now (a .grid)) _ (f .first-place .ensures) (t .if1 .left) (c .before .write-from .ensures)
 
 pub write-lane-spec : {M : Type 1} → statement M
-write-lane-spec =
-    tie.close
-    (tie.spec
-    first-place-requires
-    returns
-    scatter-requires
-    same-length
-    returns-2
-    scatter-requires-2
-    same-length-2
-    returns-3)
+write-lane-spec = tie.close (tie.spec first-place-requires returns write-from-requires same-length returns-2)

@@ -1,13 +1,12 @@
--- `pad_line::pad_lane` meets its contract: every test that fails leaves the line; where all pass, the lane is read into the middle and extended.
+-- `pad_line::pad_lane` meets its contract: every test that fails leaves the line; where all pass, the lane is padded from its first place on.
 -- Assumes nothing.
-use native.Mathlib.Omega.{arith}
 use borrow.Author.Needs.{needs}
 use borrow.Author.Tests.{not-true, not-false}
 use denote.Ref.{now}
 use lib.IntN.{pos}
 use Rattle.numbers.proofs.Tests.{told}
 use Rattle.border.specs.Modes.{borderOf}
-use Rattle.pad_line.proofs.Serves.{bad-left-stays, bad-right-stays, lane-stays, Serves, some-cells, line-room, read-room, lane-padded}
+use Rattle.pad_line.proofs.Serves.{bad-left-stays, bad-right-stays, lane-stays, Serves, served-from, lane-padded}
 use Rattle.pad_line.proofs.pad_lane.Statement.{statement}
 use Rattle.pad_line.proofs.pad_lane.Tie as tie
 
@@ -37,34 +36,17 @@ served c = record {
   fills-right = told (c .before .before .before .bad-pad2 .ensures) (c .before .before .if2 .left);
 }
 
-add-e : tie.Need-add-e
-add-e c = omega (arith, line-room (pos 0) (served c))
+first-place-requires : tie.Need-first-place-requires
+first-place-requires c κs = search needs
 
-mul-read-lane : tie.Need-mul-read-lane
-mul-read-lane c = omega (arith, line-room (pos 0) (served c))
-
-sub-read-lane : tie.Need-sub-read-lane
-sub-read-lane c = search needs
-
-part-read-lane-start : tie.Need-part-read-lane-start
-part-read-lane-start c = search needs
-
-part-read-lane-end : tie.Need-part-read-lane-end
-part-read-lane-end c = omega (arith, line-room (pos 0) (served c))
-
-read-lane-requires : tie.Need-read-lane-requires
-read-lane-requires c κs = search needs
-
-extend-requires : tie.Need-extend-requires
-extend-requires c κs =
-    let S = served (c .before .before .before .before) in
-    (some-cells (pos 0) S, read-room (pos 0) S (c .before .before .read-lane .ensures), S .fills-left, S .fills-right)
+pad-from-requires : tie.Need-pad-from-requires
+pad-from-requires c κs = served-from (pos 0) (served (c .before .before)) (c .before .first-place .ensures)
 
 same-length : tie.Need-same-length
 same-length c = search needs
 
 returns-4 : tie.Need-returns-4
-returns-4 c = lane-padded (pos 0) (served (c .before .before .before .before .before .before)) (c .before .before .before .before .read-lane .ensures) (c .before .extend .ensures)
+returns-4 c = lane-padded (pos 0) (served (c .before .before .before .before)) (c .before .before .before .first-place .ensures) (c .before .pad-from .ensures)
 
 pub pad-lane-spec : {M : Type 1} → statement M
 pad-lane-spec =
@@ -76,12 +58,7 @@ pad-lane-spec =
     returns-2
     lane-fits-requires
     returns-3
-    add-e
-    mul-read-lane
-    sub-read-lane
-    part-read-lane-start
-    part-read-lane-end
-    read-lane-requires
-    extend-requires
+    first-place-requires
+    pad-from-requires
     same-length
     returns-4)

@@ -1,13 +1,12 @@
--- `pad_line_f64::pad_lane_f64` meets its contract: every test that fails leaves the line; where all pass, the lane is read into the middle and extended.
+-- `pad_line_f64::pad_lane_f64` meets its contract: every test that fails leaves the line; where all pass, the lane is padded from its first place on.
 -- Assumes nothing.
-use native.Mathlib.Omega.{arith}
 use borrow.Author.Needs.{needs}
 use borrow.Author.Tests.{not-true, not-false}
 use denote.Ref.{now}
 use lib.Ieee.{nan}
 use Rattle.numbers.proofs.Tests.{told}
 use Rattle.border.specs.Modes.{borderOfF64}
-use Rattle.pad_line.proofs.Serves.{bad-left-stays, bad-right-stays, lane-stays, Serves, some-cells, line-room, read-room, lane-padded}
+use Rattle.pad_line.proofs.Serves.{bad-left-stays, bad-right-stays, lane-stays, Serves, served-from, lane-padded}
 use Rattle.pad_line_f64.proofs.pad_lane_f64.Statement.{statement}
 use Rattle.pad_line_f64.proofs.pad_lane_f64.Tie as tie
 
@@ -37,34 +36,17 @@ served c = record {
   fills-right = told (c .before .before .before .bad-pad-f642 .ensures) (c .before .before .if2 .left);
 }
 
-add-e : tie.Need-add-e
-add-e c = omega (arith, line-room nan (served c))
+first-place-requires : tie.Need-first-place-requires
+first-place-requires c κs = search needs
 
-mul-read-lane-f64 : tie.Need-mul-read-lane-f64
-mul-read-lane-f64 c = omega (arith, line-room nan (served c))
-
-sub-read-lane-f64 : tie.Need-sub-read-lane-f64
-sub-read-lane-f64 c = search needs
-
-part-read-lane-f64-start : tie.Need-part-read-lane-f64-start
-part-read-lane-f64-start c = search needs
-
-part-read-lane-f64-end : tie.Need-part-read-lane-f64-end
-part-read-lane-f64-end c = omega (arith, line-room nan (served c))
-
-read-lane-f64-requires : tie.Need-read-lane-f64-requires
-read-lane-f64-requires c κs = search needs
-
-extend-f64-requires : tie.Need-extend-f64-requires
-extend-f64-requires c κs =
-    let S = served (c .before .before .before .before .before) in
-    (some-cells nan S, read-room nan S (c .before .before .before .read-lane-f64 .ensures), S .fills-left, S .fills-right)
+pad-from-f64-requires : tie.Need-pad-from-f64-requires
+pad-from-f64-requires c κs = served-from nan (served (c .before .before)) (c .before .first-place .ensures)
 
 same-length : tie.Need-same-length
 same-length c = search needs
 
 returns-4 : tie.Need-returns-4
-returns-4 c = lane-padded nan (served (c .before .before .before .before .before .before .before .before)) (c .before .before .before .before .before .before .read-lane-f64 .ensures) (c .before .before .extend-f64 .ensures)
+returns-4 c = lane-padded nan (served (c .before .before .before .before .before)) (c .before .before .before .before .first-place .ensures) (c .before .before .pad-from-f64 .ensures)
 
 pub pad-lane-f64-spec : {M : Type 1} → statement M
 pad-lane-f64-spec =
@@ -76,12 +58,7 @@ pad-lane-f64-spec =
     returns-2
     lane-fits-requires
     returns-3
-    add-e
-    mul-read-lane-f64
-    sub-read-lane-f64
-    part-read-lane-f64-start
-    part-read-lane-f64-end
-    read-lane-f64-requires
-    extend-f64-requires
+    first-place-requires
+    pad-from-f64-requires
     same-length
     returns-4)
