@@ -12,7 +12,7 @@ ghost use Rattle.axis_filter.specs.Lane.{Room, Sweep};
 use border::BorderModeF64;
 use symmetry::SymmetryState;
 
-// Writes to a lane of out the weighted sums of the lane of data. The line has room for the padded lane, and swept is as long as the lane.
+// Writes to a lane of out the weighted sums of the lane of data, which starts at place base. The line has room for the padded lane, and swept is as long as the lane.
 fn correlate_lane(
     weights: &[f64],
     class: SymmetryState,
@@ -20,20 +20,21 @@ fn correlate_lane(
     data: &[f64],
     stride: usize,
     lane: usize,
+    base: usize,
     left: usize,
     right: usize,
     line: &mut [f64],
     swept: &mut [f64],
     out: &mut [f64],
 )
-    requires { ⌜ Room (borderOfF64 mode) stride lane left right (now «data») (now line) (now swept) (now out) × (length (now weights) ≡ left + right + 1) ⌝ }
+    requires { ⌜ Room (borderOfF64 mode) stride lane base left right (now «data») (now line) (now swept) (now out) × (length (now weights) ≡ left + right + 1) ⌝ }
     ensures { λ _. ⌜ now (out .exit) ≡ withLane nan (length (now (swept .entry))) stride lane (correlatedLine floatOps class (borderOfF64 mode) left right (now (weights .entry)) (laneOf nan (length (now (swept .entry))) stride lane (now («data» .entry)))) (now (out .entry)) ⌝ }
 {
     let n = swept.len();
-    pad_line_f64::pad_lane_f64(data, stride, lane, n, mode, left, right, line);
+    pad_line_f64::pad_from_f64(data, base, stride, n, mode, left, right, line);
     let total = left + n + right;
     correlate_line_f64::correlate_line_f64(weights, class, &line[..total], swept);
-    lane_cells_f64::write_lane_f64(swept, stride, lane, out);
+    lane_cells_f64::write_from_f64(swept, stride, lane, base, out);
 }
 
 // As correlate_lane, on every lane of the axis. The line and swept are buffers, of 1,088 cells and as long as the axis.
@@ -54,8 +55,13 @@ fn correlate_lanes(
     ensures { λ _. ⌜ now (out .exit) ≡ alongAxis nan (correlatedLine floatOps class (borderOfF64 mode) left right (now (weights .entry))) (now (shape .entry)) axis (now («data» .entry)) ⌝ }
 {
     let along = lanes::lanes_of(shape, axis);
+    let n = along.len;
     let stride = along.stride;
     let count = along.count;
+    let mut start = lanes::Start {
+        place: 0,
+        offset: 0,
+    };
     let mut lane = 0;
     while lane < count {
         correlate_lane(
@@ -65,12 +71,14 @@ fn correlate_lanes(
             data,
             stride,
             lane,
+            start.place,
             left,
             right,
             line,
             swept,
             out,
         );
+        start = lanes::next_start(n, stride, lane, start);
         lane += 1;
     }
 }

@@ -8,13 +8,13 @@ use lib.Seq.{length-take-le}
 use denote.Ref.{now}
 use Rattle.numbers.proofs.Tabulate.{length-tabulate}
 use Rattle.correlation.specs.Weighed.{floatOps, weighedLine}
-use Rattle.axis_filter.proofs.OneLane.{line-room, front-is, length-line, lane-filtered}
+use Rattle.axis_filter.proofs.OneLane.{line-room, lane-padding, write-room, front-is, length-line, lane-filtered}
 use borrow.Author.Needs.{needs}
 use Rattle.axis_filter_f64.proofs.correlate_lane.Statement.{statement}
 use Rattle.axis_filter_f64.proofs.correlate_lane.Tie as tie
 
-pad-lane-f64-requires : tie.Need-pad-lane-f64-requires
-pad-lane-f64-requires c κs = search needs
+pad-from-f64-requires : tie.Need-pad-from-f64-requires
+pad-from-f64-requires c κs = lane-padding nan (c .before .before .before .before .before .before .pre .0)
 
 add-total : tie.Need-add-total
 add-total c = search needs
@@ -23,7 +23,7 @@ add-total-2 : tie.Need-add-total-2
 add-total-2 c = search needs
 
 slice-reshare-prefix-correlate-line-f64 : tie.Need-slice-reshare-prefix-correlate-line-f64
-slice-reshare-prefix-correlate-line-f64 c = omega (arith, line-room nan (c .before .before .before .before .before .before .before .before .before .pre .0), c .before .before .pad-lane-f64 .kept .1 .1 .1 .1 .1 .1 .1 .0)
+slice-reshare-prefix-correlate-line-f64 c = omega (arith, line-room nan (c .before .before .before .before .before .before .before .before .before .pre .0), c .before .before .pad-from-f64 .kept .1 .1 .1 .1 .1 .1 .1 .0)
 
 slice-aggregate-correlate-line-f64 : tie.Need-slice-aggregate-correlate-line-f64
 slice-aggregate-correlate-line-f64 c = sym (length-take-le _ _ (slice-reshare-prefix-correlate-line-f64 (c .before)))
@@ -31,11 +31,11 @@ slice-aggregate-correlate-line-f64 c = sym (length-take-le _ _ (slice-reshare-pr
 correlate-line-f64-requires : tie.Need-correlate-line-f64-requires
 correlate-line-f64-requires c κs =
     let s = c .before .before .before .before .before .before .before .before .before .before .before in
-    let e = ap length (front-is nan (s .pre .0) (c .before .before .before .before .pad-lane-f64 .ensures)) in
+    let e = ap length (front-is nan (s .pre .0) (c .before .before .before .before .pad-from-f64 .ensures)) in
     record { some = omega (arith, s .pre .1); long = omega (arith, s .pre .1, e, length-line nan (s .pre .0)) }
 
-write-lane-f64-requires : tie.Need-write-lane-f64-requires
-write-lane-f64-requires c κs = search needs
+write-from-f64-requires : tie.Need-write-from-f64-requires
+write-from-f64-requires c κs = write-room nan (c .before .before .before .before .before .before .before .before .before .before .before .before .before .before .before .before .pre .0) (c .before .before .before .before .correlate-line-f64 .last .1 .1 .1 .0) (c .before .before .before .before .correlate-line-f64 .kept .1 .1 .1 .0)
 
 same-length : tie.Need-same-length
 same-length c = search needs
@@ -48,20 +48,20 @@ same-length-3 c = search needs
 
 returns : tie.Need-returns
 returns c = let s = c .before .before .before .before .before .before .before .before .before .before .before .before .before .before .before .before .before .before .before in
-    lane-filtered nan (s .pre .0) (c .before .before .before .before .before .before .before .before .before .before .before .before .pad-lane-f64 .ensures) (weighedLine floatOps (s .args .class) (now (s .args .weights)))
-    (λ p k. length-tabulate _ 0 k) (c .before .before .before .before .before .before .before .correlate-line-f64 .ensures) (c .before .before .write-lane-f64 .ensures)
+    lane-filtered nan (s .pre .0) (c .before .before .before .before .before .before .before .before .before .before .before .before .pad-from-f64 .ensures) (weighedLine floatOps (s .args .class) (now (s .args .weights)))
+    (λ p k. length-tabulate _ 0 k) (c .before .before .before .before .before .before .before .correlate-line-f64 .ensures) (c .before .before .write-from-f64 .ensures)
 
 pub correlate-lane-spec : {M : Type 1} → statement M
 correlate-lane-spec =
     tie.close
     (tie.spec
-    pad-lane-f64-requires
+    pad-from-f64-requires
     add-total
     add-total-2
     slice-reshare-prefix-correlate-line-f64
     slice-aggregate-correlate-line-f64
     correlate-line-f64-requires
-    write-lane-f64-requires
+    write-from-f64-requires
     same-length
     same-length-2
     same-length-3

@@ -6,17 +6,17 @@ use mathlib.Core.Path.{sym, _∙_}
 use lib.Ieee.{nan}
 use Rattle.border.specs.Modes.{borderOfF64}
 use Rattle.correlation.specs.Weighed.{floatOps, weighedLine}
-use Rattle.axis_filter.proofs.EveryLane.{Sweeping, lanes-accepted, sweeping-none, lane-room, sweeping-more, sweeping-all}
+use Rattle.axis_filter.proofs.EveryLane.{Sweeping, lanes-accepted, sweeping-none, lane-room, start-room, sweeping-more, sweeping-all}
 use borrow.Author.Needs.{needs}
 use Rattle.axis_filter_f64.proofs.correlate_lanes.Statement.{statement}
 use Rattle.axis_filter_f64.proofs.correlate_lanes.Tie as tie
 
 abbrev Inv-loop : tie.InvT-loop
-Inv-loop weights class mode «data» shape axis left right line₀ swept₀ out₀ stride count lane₀ line swept out lane =
-    Sweeping nan (weighedLine floatOps class weights) (borderOfF64 mode) shape axis left right «data» out₀ stride count lane line swept out
+Inv-loop weights class mode «data» shape axis left right line₀ swept₀ out₀ n stride count start₀ lane₀ line swept out start lane =
+    Sweeping nan (weighedLine floatOps class weights) (borderOfF64 mode) shape axis left right «data» out₀ n stride count lane start line swept out
 
 abbrev μ-loop : tie.MeasureT-loop
-μ-loop weights class mode «data» shape axis left right line₀ swept₀ out₀ stride count lane₀ line swept out lane = count - lane
+μ-loop weights class mode «data» shape axis left right line₀ swept₀ out₀ n stride count start₀ lane₀ line swept out start lane = count - lane
 
 lanes-of-requires : tie.Need-lanes-of-requires Inv-loop μ-loop
 lanes-of-requires c κs = search needs
@@ -33,6 +33,12 @@ correlate-lane-requires c κs =
     let a = s .args in
     (lane-room nan (weighedLine floatOps (a .class) (now (a .weights))) (s .pre .0) (c .before .before .before .before .loop .inv) (search needs), s .pre .1)
 
+next-start-requires : tie.Need-next-start-requires Inv-loop μ-loop
+next-start-requires c κs =
+    let s = c .before .before .before .before .before .before .before .before .before .before .before .before .before .before .before .before .before .before .before in
+    let a = s .args in
+    start-room nan (weighedLine floatOps (a .class) (now (a .weights))) (s .pre .0) (c .before .before .before .before .before .before .before .before .before .before .before .loop .inv) (search needs)
+
 add-lane : tie.Need-add-lane Inv-loop μ-loop
 add-lane c = search needs
 
@@ -41,11 +47,11 @@ loop-less c = search needs
 
 loop-again : tie.Need-loop-again Inv-loop μ-loop
 loop-again c =
-    let s = c .before .before .before .before .before .before .before .before .before .before .before .before .before .before .before .before .before .before .before in
+    let s = c .before .before .before .before .before .before .before .before .before .before .before .before .before .before .before .before .before .before .before .before in
     let a = s .args in
-    let k = c .before .before .before .before .before .before .correlate-lane in
-    sweeping-more nan (weighedLine floatOps (a .class) (now (a .weights))) (s .pre .0) (c .before .before .before .before .before .before .before .before .before .before .before .loop .inv) (search needs)
-    (k .kept .1 .1 .1 .1 .1 .1 .1 .1 .0) (k .kept .1 .1 .1 .1 .1 .1 .1 .1 .1 .0) (k .ensures)
+    let k = c .before .before .before .before .before .before .before .correlate-lane in
+    sweeping-more nan (weighedLine floatOps (a .class) (now (a .weights))) (s .pre .0) (c .before .before .before .before .before .before .before .before .before .before .before .before .loop .inv) (c .before .before .before .before .before .before .before .before .before .before .before .loop-test .taken) (c .next-start .ensures)
+    (k .kept .1 .1 .1 .1 .1 .1 .1 .1 .1 .0) (k .kept .1 .1 .1 .1 .1 .1 .1 .1 .1 .1 .0) (k .ensures)
 
 same-length : tie.Need-same-length Inv-loop μ-loop
 same-length c = c .before .loop .inv .buffer ∙ sym (c .before .before .before .before .before .before .before .before .before .pre .2)
@@ -71,6 +77,7 @@ correlate-lanes-spec =
     lanes-of-requires
     loop-holds
     correlate-lane-requires
+    next-start-requires
     add-lane
     loop-less
     loop-again
