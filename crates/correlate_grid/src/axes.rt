@@ -16,6 +16,13 @@ pub struct Axis {
     pub side: usize,
 }
 
+// The three axes of a grid, the outermost first.
+pub struct Axes {
+    pub planes: Axis,
+    pub rows: Axis,
+    pub cells: Axis,
+}
+
 // The axis that stands `back` axes before the last. A missing one has one cell and no pads, and the kernel one cell there.
 pub(crate) fn axis_from(
     shape: &[usize],

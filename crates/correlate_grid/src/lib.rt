@@ -27,7 +27,12 @@ pub fn correlate_cells(
     let planes = axes::axis_from(shape, 2, side, left, right);
     let rows = axes::axis_from(shape, 1, side, left, right);
     let cells = axes::axis_from(shape, 0, side, left, right);
-    cells::correlate_three(data, weights, mode, planes, rows, cells, out);
+    let axes = axes::Axes {
+        planes: planes,
+        rows: rows,
+        cells: cells,
+    };
+    cells::correlate_three(data, weights, mode, axes, out);
 }
 
 // Worked rows of this crate's definitions. Refuses nothing.
