@@ -12,7 +12,6 @@ use Rattle.numbers.specs.Lists.{tabulate}
 use Rattle.numbers.proofs.Size.{Size}
 use Rattle.numbers.proofs.Tabulate.{length-tabulate, getD-tabulate, tabulate-agree}
 use Rattle.border.specs.Border.{Border, extendedGrid}
-use Rattle.correlation.specs.Weighed.{summed}
 use Rattle.correlation.proofs.Summed.{summed-agree, summed-more}
 use Rattle.line_sums.proofs.Computed.{read, computed-level, computed-read}
 use Rattle.correlate_grid.specs.declared.axes.Axis.{Axis}

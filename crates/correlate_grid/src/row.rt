@@ -75,7 +75,8 @@ pub(crate) fn add_kernel_row(
         row,
         line,
     );
-    let a = q * cells.side;
-    let e = a + cells.side;
+    let side = cells.side;
+    let a = q * side;
+    let e = a + side;
     plain_line::add_line(&weights[a..e], line, out);
 }

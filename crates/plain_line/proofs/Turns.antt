@@ -1,7 +1,7 @@
 -- One turn of a loop that adds terms along a row, on the machine: whichever cells and weights it reads, the terms, their sum and what the row then holds fit 64 bits;
 -- and where they are those that are meant, the row has one cell more. Assumes nothing.
-use Prim.Native.Nat.{ℕ, _+_, _*_, _^_, _<_, _≤_}
-use mathlib.Core.Path.{_≡_, sym, ap, subst, _∙_}
+use Prim.Native.Nat.{ℕ, _+_, _^_, _<_}
+use mathlib.Core.Path.{_≡_, sym, subst, _∙_}
 use mathlib.Core.List.{List}
 use native.Mathlib.Nat.{add-assoc}
 use native.Mathlib.Omega.{arith}

@@ -1,6 +1,6 @@
 -- `plain_line::add_line` meets its contract: each turn adds the term of one weight that the passes by threes left. The invariant speaks of whatever the row held
 -- before them. Assumes nothing.
-use mathlib.Core.Path.{_≡_, refl, _∙_}
+use mathlib.Core.Path.{_≡_, refl}
 use mathlib.Core.List.{List}
 use Prim.Native.Nat.{_-_, _≤_}
 use native.Mathlib.Omega.{arith}

@@ -1,6 +1,6 @@
 -- `correlate_grid::cells::add_kernel_plane` meets its contract: each turn adds the sums of the kernel plane's next row.
 -- Assumes nothing.
-use mathlib.Core.Path.{_≡_, sym, _∙_}
+use mathlib.Core.Path.{sym, _∙_}
 use Prim.Native.Nat.{_+_, _-_, _*_, _≤_, _<_}
 use native.Mathlib.Nat.{add-mul}
 use native.Mathlib.Omega.{arith}

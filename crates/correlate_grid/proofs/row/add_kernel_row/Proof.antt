@@ -13,13 +13,13 @@ load-row-requires : tie.Need-load-row-requires
 load-row-requires c κs = let s = c .before .before .before in (s .pre .0 .row, s .pre .0 .small, row-in (s .pre .0) (s .pre .1), s .pre .1 .line-long)
 
 mul-a : tie.Need-mul-a
-mul-a c = let s = c .before .before .before .before .before .before in omega (arith, weights-in (s .pre .0) (s .pre .1), weights-few (s .pre .0))
+mul-a c = let s = c .before .before .before .before .before in omega (arith, weights-in (s .pre .0) (s .pre .1), weights-few (s .pre .0))
 
 add-e : tie.Need-add-e
-add-e c = let s = c .before .before .before .before .before .before .before in omega (arith, weights-in (s .pre .0) (s .pre .1), weights-few (s .pre .0))
+add-e c = let s = c .before .before .before .before .before in omega (arith, weights-in (s .pre .0) (s .pre .1), weights-few (s .pre .0))
 
 mul-add-line : tie.Need-mul-add-line
-mul-add-line c = let s = c .before .before .before .before .before .before .before in omega (arith, weights-in (s .pre .0) (s .pre .1), weights-few (s .pre .0))
+mul-add-line c = let s = c .before .before .before .before .before in omega (arith, weights-in (s .pre .0) (s .pre .1), weights-few (s .pre .0))
 
 sub-add-line : tie.Need-sub-add-line
 sub-add-line c = search needs
@@ -28,10 +28,10 @@ part-add-line-start : tie.Need-part-add-line-start
 part-add-line-start c = search needs
 
 part-add-line-end : tie.Need-part-add-line-end
-part-add-line-end c = let s = c .before .before .before .before .before .before .before in weights-in (s .pre .0) (s .pre .1)
+part-add-line-end c = let s = c .before .before .before .before .before in weights-in (s .pre .0) (s .pre .1)
 
 add-line-requires : tie.Need-add-line-requires
-add-line-requires c κs = let s = c .before .before .before .before .before .before .before .before .before .before in row-addable (s .pre .0) (s .pre .1) (c .before .before .before .before .before .before .load-row .ensures)
+add-line-requires c κs = let s = c .before .before .before .before .before .before .before .before in row-addable (s .pre .0) (s .pre .1) (c .before .before .before .before .load-row .ensures)
 
 same-length : tie.Need-same-length
 same-length c = search needs
@@ -40,7 +40,7 @@ same-length-2 : tie.Need-same-length-2
 same-length-2 c = search needs
 
 returns : tie.Need-returns
-returns c = let s = c .before .before .before .before .before .before .before .before .before .before .before .before in row-added (s .pre .0) (s .pre .1) (c .before .before .before .before .before .before .before .before .load-row .ensures) (c .before .add-line .ensures)
+returns c = let s = c .before .before .before .before .before .before .before .before .before .before in row-added (s .pre .0) (s .pre .1) (c .before .before .before .before .before .before .load-row .ensures) (c .before .add-line .ensures)
 
 pub add-kernel-row-spec : {M : Type 1} → statement M
 add-kernel-row-spec =
