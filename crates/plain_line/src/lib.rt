@@ -1,5 +1,4 @@
-// Adds the weighted sums of a whole line to what a row holds: three neighbouring weights a pass along the row while three are left, then one. The compiler makes
-// one machine multiply of each of three products, where it makes several vector instructions of a single one.
+// Adds the weighted sums of a whole line to what a row holds: three neighbouring weights a pass along the row while three are left, then one.
 ghost use mathlib.Core.Path.{_≡_};
 ghost use Prim.Native.Nat.{_+_, _≤_, _<_};
 ghost use lib.ListN.{length};
@@ -21,7 +20,8 @@ fn add_row(weights: &[i64], line: &[i64], j: usize, out: &mut [i64])
     }
 }
 
-// Adds to every cell the terms of cells j to j + 2 of its window.
+// Adds to every cell the terms of cells j to j + 2 of its window. Two of them are kept from cell to cell: so the compiler makes one machine multiply of a product,
+// where it makes several vector instructions of one whose cell is read anew.
 fn add_three_rows(weights: &[i64], line: &[i64], j: usize, out: &mut [i64])
     requires { ⌜ Passed (now weights) (now line) (now out) × (j + 3 ≤ length (now weights)) ⌝ }
     ensures { λ _. ⌜ now (out .exit) ≡ tabulate (plus (now (out .entry)) (λ i. threeTerms (now (weights .entry)) (now (line .entry)) i j)) 0 (length (now (out .entry))) ⌝ }
@@ -30,12 +30,14 @@ fn add_three_rows(weights: &[i64], line: &[i64], j: usize, out: &mut [i64])
     let w1 = weights[j + 1];
     let w2 = weights[j + 2];
     let n = out.len();
+    let mut x0 = line[j];
+    let mut x1 = line[j + 1];
     let mut i = 0;
     while i < n {
-        let t0 = line[i + j] * w0;
-        let t1 = line[i + j + 1] * w1;
-        let t2 = line[i + j + 2] * w2;
-        out[i] = out[i] + (t0 + t1 + t2);
+        let x2 = line[i + j + 2];
+        out[i] = out[i] + (x0 * w0 + x1 * w1 + x2 * w2);
+        x0 = x1;
+        x1 = x2;
         i += 1;
     }
 }
