@@ -29,7 +29,7 @@ pub length-filtered : (f : LineFilter) (w : List ℤ) (size : ℕ) (p : List ℤ
 unfolding firsts
 length-filtered Least w size p k = length-tabulate _ 0 k
 length-filtered Greatest w size p k = length-tabulate _ 0 k
-length-filtered (Weighed class) w size p k = length-tabulate _ 0 k
+length-filtered Weighed w size p k = length-tabulate _ 0 k
 length-filtered Mean w size p k = length-tabulate _ 0 k
 
 -- ---- a test that fails of every cell of a list, and of what stands past its end, fails of the padded lane
@@ -89,5 +89,5 @@ module _ {b : Border ℤ} {s l base left right : ℕ} {g line₀ swept₀ out₀
   pub line-served : (f : LineFilter) (w : List ℤ) → Supposed f w (left + right + 1) b g → ServedLine f w (left + right + 1) (paddedLine (pos 0) b left right (lane (pos 0) (length swept₀) s l g)) (length swept₀)
   line-served Least w S = served S
   line-served Greatest w S = served S
-  line-served (Weighed class) w S = (weighable w (S .many) (S .weights) (S .level) (S .cells-in), S .class-is)
+  line-served Weighed w S = weighable w (S .many) (S .weights) (S .level) (S .cells-in)
   line-served Mean w S = averaged S

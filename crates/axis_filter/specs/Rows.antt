@@ -8,7 +8,6 @@ use lib.IntN.{ℤ, pos}
 use Rattle.numbers.specs.Rows.{wholes}
 use Rattle.border.specs.Border.{along}
 use Rattle.border.specs.declared.Along.the-variants.{Nearest}
-use Rattle.symmetry.specs.declared.SymmetryState.the-variants.{NonSymmetric}
 use Rattle.axis_filter.specs.Lane.{filteredLane}
 use Rattle.axis_filter.specs.Filter.{filtered}
 use Rattle.axis_filter.specs.declared.LineFilter.{LineFilter}
@@ -21,5 +20,5 @@ pub record AxisFilterRows : Type 0 where
   -- 4 2 7 1 in windows of three: the least, the greatest, the sums with weights 1 2 3, and the means, cut toward zero
   pub least : onLane Least [] (4 ∷ 2 ∷ 7 ∷ 1 ∷ []) ≡ wholes (2 ∷ 2 ∷ 1 ∷ 1 ∷ [])
   pub greatest : onLane Greatest [] (4 ∷ 2 ∷ 7 ∷ 1 ∷ []) ≡ wholes (4 ∷ 7 ∷ 7 ∷ 7 ∷ [])
-  pub weighed : onLane (Weighed NonSymmetric) (1 ∷ 2 ∷ 3 ∷ []) (4 ∷ 2 ∷ 7 ∷ 1 ∷ []) ≡ wholes (18 ∷ 29 ∷ 19 ∷ 12 ∷ [])
+  pub weighed : onLane Weighed (1 ∷ 2 ∷ 3 ∷ []) (4 ∷ 2 ∷ 7 ∷ 1 ∷ []) ≡ wholes (18 ∷ 29 ∷ 19 ∷ 12 ∷ [])
   pub mean : onLane Mean [] (4 ∷ 2 ∷ 7 ∷ 1 ∷ []) ≡ wholes (3 ∷ 4 ∷ 3 ∷ 3 ∷ [])

@@ -10,13 +10,12 @@ ghost use Rattle.axis_filter.specs.Lane.{filteredLane, Room, Sweep};
 ghost use Rattle.axis_filter.specs.Filter.{filtered, ServedLine, Supposed};
 ghost use Rattle.axis_filter.specs.Rows.{AxisFilterRows};
 use border::BorderMode;
-use symmetry::SymmetryState;
 
-// What is taken of each window: its least or its greatest level, its weighted sum with the class of the weights, or its mean.
+// What is taken of each window: its least or its greatest level, its weighted sum, or its mean.
 pub enum LineFilter {
     Least,
     Greatest,
-    Weighed(SymmetryState),
+    Weighed,
     Mean,
 }
 
@@ -28,7 +27,7 @@ fn filter_line(filter: LineFilter, weights: &[i64], size: usize, line: &[i64], o
     match filter {
         LineFilter::Least => minimum_line::minimum_line(line, size, out),
         LineFilter::Greatest => maximum_line::maximum_line(line, size, out),
-        LineFilter::Weighed(class) => correlate_line::correlate_line(weights, class, line, out),
+        LineFilter::Weighed => correlate_line::correlate_line(weights, line, out),
         LineFilter::Mean => uniform_line::uniform_line(line, size, out),
     }
 }

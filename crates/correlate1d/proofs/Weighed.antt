@@ -14,7 +14,6 @@ use Rattle.array.specs.Grid.{lengthOf}
 use Rattle.lanes.specs.Lanes.{alongAxis}
 use Rattle.border.specs.Border.{Border}
 use Rattle.pad_line.specs.Line.{badPad}
-use Rattle.symmetry.specs.Class.{classZ}
 use Rattle.symmetry.specs.declared.SymmetryState.{SymmetryState}
 use Rattle.filter_judge.specs.Judge.{windowOrigin}
 use Rattle.filter_judge.proofs.Reach.{leftOf, rightOf, pads-size}
@@ -62,7 +61,6 @@ module _ {A : Type 0} {b : Border A} {ns : List ℕ} {a : ℕ} {o : ℤ} {w cell
         ∙ sym (cond-no (eqb (length w) 1) _ _ (ne-eqb (length w) 1 two-weights))
 
 -- the weights and levels of a whole call
-pub weighing : {b : Border ℤ} {ns : List ℕ} {a : ℕ} {o : ℤ} {w cells out : List ℤ} (W : Weighs b ns a o w cells out) {l g : ℕ} → l ≡ leftOf (length w) o → g ≡ rightOf (length w) o
-    → {class : SymmetryState} → class ≡ classZ w → Weighing class w (l + g + 1) b cells
+pub weighing : {b : Border ℤ} {ns : List ℕ} {a : ℕ} {o : ℤ} {w cells out : List ℤ} (W : Weighs b ns a o w cells out) {l g : ℕ} → l ≡ leftOf (length w) o → g ≡ rightOf (length w) o → Weighing w (l + g + 1) b cells
 unfolding badWeight
-weighing W L G q = record { class-is = q; many = sym (pads-total (W .placed) L G); weights = W .weights; level = W .level; cells-in = W .levels }
+weighing W L G = record { many = sym (pads-total (W .placed) L G); weights = W .weights; level = W .level; cells-in = W .levels }

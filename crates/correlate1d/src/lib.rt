@@ -43,7 +43,7 @@ pub fn weigh(
     match origin::origin_check(weights.len(), origin) {
         Origin::Refused => {}
         Origin::Pads(left, right) => axis_filter::filter_axis(
-            LineFilter::Weighed(symmetry_state::symmetry_state_i64(weights)),
+            LineFilter::Weighed,
             weights,
             mode,
             data,

@@ -19,9 +19,10 @@ use Rattle.border.specs.Border.{Border, constant, along}
 use Rattle.border.specs.declared.Along.the-variants.{Nearest, Mirror, Reflect, Wrap}
 use Rattle.pad_line.specs.Line.{badPad}
 use Rattle.correlation.specs.Kernel.{sidesOf, kernelSum, kernelAnswer}
+use Rattle.correlate_grid.specs.declared.axes.Axes.{Axes}
 use Rattle.correlate_grid.specs.declared.axes.Axis.{Axis}
 use Rattle.correlate_grid.specs.Kernel.{Kernelled}
-use Rattle.correlate_grid.specs.Axes.{axisFrom, Serves, Laid}
+use Rattle.correlate_grid.specs.Axes.{axisFrom, axesOf, Serves, Laid}
 use Rattle.correlate_grid.proofs.EveryRow.{sumAt}
 use Rattle.correlate_grid.proofs.ThreeAxes.{sumBy, count-three, sum-three, lifted, sum-lifted}
 
@@ -84,10 +85,8 @@ module _ {b : Border ℤ} {ns : List ℕ} {side left right : ℕ} {w cells out :
     levels = K .levels;
   }
 
-  pub laid-on : {x y z : Axis} → x ≡ axisFrom ns 2 side left right → y ≡ axisFrom ns 1 side left right → z ≡ axisFrom ns 0 side left right → Laid b x y z w cells
-  laid-on {x} {y} {z} ex ey ez =
-      subst (λ (a : Axis). Laid b a y z w cells) (sym ex)
-      (subst (λ (a : Axis). Laid b (axis 2) a z w cells) (sym ey) (subst (λ (a : Axis). Laid b (axis 2) (axis 1) a w cells) (sym ez) laid))
+  pub laid-on : {x : Axes} → x ≡ axesOf ns side left right → Laid b (x .planes) (x .rows) (x .cells) w cells
+  laid-on e = subst (λ (x : Axes). Laid b (x .planes) (x .rows) (x .cells) w cells) (sym e) laid
 
   -- ---- the sums
   module _ (k : ℕ) where
@@ -112,9 +111,9 @@ module _ {b : Border ℤ} {ns : List ℕ} {side left right : ℕ} {w cells out :
     sum-is : k < cellCount ns → sumBy b (λ a. left) (sidesOf ns side) w ns cells k ≡ sumAt b (axis 2) (axis 1) (axis 0) w cells k
     sum-is h = by-axes Sums one-axis two-axes three-axes ns (accepted .some) (accepted .few) laid (K .many) h (subst (λ (m : ℕ). k < m) (counts .0) h)
 
-  pub answered : {x y z : Axis} {new : List ℤ} → x ≡ axisFrom ns 2 side left right → y ≡ axisFrom ns 1 side left right → z ≡ axisFrom ns 0 side left right
-      → new ≡ tabulate (sumAt b x y z w cells) 0 (length cells) → new ≡ kernelAnswer b left (sidesOf ns side) w ns cells
+  pub answered : {x : Axes} {new : List ℤ} → x ≡ axesOf ns side left right → new ≡ tabulate (sumAt b (x .planes) (x .rows) (x .cells) w cells) 0 (length cells)
+      → new ≡ kernelAnswer b left (sidesOf ns side) w ns cells
   unfolding kernelAnswer kernelSum
-  answered ex ey ez e =
-      e ∙ (λ j. tabulate (sumAt b (ex j) (ey j) (ez j) w cells) 0 (K .count j))
+  answered e f =
+      f ∙ (λ j. tabulate (sumAt b (e j .planes) (e j .rows) (e j .cells) w cells) 0 (K .count j))
       ∙ tabulate-agree _ _ 0 (cellCount ns) (λ k h. sym (sum-is (0 + k) (omega arith)))

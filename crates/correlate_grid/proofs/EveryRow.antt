@@ -4,7 +4,7 @@ use mathlib.Core.Path.{_≡_, refl, sym, ap, subst, _∙_}
 use mathlib.Core.Bool.{Bool, true, false}
 use mathlib.Core.List.{List, _++_}
 use Prim.Native.Nat.{ℕ, _+_, _-_, _*_, _/_, _%_, _≤_, _<_}
-use native.Mathlib.Nat.{add-mul}
+use native.Mathlib.Nat.{add-zero, add-mul, div-add-mod'}
 use native.Mathlib.Omega.{arith}
 use borrow.Author.Tests.{ltb-true, ltb-false}
 use borrow.Rule.Slice.PartMut.{putMid, midOf, postOf, mid-len, same-len-mid}
@@ -20,38 +20,27 @@ use Rattle.border.specs.Border.{Border}
 use Rattle.correlation.specs.Weighed.{summed}
 use Rattle.correlate_grid.specs.declared.axes.Axis.{Axis}
 use Rattle.correlate_grid.specs.Axes.{Laid}
-use Rattle.correlate_grid.specs.ByRows.{rowsTo}
+use Rattle.correlate_grid.specs.ByRows.{rowsTo, Summing}
 
--- ---- the kernel rows below q are summed
-pub record Summing (b : Border ℤ) (x y z : Axis) (w cells : List ℤ) (r count q : ℕ) (line swept out : List ℤ) : Type 0 where
-  pub count-is : count ≡ x .side * y .side
-  pub below : q ≤ count
-  pub line-long : length line ≡ z .left + z .len + z .right
-  pub swept-long : length swept ≡ z .len
-  pub sums : out ≡ tabulate (rowsTo b x y z w cells r q) 0 (z .len)
-
+-- ---- the first m kernel rows are summed
 module _ {b : Border ℤ} {x y z : Axis} {w cells : List ℤ} {r : ℕ} where
-  pub summing-none : {line swept out : List ℤ} (out₀ : List ℤ) → length line ≡ z .left + z .len + z .right → length swept ≡ z .len → length out₀ ≡ z .len → out ≡ replicate (length out₀) (pos 0)
-      → Summing b x y z w cells r (x .side * y .side) 0 line swept out
+  pub summing-none : {line out : List ℤ} (out₀ : List ℤ) → length line ≡ z .left + z .len + z .right → length out₀ ≡ z .len → out ≡ replicate (length out₀) (pos 0)
+      → Summing b x y z w cells r (0 * y .side) line out
   unfolding rowsTo summed
-  summing-none out₀ l s o e = record {
-    count-is = refl;
-    below = omega arith;
-    line-long = l;
-    swept-long = s;
-    sums = e ∙ ap (λ (n : ℕ). replicate n (pos 0)) o ∙ sym (tabulate-replicate (pos 0) 0 (z .len));
-  }
+  summing-none out₀ l o e = record { line-long = l; sums = e ∙ ap (λ (n : ℕ). replicate n (pos 0)) o ∙ sym (tabulate-replicate (pos 0) 0 (z .len)) ∙ ap (λ (m : ℕ). tabulate (rowsTo b x y z w cells r m) 0 (z .len)) none }
+    where
+      none : 0 ≡ 0 * y .side
+      none = omega arith
 
-  module _ {count q : ℕ} {line swept out : List ℤ} (S : Summing b x y z w cells r count q line swept out) where
-    pub summing-more : {line′ swept′ out′ : List ℤ} → q < count → length line′ ≡ length line → length swept′ ≡ length swept → out′ ≡ tabulate (rowsTo b x y z w cells r (q + 1)) 0 (z .len)
-        → Summing b x y z w cells r count (q + 1) line′ swept′ out′
-    summing-more h l s e = record { count-is = S .count-is; below = omega arith; line-long = l ∙ S .line-long; swept-long = s ∙ S .swept-long; sums = e }
+  pub summing-length : {m : ℕ} {line out : List ℤ} → Summing b x y z w cells r m line out → length out ≡ z .len
+  summing-length {m} S = ap length (S .sums) ∙ length-tabulate (rowsTo b x y z w cells r m) 0 (z .len)
 
-    pub summing-length : length out ≡ z .len
-    summing-length = ap length (S .sums) ∙ length-tabulate (rowsTo b x y z w cells r q) 0 (z .len)
+  pub summing-start : {m : ℕ} {line out : List ℤ} → Summing b x y z w cells r m line out → Summing b x y z w cells r (m + 0) line out
+  summing-start {m} {line} {out} S = subst (λ (k : ℕ). Summing b x y z w cells r k line out) (sym (add-zero m)) S
 
-    pub summing-all : count ≤ q → out ≡ tabulate (rowsTo b x y z w cells r (x .side * y .side)) 0 (z .len)
-    summing-all h = let e : q ≡ x .side * y .side = omega (arith, S .count-is, S .below) in S .sums ∙ ap (λ (m : ℕ). tabulate (rowsTo b x y z w cells r m) 0 (z .len)) e
+  -- the sums of as many kernel rows
+  pub summing-to : {m : ℕ} {line out : List ℤ} → Summing b x y z w cells r m line out → (k : ℕ) → m ≡ k → out ≡ tabulate (rowsTo b x y z w cells r k) 0 (z .len)
+  summing-to S k e = S .sums ∙ ap (λ (m : ℕ). tabulate (rowsTo b x y z w cells r m) 0 (z .len)) e
 
 -- ---- a row stored in the grid: the cells before it stay, and its own are the row's
 module _ {A : Type 0} (d : A) (a n : ℕ) (out part : List A) (long : length part ≡ n) (room : a + n ≤ length out) where
@@ -71,54 +60,42 @@ module _ {A : Type 0} (d : A) (a n : ℕ) (out part : List A) (long : length par
 abbrev pub sumAt : Border ℤ → Axis → Axis → Axis → List ℤ → List ℤ → ℕ → ℤ
 sumAt b x y z w cells k = rowsTo b x y z w cells (k / z .len) (x .side * y .side) (k % z .len)
 
-pub record Storing (b : Border ℤ) (x y z : Axis) (w cells : List ℤ) (count n r : ℕ) (line swept out : List ℤ) : Type 0 where
-  pub count-is : count ≡ x .len * y .len
-  pub length-is : n ≡ z .len
-  pub below : r ≤ count
+pub record Storing (b : Border ℤ) (x y z : Axis) (w cells : List ℤ) (r : ℕ) (line out : List ℤ) : Type 0 where
+  pub below : r ≤ x .len * y .len
   pub line-long : length line ≡ z .left + z .len + z .right
-  pub swept-long : length swept ≡ z .len
   pub kept : length out ≡ length cells
   pub sums : (k : ℕ) → k < r * z .len → getD out k (pos 0) ≡ sumAt b x y z w cells k
 
 module _ {b : Border ℤ} {x y z : Axis} {w cells : List ℤ} (L : Laid b x y z w cells) where
-  pub storing-none : {line swept out : List ℤ} → length line ≡ z .left + z .len + z .right → length swept ≡ z .len → length out ≡ length cells
-      → Storing b x y z w cells (x .len * y .len) (z .len) 0 line swept out
-  storing-none l s o = record { count-is = refl; length-is = refl; below = omega arith; line-long = l; swept-long = s; kept = o; sums = λ k h. absurd (omega arith) }
+  pub storing-none : {line out : List ℤ} → length line ≡ z .left + z .len + z .right → length out ≡ length cells → Storing b x y z w cells 0 line out
+  storing-none l o = record { below = omega arith; line-long = l; kept = o; sums = λ k h. absurd (omega arith) }
 
-  module _ {count n r : ℕ} {line swept out : List ℤ} (S : Storing b x y z w cells count n r line swept out) where
-    pub row-room : r < count → r * n + n ≤ length out
-    row-room h =
-        let p : r < x .len * y .len = omega (arith, S .count-is) in
-        subst (λ (m : ℕ). r * m + m ≤ length out) (sym (S .length-is)) (omega (arith, step-le (z .len) p, S .kept, L .count))
+  module _ {r : ℕ} {line out : List ℤ} (S : Storing b x y z w cells r line out) where
+    abbrev a : ℕ
+    a = r * z .len
 
-    pub part-long : r < count → length (midOf (r * n) (r * n + n - r * n) out) ≡ z .len
-    part-long h = mid-len (r * n) (r * n + n) out (row-room h) ∙ omega (arith, S .length-is)
+    pub row-room : r < x .len * y .len → r * z .len + z .len ≤ length out
+    row-room h = omega (arith, step-le (z .len) h, S .kept, L .count)
+
+    pub part-long : r < x .len * y .len → length (midOf (r * z .len) (r * z .len + z .len - r * z .len) out) ≡ z .len
+    part-long h = mid-len a (a + z .len) out (row-room h) ∙ omega arith
 
     -- one row more
-    pub storing-more : {line′ swept′ part out′ : List ℤ} → r < count → length line′ ≡ length line → length swept′ ≡ length swept
-        → part ≡ tabulate (rowsTo b x y z w cells r (x .side * y .side)) 0 (z .len) → out′ ≡ putMid (r * n) (r * n + n - r * n) out part
-        → Storing b x y z w cells count n (r + 1) line′ swept′ out′
-    storing-more {line′} {swept′} {part} {out′} h l s p e = record {
-      count-is = S .count-is;
-      length-is = S .length-is;
+    pub storing-more : {line′ part out′ : List ℤ} → r < x .len * y .len → length line′ ≡ length line
+        → part ≡ tabulate (rowsTo b x y z w cells (r / y .len * y .len + r % y .len) (x .side * y .side)) 0 (z .len) → out′ ≡ putMid (r * z .len) (r * z .len + z .len - r * z .len) out part
+        → Storing b x y z w cells (r + 1) line′ out′
+    storing-more {line′} {part} {out′} h l f e = record {
       below = omega arith;
       line-long = l ∙ S .line-long;
-      swept-long = s ∙ S .swept-long;
-      kept = ap length (e ∙ same) ∙ same-len-mid a (a + z .len - a) out part (long ∙ sym (mid-len a (a + z .len) out room ∙ omega arith)) ∙ S .kept;
-      sums = λ k c. ap (λ (o : List ℤ). getD o k (pos 0)) (e ∙ same) ∙ at k c (ltb k a) refl;
+      kept = ap length e ∙ same-len-mid a (a + z .len - a) out part (long ∙ sym (part-long h)) ∙ S .kept;
+      sums = λ k c. ap (λ (o : List ℤ). getD o k (pos 0)) e ∙ at k c (ltb k a) refl;
     }
       where
-        a : ℕ
-        a = r * z .len
-
-        same : putMid (r * n) (r * n + n - r * n) out part ≡ putMid a (a + z .len - a) out part
-        same = ap (λ (m : ℕ). putMid (r * m) (r * m + m - r * m) out part) (S .length-is)
+        p : part ≡ tabulate (rowsTo b x y z w cells r (x .side * y .side)) 0 (z .len)
+        p = f ∙ ap (λ (m : ℕ). tabulate (rowsTo b x y z w cells m (x .side * y .side)) 0 (z .len)) (div-add-mod' r (y .len))
 
         long : length part ≡ z .len
         long = ap length p ∙ length-tabulate (rowsTo b x y z w cells r (x .side * y .side)) 0 (z .len)
-
-        room : a + z .len ≤ length out
-        room = subst (λ (m : ℕ). r * m + m ≤ length out) (S .length-is) (row-room h)
 
         own : (i : ℕ) → i < z .len → getD part i (pos 0) ≡ sumAt b x y z w cells (a + i)
         own i c =
@@ -126,16 +103,16 @@ module _ {b : Border ℤ} {x y z : Axis} {w cells : List ℤ} (L : Laid b x y z 
             ∙ (λ j. rowsTo b x y z w cells (sym (digits-div r c) j) (x .side * y .side) (sym (digits-mod r c) j))
 
         at : (k : ℕ) → k < (r + 1) * z .len → (t : Bool) → ltb k a ≡ t → getD (putMid a (a + z .len - a) out part) k (pos 0) ≡ sumAt b x y z w cells k
-        at k c true q = let f = ltb-true k a q in stored-before (pos 0) a (z .len) out part long room k f ∙ S .sums k f
+        at k c true q = let g = ltb-true k a q in stored-before (pos 0) a (z .len) out part long (row-room h) k g ∙ S .sums k g
         at k c false q =
-            let f = ltb-false k a q in
+            let d = ltb-false k a q in
             let i : k - a < z .len = omega (arith, add-mul r 1 (z .len)) in
             let g : a + (k - a) ≡ k = omega arith in
             ap (λ (j : ℕ). getD (putMid a (a + z .len - a) out part) j (pos 0)) (sym g)
-            ∙ stored-on (pos 0) a (z .len) out part long room (k - a) i ∙ own (k - a) i ∙ ap (sumAt b x y z w cells) g
+            ∙ stored-on (pos 0) a (z .len) out part long (row-room h) (k - a) i ∙ own (k - a) i ∙ ap (sumAt b x y z w cells) g
 
-    pub storing-all : count ≤ r → out ≡ tabulate (sumAt b x y z w cells) 0 (length cells)
+    pub storing-all : x .len * y .len ≤ r → out ≡ tabulate (sumAt b x y z w cells) 0 (length cells)
     storing-all h = tabulate-unique (pos 0) (sumAt b x y z w cells) out (length cells) (S .kept) (λ k c. S .sums k (subst (λ (m : ℕ). k < m) (L .count ∙ ap (λ (m : ℕ). m * z .len) last) c))
       where
         last : x .len * y .len ≡ r
-        last = omega (arith, S .count-is, S .below)
+        last = omega (arith, S .below)

@@ -1,10 +1,10 @@
 -- Laws of correlation with a grid kernel, leaves first.
-pub mod Added
 pub mod Lines
 pub mod Sources
 pub mod RowLine
-pub mod Turn
+pub mod KernelRow
 pub mod SumSizes
+pub mod Turn
 pub mod EveryRow
 pub mod ThreeAxes
 pub mod Accepted

@@ -23,8 +23,8 @@ use Rattle.pad_line.specs.Line.{paddedAt, paddedLine, paddedLane}
 use Rattle.pad_line.proofs.Padded.{length-padded, getD-padded}
 use Rattle.axis_filter.proofs.Supposed.{any-table, any-padded}
 use Rattle.correlate_grid.specs.declared.axes.Axis.{Axis}
-use Rattle.correlate_grid.specs.Axes.{Serves, sourceFor}
-use Rattle.correlate_grid.specs.ByRows.{three, rowFor, constantOf, rowLine, Ready}
+use Rattle.correlate_grid.specs.Axes.{Serves, sourceFor, Laid}
+use Rattle.correlate_grid.specs.ByRows.{three, rowFor, constantOf, rowLine}
 use Rattle.correlate_grid.proofs.Lines.{lane-row, padded-is}
 use Rattle.correlate_grid.proofs.Sources.{ReadsIn}
 use Rattle.numbers.specs.Ranges.{outsideZ}
@@ -156,16 +156,18 @@ constant-wide : (b : Border ℤ) → badConstantBy badLevel b ≡ false → badC
 constant-wide (constant c) e = level-wide c e
 constant-wide (along m) e = refl
 
-pub ready-weighable : {b : Border ℤ} {z : Axis} {none row : ℕ} {w cells line swept : List ℤ} → Ready b z none row w cells line swept → (s : List ℤ) → s ≡ rowLine b z none row cells → (n : ℕ) → n ≡ z .len → Weighable w s n
-ready-weighable {b} {z} {none} {row} {w} {cells} {line} {swept} R s e n k =
-    let S = R .axis in
+-- a padded row and the weights v of a kernel row
+pub row-weighable : {b : Border ℤ} {x y z : Axis} {w cells : List ℤ} → Laid b x y z w cells → (none row : ℕ) (v s : List ℤ) (n : ℕ) → length v ≡ z .side
+    → anyOf (outsideZ (negℤ (pos 65535)) (pos 65535)) v ≡ false → s ≡ rowLine b z none row cells → n ≡ z .len → Weighable v s n
+row-weighable {b} {x} {y} {z} {w} {cells} L none row v s n many small e k =
+    let S = L .row in
     let l : length s ≡ z .left + z .len + z .right = ap length e ∙ length-line b z none row cells in record {
-      some = omega (arith, S .some-side, R .many);
-      few = omega (arith, S .wide, S .pads, R .many);
-      long = omega (arith, S .wide, R .many);
+      some = omega (arith, S .some-side);
+      few = omega (arith, S .wide, S .pads);
+      long = omega (arith, S .wide);
       short = omega (arith, S .short, S .pads);
-      weights = R .weights;
+      weights = small;
       cells =
           ap (anyOf (outsideZ (negℤ (pos (2 ^ 38))) (pos (2 ^ 38)))) e
-          ∙ any-line b z none row cells _ refl (constant-wide b (R .level)) (any-imp badLevel _ level-wide cells (R .levels));
+          ∙ any-line b z none row cells _ refl (constant-wide b (L .level)) (any-imp badLevel _ level-wide cells (L .levels));
     }

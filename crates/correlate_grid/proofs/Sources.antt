@@ -11,6 +11,7 @@ use lib.IntN.{ℤ, pos, negsuc, negℤ, natAbs, _-ℤ_}
 use lib.ListN.{length, getD}
 use Rattle.numbers.specs.Lists.{tabulate}
 use Rattle.numbers.proofs.IntSum.{minus-pos, minus-neg, +ℤ-right-comm}
+use Rattle.numbers.proofs.Size.{Size, size-read}
 use Rattle.numbers.proofs.Tabulate.{length-tabulate, getD-tabulate}
 use Rattle.lanes.specs.Lanes.{lane, laneBase}
 use Rattle.lanes.proofs.Cells.{length-laneAt}
@@ -18,6 +19,7 @@ use Rattle.border.specs.Border.{Border, constant, along, cellAfter, cellFor, in
 use Rattle.border.specs.declared.Along.{Along}
 use Rattle.pad_line.specs.Line.{badAlong, badPad, paddedAt, paddedLane}
 use Rattle.pad_line.proofs.Reach.{cell-before-in, cell-after-in}
+use Rattle.line_sums.proofs.Computed.{read}
 use Rattle.correlate_grid.specs.declared.axes.Axis.{Axis}
 use Rattle.correlate_grid.specs.Axes.{Serves, readAt, sourceFor, numbered, Found}
 use Rattle.correlate_grid.proofs.Lines.{lane-row, padded-cell}
@@ -99,3 +101,40 @@ sources-found b c x g held t S e o h k r = record {
     own i l =
         let z : 0 * x .len + i ≡ i = omega arith in
         lane-row (pos 0) (x .len) 0 numbers i l ∙ ap (λ (j : ℕ). getD numbers j (pos 0)) z ∙ getD-tabulate pos 1024 i (pos 0) (omega (arith, S .short))
+
+-- ---- a source is a cell of the axis or −1
+abbrev pub Known : ℕ → ℤ → Type 0
+Known n (pos i) = i < n
+Known n (negsuc j) = j ≡ 0
+
+source-known : (b : Border ℤ) (n : ℕ) (u : ℤ) → ReadsIn b n u → Known n (sourceFor b n u)
+unfolding sourceFor
+source-known (constant c) n u r = go u (inside n u) refl
+  where
+    go : (u : ℤ) (t : Bool) → inside n u ≡ t → Known n (cond t u (negsuc 0))
+    go (pos i) true e = ltb-true i n e
+    go (negsuc j) true e = absurd (true≢false (sym e))
+    go u false e = refl
+source-known (along m) n u r = r
+
+known-small : (n : ℕ) (s : ℤ) → Known n s → n ≤ 1024 → natAbs s ≤ 1024
+known-small n (pos i) h l = omega arith
+known-small n (negsuc j) h l = omega arith
+
+-- ---- what the table has for cell p and kernel coordinate q
+module _ {b : Border ℤ} {x : Axis} {t : List ℤ} (S : Serves b x) (F : Found b x t) {p q : ℕ} (h : p < x .len) (l : q < x .side) where
+  pub place-in : p + q < length t
+  place-in = omega (arith, F .long, S .wide, S .pads, S .short)
+
+  pub table-is : getD t (p + q) (pos 0) ≡ sourceFor b (x .len) (readAt x p q)
+  table-is = F .at (p + q) (omega (arith, S .wide)) ∙ ap (sourceFor b (x .len)) (read-place x p q)
+
+  pub table-known : Known (x .len) (getD t (p + q) (pos 0))
+  table-known = subst (Known (x .len)) (sym table-is) (source-known b (x .len) (readAt x p q) (read-in b x S p q h l))
+
+  pub table-small : natAbs (getD t (p + q) (pos 0)) ≤ 1024
+  table-small = known-small (x .len) (getD t (p + q) (pos 0)) table-known (S .short)
+
+  -- the same, read by the machine
+  pub table-held : natAbs (read (getD t (p + q) (pos 0))) ≤ 1024
+  table-held = let h : Size (getD t (p + q) (pos 0)) 1024 = record { size = table-small } in size-read h (omega arith) .size

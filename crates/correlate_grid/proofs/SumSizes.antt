@@ -1,17 +1,15 @@
 -- How large the sums are: at most 8 by 8 by 8 terms, each a level of at most 2^31 − 1 times a weight of at most 65,535, so below 2^61.
 -- Assumes nothing.
-use mathlib.Core.Path.{_≡_, sym, ap, _∙_}
+use mathlib.Core.Path.{_≡_, ap, _∙_}
 use mathlib.Core.Bool.{false}
 use mathlib.Core.List.{List, [], _∷_}
 use Prim.Native.Nat.{ℕ, _+_, _-_, _*_, _^_, _≤_}
 use native.Mathlib.Nat.{mul-le-mul}
 use native.Mathlib.Omega.{arith}
 use lib.IntN.{ℤ, pos, negℤ}
-use lib.ListN.{length}
 use Rattle.numbers.specs.Lists.{tabulate, anyOf}
 use Rattle.numbers.specs.Ranges.{outsideZ}
 use Rattle.numbers.proofs.Size.{Size, size-zero, size-le, tested-sized, inside-sized}
-use Rattle.numbers.proofs.Tabulate.{length-tabulate}
 use Rattle.array.proofs.Judged.{levels-sized}
 use Rattle.border.specs.Border.{Border}
 use Rattle.pad_line.proofs.Sizes.{constant-sized}
@@ -21,6 +19,7 @@ use Rattle.axis_filter.proofs.Supposed.{any-table}
 use Rattle.correlate_grid.specs.declared.axes.Axis.{Axis}
 use Rattle.correlate_grid.specs.Axes.{Laid}
 use Rattle.correlate_grid.specs.ByRows.{rowSum, rowsTo}
+use Rattle.correlate_grid.proofs.KernelRow.{side-few, kernel-few}
 
 -- the size of one term
 abbrev term : ℕ
@@ -37,32 +36,12 @@ module _ {b : Border ℤ} {x y z : Axis} {w cells : List ℤ} (L : Laid b x y z 
   unfolding rowsTo
   rows-size q i = size-summed term 0 (z .side) (pos 0) _ (size-zero _) (λ k. row-size k i) q
 
-  side-few : (a : Axis) → a .side ≤ a .left + a .right + 1 → a .left + a .right ≤ 7 → a .side ≤ 8
-  side-few a h l = omega arith
-
-  pub kernel-few : x .side * y .side ≤ 8 * 8
-  kernel-few = mul-le-mul (side-few x (L .planes .wide) (L .planes .pads)) (side-few y (L .rows .wide) (L .rows .pads))
-
-  pub weights-few : length w ≤ 512
-  weights-few = omega (arith, L .many, mul-le-mul kernel-few (side-few z (L .row .wide) (L .row .pads)))
-
-  row-small : (q n : ℕ) → anyOf (outsideZ (negℤ (pos (2 ^ 61))) (pos (2 ^ 61))) (tabulate (rowSum b x y z w cells r q) 0 n) ≡ false
-  row-small q n = any-table _ (rowSum b x y z w cells r q) 0 n (λ i. inside-sized (2 ^ 61) (rowSum b x y z w cells r q i) (size-le (row-size q i) (omega (arith, side-few z (L .row .wide) (L .row .pads)))))
-
-  rows-small : (q n : ℕ) → q ≤ x .side * y .side → anyOf (outsideZ (negℤ (pos (2 ^ 61))) (pos (2 ^ 61))) (tabulate (rowsTo b x y z w cells r q) 0 n) ≡ false
-  rows-small q n h = any-table _ (rowsTo b x y z w cells r q) 0 n (λ i. inside-sized (2 ^ 61) (rowsTo b x y z w cells r q i) (size-le (rows-size q i) bound))
+  -- what adding to the sums of the first q kernel rows supposes
+  pub sums-small : (q n : ℕ) {out : List ℤ} → q ≤ x .side * y .side → out ≡ tabulate (rowsTo b x y z w cells r q) 0 n → anyOf (outsideZ (negℤ (pos (2 ^ 61))) (pos (2 ^ 61))) out ≡ false
+  sums-small q n h e = ap (anyOf _) e ∙ any-table _ (rowsTo b x y z w cells r q) 0 n (λ i. inside-sized (2 ^ 61) (rowsTo b x y z w cells r q i) (size-le (rows-size q i) bound))
     where
       many : q * z .side ≤ 64 * 8
-      many = mul-le-mul {n₂ = 64} (omega (arith, kernel-few)) (side-few z (L .row .wide) (L .row .pads))
+      many = mul-le-mul {n₂ = 64} (omega (arith, kernel-few L)) (side-few z (L .row .wide) (L .row .pads))
 
       bound : (0 + q * z .side) * term ≤ 2 ^ 61
       bound = omega (arith, many)
-
-  -- what adding the sums of one kernel row to those before it supposes
-  pub sums-addable : (q n : ℕ) {swept out : List ℤ} → q ≤ x .side * y .side → swept ≡ tabulate (rowSum b x y z w cells r q) 0 n → out ≡ tabulate (rowsTo b x y z w cells r q) 0 n
-      → (length swept ≡ length out) × (anyOf (outsideZ (negℤ (pos (2 ^ 61))) (pos (2 ^ 61))) swept ≡ false) × (anyOf (outsideZ (negℤ (pos (2 ^ 61))) (pos (2 ^ 61))) out ≡ false)
-  sums-addable q n h e f = (
-    ap length e ∙ length-tabulate (rowSum b x y z w cells r q) 0 n ∙ sym (ap length f ∙ length-tabulate (rowsTo b x y z w cells r q) 0 n),
-    ap (anyOf _) e ∙ row-small q n,
-    ap (anyOf _) f ∙ rows-small q n h,
-  )

@@ -1,5 +1,6 @@
 -- A grid and its kernel as three axes: planes, rows and cells. A missing outer axis has one cell, no pads and a kernel of one cell.
 --   axisFrom ns back side left right   the axis that stands back axes before the last
+--   axesOf ns side left right          the three axes
 --   Serves b x           the axis x has a cell, and the border fills its pads, which hold the kernel's window
 --   readAt x p q         the coordinate on axis x that kernel coordinate q reads for the cell with coordinate p
 --   sourceFor b n z      the cell that coordinate z reads on an axis of n cells; −1 for none, where the constant stands
@@ -20,12 +21,16 @@ use Rattle.array.specs.Grid.{lengthOf}
 use Rattle.border.specs.Border.{Border, constant, along, inside, cellFor}
 use Rattle.border.specs.Modes.{badConstantBy}
 use Rattle.pad_line.specs.Line.{badPad}
+use Rattle.correlate_grid.specs.declared.axes.Axes.{Axes}
 use Rattle.correlate_grid.specs.declared.axes.Axis.{Axis}
 
 abbrev pub axisFrom : List ℕ → ℕ → ℕ → ℕ → ℕ → Axis
 axisFrom ns back side left right =
     cond (leb (length ns) back) (record { len = 1; left = 0; right = 0; side = 1 })
     (record { len = lengthOf ns (length ns - 1 - back); left = left; right = right; side = side })
+
+abbrev pub axesOf : List ℕ → ℕ → ℕ → ℕ → Axes
+axesOf ns side left right = record { planes = axisFrom ns 2 side left right; rows = axisFrom ns 1 side left right; cells = axisFrom ns 0 side left right }
 
 pub record Serves (b : Border ℤ) (x : Axis) : Type 0 where
   pub some : 0 < x .len

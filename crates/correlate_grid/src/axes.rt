@@ -5,7 +5,7 @@ ghost use lib.IntN.{pos};
 ghost use lib.ListN.{length};
 ghost use Rattle.numbers.specs.Lists.{tabulate};
 ghost use Rattle.border.specs.Modes.{borderOf};
-ghost use Rattle.correlate_grid.specs.Axes.{axisFrom, Serves, numbered, Found};
+ghost use Rattle.correlate_grid.specs.Axes.{axisFrom, axesOf, Serves, numbered, Found};
 use border::BorderMode;
 
 // An axis: its cells, how many places are padded before and after them, and the kernel's cells along it.
@@ -16,14 +16,15 @@ pub struct Axis {
     pub side: usize,
 }
 
+// The three axes of a grid, the outermost first.
+pub struct Axes {
+    pub planes: Axis,
+    pub rows: Axis,
+    pub cells: Axis,
+}
+
 // The axis that stands `back` axes before the last. A missing one has one cell and no pads, and the kernel one cell there.
-pub(crate) fn axis_from(
-    shape: &[usize],
-    back: usize,
-    side: usize,
-    left: usize,
-    right: usize,
-) -> Axis
+fn axis_from(shape: &[usize], back: usize, side: usize, left: usize, right: usize) -> Axis
     ensures { λ r. ⌜ r ≡ axisFrom (now (shape .entry)) back side left right ⌝ }
 {
     let axes = shape.len();
@@ -41,6 +42,20 @@ pub(crate) fn axis_from(
         left,
         right,
         side,
+    }
+}
+
+// The three axes of a grid of one to three.
+pub(crate) fn axes_of(shape: &[usize], side: usize, left: usize, right: usize) -> Axes
+    ensures { λ r. ⌜ r ≡ axesOf (now (shape .entry)) side left right ⌝ }
+{
+    let planes = axis_from(shape, 2, side, left, right);
+    let rows = axis_from(shape, 1, side, left, right);
+    let cells = axis_from(shape, 0, side, left, right);
+    Axes {
+        planes,
+        rows,
+        cells,
     }
 }
 

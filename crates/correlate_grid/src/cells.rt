@@ -1,102 +1,69 @@
-// The rows of the kernel on each row of the grid, one after the other.
+// The rows of the kernel on each row of the grid, one after the other. Row s of plane p is row p * rows + s, and row j of kernel plane i is kernel row i * side + j.
 ghost use mathlib.Core.Path.{_≡_};
 ghost use Prim.Native.Nat.{_+_, _*_, _/_, _%_, _<_};
-ghost use lib.IntN.{pos};
-ghost use lib.ListN.{length, getD};
+ghost use lib.ListN.{length};
 ghost use Rattle.numbers.specs.Lists.{tabulate};
 ghost use Rattle.border.specs.Modes.{borderOf};
-ghost use Rattle.correlate_grid.specs.Axes.{Found, Laid};
-ghost use Rattle.correlate_grid.specs.ByRows.{rowFor, Pointed, rowsTo};
-use crate::axes::Axis;
+ghost use Rattle.correlate_grid.specs.Axes.{Laid};
+ghost use Rattle.correlate_grid.specs.ByRows.{Mapped, rowsTo, Summing};
+use crate::axes::Axes;
 use crate::axes::find_sources;
-use crate::row::add_row;
+use crate::row::add_kernel_row;
 use crate::row::row_for;
-use crate::row::sum_row;
 use border::BorderMode;
 
-// The row that kernel row q reads for row r: `none`, the number of rows, where a source is −1.
-fn find_row(
-    planes: Axis,
-    rows: Axis,
-    first: &[i64],
-    second: &[i64],
-    r: usize,
-    q: usize,
-    none: usize,
-) -> usize
-    requires { ⌜ Pointed planes rows (now first) (now second) r q ⌝ }
-    ensures { λ f. ⌜ f ≡ rowFor (getD (now (first .entry)) (r / rows .len + q / rows .side) (pos 0)) (getD (now (second .entry)) (r % rows .len + q % rows .side) (pos 0)) (rows .len) none ⌝ }
-{
-    let i = r / rows.len + q / rows.side;
-    let j = r % rows.len + q % rows.side;
-    row_for(first[i], second[j], rows.len, none)
-}
-
-// Adds kernel row q to the sums of row r. The tables have the sources of planes and rows; line and swept are buffers.
-fn add_kernel_row(
+// Adds the sums of kernel plane i to those of row s of plane p. The tables have the sources of planes and rows; line is a buffer.
+fn add_kernel_plane(
     data: &[i64],
     weights: &[i64],
     mode: BorderMode,
-    planes: Axis,
-    rows: Axis,
-    cells: Axis,
+    axes: Axes,
     first: &[i64],
     second: &[i64],
-    r: usize,
-    q: usize,
+    p: usize,
+    s: usize,
+    i: usize,
     line: &mut [i64],
-    swept: &mut [i64],
     out: &mut [i64],
 )
-    requires { ⌜ Laid (borderOf mode) planes rows cells (now weights) (now «data») × Found (borderOf mode) planes (now first) × Found (borderOf mode) rows (now second) × (r < planes .len * rows .len) × (q < planes .side * rows .side) × (length (now line) ≡ cells .left + cells .len + cells .right) × (length (now swept) ≡ cells .len) × (now out ≡ tabulate (rowsTo (borderOf mode) planes rows cells (now weights) (now «data») r q) 0 (cells .len)) ⌝ }
-    ensures { λ _. ⌜ now (out .exit) ≡ tabulate (rowsTo (borderOf mode) planes rows cells (now (weights .entry)) (now («data» .entry)) r (q + 1)) 0 (cells .len) ⌝ }
+    requires { ⌜ Mapped (borderOf mode) (axes .planes) (axes .rows) (axes .cells) (now weights) (now «data») (now first) (now second) × (p < axes .planes .len) × (s < axes .rows .len) × (i < axes .planes .side) × Summing (borderOf mode) (axes .planes) (axes .rows) (axes .cells) (now weights) (now «data») (p * axes .rows .len + s) (i * axes .rows .side) (now line) (now out) ⌝ }
+    ensures { λ _. ⌜ now (out .exit) ≡ tabulate (rowsTo (borderOf mode) (axes .planes) (axes .rows) (axes .cells) (now (weights .entry)) (now («data» .entry)) (p * axes .rows .len + s) ((i + 1) * axes .rows .side)) 0 (axes .cells .len) ⌝ }
 {
-    let none = planes.len * rows.len;
-    let row = find_row(planes, rows, first, second, r, q, none);
-    let a = q * cells.side;
-    let e = a + cells.side;
-    sum_row(data, mode, cells, none, row, &weights[a..e], line, swept);
-    add_row(swept, out);
+    let plane = first[p + i];
+    let per = axes.rows.len;
+    let none = axes.planes.len * per;
+    let side = axes.rows.side;
+    let q = i * side;
+    let mut j = 0;
+    while j < side {
+        let row = row_for(plane, second[s + j], per, none);
+        add_kernel_row(data, weights, mode, axes, row, q + j, line, out);
+        j += 1;
+    }
 }
 
-// Sets out to the sums of row r.
+// Sets out to the sums of row s of plane p.
 fn correlate_row(
     data: &[i64],
     weights: &[i64],
     mode: BorderMode,
-    planes: Axis,
-    rows: Axis,
-    cells: Axis,
+    axes: Axes,
     first: &[i64],
     second: &[i64],
-    r: usize,
+    p: usize,
+    s: usize,
     line: &mut [i64],
-    swept: &mut [i64],
     out: &mut [i64],
 )
-    requires { ⌜ Laid (borderOf mode) planes rows cells (now weights) (now «data») × Found (borderOf mode) planes (now first) × Found (borderOf mode) rows (now second) × (r < planes .len * rows .len) × (length (now line) ≡ cells .left + cells .len + cells .right) × (length (now swept) ≡ cells .len) × (length (now out) ≡ cells .len) ⌝ }
-    ensures { λ _. ⌜ now (out .exit) ≡ tabulate (rowsTo (borderOf mode) planes rows cells (now (weights .entry)) (now («data» .entry)) r (planes .side * rows .side)) 0 (cells .len) ⌝ }
+    requires { ⌜ Mapped (borderOf mode) (axes .planes) (axes .rows) (axes .cells) (now weights) (now «data») (now first) (now second) × (p < axes .planes .len) × (s < axes .rows .len) × (length (now line) ≡ axes .cells .left + axes .cells .len + axes .cells .right) × (length (now out) ≡ axes .cells .len) ⌝ }
+    ensures { λ _. ⌜ now (out .exit) ≡ tabulate (rowsTo (borderOf mode) (axes .planes) (axes .rows) (axes .cells) (now (weights .entry)) (now («data» .entry)) (p * axes .rows .len + s) (axes .planes .side * axes .rows .side)) 0 (axes .cells .len) ⌝ }
 {
     assign::fill(out, 0);
-    let count = planes.side * rows.side;
-    let mut q = 0;
-    while q < count {
-        add_kernel_row(
-            data,
-            weights,
-            mode,
-            planes,
-            rows,
-            cells,
-            first,
-            second,
-            r,
-            q,
-            line,
-            swept,
-            out,
-        );
-        q += 1;
+    let count = axes.planes.side;
+    let mut i = 0;
+    while i < count {
+        add_kernel_plane(data, weights, mode, axes, first, second, p, s, i, line, out);
+        i += 1;
     }
 }
 
@@ -105,20 +72,18 @@ fn correlate_rows(
     data: &[i64],
     weights: &[i64],
     mode: BorderMode,
-    planes: Axis,
-    rows: Axis,
-    cells: Axis,
+    axes: Axes,
     first: &[i64],
     second: &[i64],
     line: &mut [i64],
-    swept: &mut [i64],
     out: &mut [i64],
 )
-    requires { ⌜ Laid (borderOf mode) planes rows cells (now weights) (now «data») × Found (borderOf mode) planes (now first) × Found (borderOf mode) rows (now second) × (length (now line) ≡ cells .left + cells .len + cells .right) × (length (now swept) ≡ cells .len) × (length (now out) ≡ length (now «data»)) ⌝ }
-    ensures { λ _. ⌜ now (out .exit) ≡ tabulate (λ k. rowsTo (borderOf mode) planes rows cells (now (weights .entry)) (now («data» .entry)) (k / cells .len) (planes .side * rows .side) (k % cells .len)) 0 (length (now («data» .entry))) ⌝ }
+    requires { ⌜ Mapped (borderOf mode) (axes .planes) (axes .rows) (axes .cells) (now weights) (now «data») (now first) (now second) × (length (now line) ≡ axes .cells .left + axes .cells .len + axes .cells .right) × (length (now out) ≡ length (now «data»)) ⌝ }
+    ensures { λ _. ⌜ now (out .exit) ≡ tabulate (λ k. rowsTo (borderOf mode) (axes .planes) (axes .rows) (axes .cells) (now (weights .entry)) (now («data» .entry)) (k / axes .cells .len) (axes .planes .side * axes .rows .side) (k % axes .cells .len)) 0 (length (now («data» .entry))) ⌝ }
 {
-    let count = planes.len * rows.len;
-    let n = cells.len;
+    let per = axes.rows.len;
+    let count = axes.planes.len * per;
+    let n = axes.cells.len;
     let mut r = 0;
     while r < count {
         let a = r * n;
@@ -127,52 +92,45 @@ fn correlate_rows(
             data,
             weights,
             mode,
-            planes,
-            rows,
-            cells,
+            axes,
             first,
             second,
-            r,
+            r / per,
+            r % per,
             line,
-            swept,
             &mut out[a..e],
         );
         r += 1;
     }
 }
 
-// The same, with buffers of its own: the sources of planes and rows, the line and the row of sums.
+// The same, with buffers of its own: the sources of planes and rows, and the line.
 pub(crate) fn correlate_three(
     data: &[i64],
     weights: &[i64],
     mode: BorderMode,
-    planes: Axis,
-    rows: Axis,
-    cells: Axis,
+    axes: Axes,
     out: &mut [i64],
 )
-    requires { ⌜ Laid (borderOf mode) planes rows cells (now weights) (now «data») × (length (now out) ≡ length (now «data»)) ⌝ }
-    ensures { λ _. ⌜ now (out .exit) ≡ tabulate (λ k. rowsTo (borderOf mode) planes rows cells (now (weights .entry)) (now («data» .entry)) (k / cells .len) (planes .side * rows .side) (k % cells .len)) 0 (length (now («data» .entry))) ⌝ }
+    requires { ⌜ Laid (borderOf mode) (axes .planes) (axes .rows) (axes .cells) (now weights) (now «data») × (length (now out) ≡ length (now «data»)) ⌝ }
+    ensures { λ _. ⌜ now (out .exit) ≡ tabulate (λ k. rowsTo (borderOf mode) (axes .planes) (axes .rows) (axes .cells) (now (weights .entry)) (now («data» .entry)) (k / axes .cells .len) (axes .planes .side * axes .rows .side) (k % axes .cells .len)) 0 (length (now («data» .entry))) ⌝ }
 {
+    let planes = axes.planes;
     let mut first = [0; 1088];
     find_sources(mode, planes, &mut first);
+    let rows = axes.rows;
     let mut second = [0; 1088];
     find_sources(mode, rows, &mut second);
     let mut line = [0; 1088];
-    let mut swept = [0; 1024];
-    let n = cells.len;
-    let total = cells.left + n + cells.right;
+    let total = axes.cells.left + axes.cells.len + axes.cells.right;
     correlate_rows(
         data,
         weights,
         mode,
-        planes,
-        rows,
-        cells,
+        axes,
         &first,
         &second,
         &mut line[..total],
-        &mut swept[..n],
         out,
     );
 }

@@ -24,10 +24,8 @@ pub fn correlate_cells(
     requires { ⌜ Kernelled (borderOf mode) (now shape) side left right (now weights) (now «data») (now out) ⌝ }
     ensures { λ _. ⌜ now (out .exit) ≡ kernelAnswer (borderOf mode) left (sidesOf (now (shape .entry)) side) (now (weights .entry)) (now (shape .entry)) (now («data» .entry)) ⌝ }
 {
-    let planes = axes::axis_from(shape, 2, side, left, right);
-    let rows = axes::axis_from(shape, 1, side, left, right);
-    let cells = axes::axis_from(shape, 0, side, left, right);
-    cells::correlate_three(data, weights, mode, planes, rows, cells, out);
+    let axes = axes::axes_of(shape, side, left, right);
+    cells::correlate_three(data, weights, mode, axes, out);
 }
 
 // Worked rows of this crate's definitions. Refuses nothing.

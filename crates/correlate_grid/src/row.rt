@@ -1,16 +1,13 @@
 // One row of the kernel on one row of the grid: the row that it reads, padded, and the sums along it.
 ghost use mathlib.Core.Path.{_≡_};
-ghost use mathlib.Core.Bool.{false};
-ghost use Prim.Native.Nat.{_+_, _^_, _*_, _≤_};
-ghost use lib.IntN.{pos, negℤ, natAbs, _+ℤ_};
+ghost use Prim.Native.Nat.{_+_, _*_, _≤_};
+ghost use lib.IntN.{pos, natAbs, _+ℤ_};
 ghost use lib.ListN.{length, getD};
-ghost use Rattle.numbers.specs.Lists.{tabulate, anyOf};
-ghost use Rattle.numbers.specs.Ranges.{outsideZ};
-ghost use Rattle.symmetry.specs.declared.SymmetryState.the-variants.{NonSymmetric};
+ghost use Rattle.numbers.specs.Lists.{tabulate};
 ghost use Rattle.border.specs.Modes.{borderOf};
-ghost use Rattle.correlation.specs.Weighed.{wholeOps, weighedLine};
-ghost use Rattle.correlate_grid.specs.Axes.{Serves};
-ghost use Rattle.correlate_grid.specs.ByRows.{rowFor, constantOf, rowLine, Ready};
+ghost use Rattle.correlate_grid.specs.Axes.{Serves, Laid};
+ghost use Rattle.correlate_grid.specs.ByRows.{rowFor, constantOf, rowLine, lineSum, Reading};
+use crate::axes::Axes;
 use crate::axes::Axis;
 use border::BorderMode;
 
@@ -55,34 +52,31 @@ fn load_row(data: &[i64], mode: BorderMode, axis: Axis, none: usize, row: usize,
     pad_line::pad_lane(data, 1, row, axis.len, mode, axis.left, axis.right, line);
 }
 
-// Sets each cell of swept to the weighted sum of its window of the padded row.
-pub(crate) fn sum_row(
+// Adds the sums of kernel row q to those of a row of the grid: row is the row that it reads, line a buffer.
+pub(crate) fn add_kernel_row(
     data: &[i64],
-    mode: BorderMode,
-    axis: Axis,
-    none: usize,
-    row: usize,
     weights: &[i64],
+    mode: BorderMode,
+    axes: Axes,
+    row: usize,
+    q: usize,
     line: &mut [i64],
-    swept: &mut [i64],
+    out: &mut [i64],
 )
-    requires { ⌜ Ready (borderOf mode) axis none row (now weights) (now «data») (now line) (now swept) ⌝ }
-    ensures { λ _. ⌜ now (swept .exit) ≡ weighedLine wholeOps NonSymmetric (now (weights .entry)) (rowLine (borderOf mode) axis none row (now («data» .entry))) (axis .len) ⌝ }
+    requires { ⌜ Laid (borderOf mode) (axes .planes) (axes .rows) (axes .cells) (now weights) (now «data») × Reading (axes .planes) (axes .rows) (axes .cells) row q (now line) (now out) ⌝ }
+    ensures { λ _. ⌜ now (out .exit) ≡ tabulate (λ i. getD (now (out .entry)) i (pos 0) +ℤ lineSum (borderOf mode) (axes .planes) (axes .rows) (axes .cells) (now (weights .entry)) (now («data» .entry)) row q i) 0 (axes .cells .len) ⌝ }
 {
-    load_row(data, mode, axis, none, row, line);
-    let class = symmetry_state::symmetry_state_i64(weights);
-    correlate_line::correlate_line(weights, class, line, swept);
-}
-
-// Adds to each cell of out the same cell of swept.
-pub(crate) fn add_row(swept: &[i64], out: &mut [i64])
-    requires { ⌜ (length (now swept) ≡ length (now out)) × (anyOf (outsideZ (negℤ (pos (2 ^ 61))) (pos (2 ^ 61))) (now swept) ≡ false) × (anyOf (outsideZ (negℤ (pos (2 ^ 61))) (pos (2 ^ 61))) (now out) ≡ false) ⌝ }
-    ensures { λ _. ⌜ now (out .exit) ≡ tabulate (λ i. getD (now (out .entry)) i (pos 0) +ℤ getD (now (swept .entry)) i (pos 0)) 0 (length (now (out .entry))) ⌝ }
-{
-    let n = out.len();
-    let mut i = 0;
-    while i < n {
-        out[i] = out[i] + swept[i];
-        i += 1;
-    }
+    let cells = axes.cells;
+    load_row(
+        data,
+        mode,
+        cells,
+        axes.planes.len * axes.rows.len,
+        row,
+        line,
+    );
+    let side = cells.side;
+    let a = q * side;
+    let e = a + side;
+    plain_line::add_line(&weights[a..e], line, out);
 }

@@ -1,2 +1,2 @@
--- Laws of the sums of a line on the machine.
-pub mod Turns
+-- Laws of the sums of a line.
+pub mod FromZero

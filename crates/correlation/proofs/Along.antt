@@ -69,14 +69,6 @@ module _ {A : Type 0} (add : A → A → A) (a : ℕ → A) (f : ℕ → ℕ →
 
 -- ---- the two loops over the weights: where they start, one cell more of a row with its next term, and where they end
 module _ {A : Type 0} (o : Ops A) (w s : List A) where
-  -- the first terms alone, where zero adds nothing
-  pub plain-set : ((x : A) → o .sum (o .none) x ≡ x) → (n : ℕ) {l : List A} → l ≡ tabulate (λ i. cellTerm o w s i 0) 0 n → Row (plainTo o w s 1) (length l) l
-  unfolding summed
-  plain-set z n e = row-made (plainTo o w s 1) n (e ∙ ap (λ (g : ℕ → A). tabulate g 0 n) (λ t i. first i t))
-    where
-      first : (i : ℕ) → cellTerm o w s i 0 ≡ plainTo o w s 1 i
-      first i = sym (z (cellTerm o w s i 0)) ∙ summed-more (o .sum) (o .none) (cellTerm o w s i) 0
-
   pub plain-more : (j : ℕ) {l₀ l : List A} {i : ℕ} → l₀ ≡ tabulate (plainTo o w s j) 0 (length l₀) → i < length l₀ → Stored (o .past) (λ k. ltb k i) (plainTo o w s (j + 1)) l₀ l
       → Stored (o .past) (λ k. ltb k (i + 1)) (plainTo o w s (j + 1)) l₀ (set l i (o .sum (getD l i (o .past)) (cellTerm o w s i j)))
   plain-more j e b S = row-more (o .sum) (λ i. o .none) (cellTerm o w s) (o .past) j _ e b S refl

@@ -6,13 +6,12 @@ use mathlib.Core.List.{List}
 use native.Mathlib.Omega.{arith}
 use lib.IntN.{ℤ, pos, negℤ, _+ℤ_, _-ℤ_, _*ℤ_, *ℤ-comm}
 use lib.ListN.{length, getD}
-use Rattle.numbers.specs.Lists.{tabulate}
 use Rattle.numbers.proofs.IntProduct.{*ℤ-distrib-right, negℤ-*ℤ}
 use Rattle.symmetry.specs.Class.{classZ}
 use Rattle.symmetry.specs.declared.SymmetryState.{SymmetryState}
 use Rattle.symmetry.specs.declared.SymmetryState.the-variants.{NonSymmetric, Symmetric, AntiSymmetric}
 use Rattle.symmetry.proofs.Mirrored.{Mirrored, whole-symmetric, whole-anti}
-use Rattle.correlation.specs.Weighed.{summed, wholeOps, cellTerm, pairTerm, plainAt, pairsAt, weighedAt, weighedLine}
+use Rattle.correlation.specs.Weighed.{summed, wholeOps, cellTerm, pairTerm, plainAt, pairsAt, weighedAt}
 use Rattle.correlation.proofs.Summed.{summed-agree}
 use Rattle.correlation.proofs.Folded.{sum-folded}
 
@@ -52,6 +51,3 @@ module _ (w s : List ℤ) (i : ℕ) where
   weighed-plain NonSymmetric e = refl
   weighed-plain Symmetric e = pairs-plain _+ℤ_ (λ r l. r ≡ l) sum-weighed (whole-symmetric w (sym e))
   weighed-plain AntiSymmetric e = pairs-plain _-ℤ_ (λ r l. r ≡ negℤ l) difference-weighed (whole-anti w (sym e))
-
-pub weighed-line : (w s : List ℤ) (n : ℕ) (class : SymmetryState) → class ≡ classZ w → weighedLine wholeOps class w s n ≡ weighedLine wholeOps NonSymmetric w s n
-weighed-line w s n class e = ap (λ (g : ℕ → ℤ). tabulate g 0 n) (λ t i. weighed-plain w s i class e t)

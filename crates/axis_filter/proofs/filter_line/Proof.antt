@@ -21,17 +21,17 @@ enum-told-2 c = search needs
 maximum-line-requires : tie.Need-maximum-line-requires
 maximum-line-requires c κs = search needs
 
-enum-known-filter : tie.Need-enum-known-filter
-enum-known-filter c = search needs
-
-correlate-line-requires : tie.Need-correlate-line-requires
-correlate-line-requires c κs = rw (c .before .before .filter .given .1) at (c .before .before .before .before .pre)
-
 enum-told-3 : tie.Need-enum-told-3
 enum-told-3 c = search needs
 
+correlate-line-requires : tie.Need-correlate-line-requires
+correlate-line-requires c κs = rw (c .before .enum-told3 .given .1) at (c .before .before .before .pre)
+
+enum-told-4 : tie.Need-enum-told-4
+enum-told-4 c = search needs
+
 uniform-line-requires : tie.Need-uniform-line-requires
-uniform-line-requires c κs = rw (c .before .enum-told3 .given .1) at (c .before .before .before .pre)
+uniform-line-requires c κs = rw (c .before .enum-told4 .given .1) at (c .before .before .before .pre)
 
 same-length : tie.Need-same-length
 same-length c = search needs
@@ -55,13 +55,13 @@ same-length-3 : tie.Need-same-length-3
 same-length-3 c = search needs
 
 returns-3 : tie.Need-returns-3
-returns-3 c = rw (c .before .before .before .before .filter .given .1) (c .before .correlate-line .ensures)
+returns-3 c = rw (c .before .before .before .enum-told3 .given .1) (c .before .correlate-line .ensures)
 
 same-length-4 : tie.Need-same-length-4
 same-length-4 c = search needs
 
 returns-4 : tie.Need-returns-4
-returns-4 c = rw (c .before .before .before .enum-told3 .given .1) (c .before .uniform-line .ensures)
+returns-4 c = rw (c .before .before .before .enum-told4 .given .1) (c .before .uniform-line .ensures)
 
 pub filter-line-spec : {M : Type 1} → statement M
 filter-line-spec =
@@ -71,9 +71,9 @@ filter-line-spec =
     minimum-line-requires
     enum-told-2
     maximum-line-requires
-    enum-known-filter
-    correlate-line-requires
     enum-told-3
+    correlate-line-requires
+    enum-told-4
     uniform-line-requires
     same-length
     returns

@@ -37,14 +37,11 @@ enum-told c = search needs
 enum-known-left : tie.Need-enum-known-left
 enum-known-left c = search needs
 
-symmetry-state-i64-requires : tie.Need-symmetry-state-i64-requires
-symmetry-state-i64-requires c κs = search needs
-
 filter-axis-requires : tie.Need-filter-axis-requires
 filter-axis-requires c κs =
-    let s = c .before .before .before .before .before .before .before in
-    let G = given (c .before .before .before) in
-    (sweep-weighed (s .pre .placed) (G .left) (G .right), weighing (s .pre) (G .left) (G .right) (c .before .symmetry-state-i64 .ensures))
+    let s = c .before .before .before .before .before .before in
+    let G = given (c .before .before) in
+    (sweep-weighed (s .pre .placed) (G .left) (G .right), weighing (s .pre) (G .left) (G .right))
 
 returns : tie.Need-returns
 returns c =
@@ -56,8 +53,8 @@ same-length c = search needs
 
 returns-2 : tie.Need-returns-2
 returns-2 c =
-    let s = c .before .before .before .before .before .before .before .before .before in
-    let G = given (c .before .before .before .before .before) in
+    let s = c .before .before .before .before .before .before .before .before in
+    let G = given (c .before .before .before .before) in
     weighed-answer (s .pre .placed) (G .left) (G .right) wholeOps NonSymmetric (c .before .filter-axis .ensures)
 
 pub weigh-spec : {M : Type 1} → statement M
@@ -67,7 +64,6 @@ weigh-spec =
     origin-check-requires
     enum-told
     enum-known-left
-    symmetry-state-i64-requires
     filter-axis-requires
     returns
     same-length

@@ -5,31 +5,18 @@ use borrow.Author.Needs.{needs}
 use Rattle.correlate_grid.proofs.correlate_cells.Statement.{statement}
 use Rattle.correlate_grid.proofs.correlate_cells.Tie as tie
 
-axis-from-requires : tie.Need-axis-from-requires
-axis-from-requires c κs = search needs
-
-axis-from-requires-2 : tie.Need-axis-from-requires-2
-axis-from-requires-2 c κs = search needs
-
-axis-from-requires-3 : tie.Need-axis-from-requires-3
-axis-from-requires-3 c κs = search needs
+axes-of-requires : tie.Need-axes-of-requires
+axes-of-requires c κs = search needs
 
 correlate-three-requires : tie.Need-correlate-three-requires
-correlate-three-requires c κs = let s = c .before .before .before .before .before in (laid-on (s .pre) (c .before .before .before .axis-from .ensures) (c .before .before .axis-from2 .ensures) (c .before .axis-from3 .ensures), s .pre .same)
+correlate-three-requires c κs = let s = c .before .before .before in (laid-on (s .pre) (c .before .axes-of .ensures), s .pre .same)
 
 same-length : tie.Need-same-length
 same-length c = search needs
 
 returns : tie.Need-returns
-returns c = answered (c .before .before .before .before .before .before .before .pre) (c .before .before .before .before .before .axis-from .ensures) (c .before .before .before .before .axis-from2 .ensures) (c .before .before .before .axis-from3 .ensures) (c .before .correlate-three .ensures)
+returns c = answered (c .before .before .before .before .before .pre) (c .before .before .before .axes-of .ensures) (c .before .correlate-three .ensures)
 
 pub correlate-cells-spec : {M : Type 1} → statement M
 correlate-cells-spec =
-    tie.close
-    (tie.spec
-    axis-from-requires
-    axis-from-requires-2
-    axis-from-requires-3
-    correlate-three-requires
-    same-length
-    returns)
+    tie.close (tie.spec axes-of-requires correlate-three-requires same-length returns)

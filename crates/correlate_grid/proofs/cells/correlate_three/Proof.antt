@@ -1,4 +1,4 @@
--- `correlate_grid::cells::correlate_three` meets its contract: the tables have the sources, and the buffers are long enough.
+-- `correlate_grid::cells::correlate_three` meets its contract: the tables have the sources, and the buffer is long enough.
 -- Assumes nothing.
 use mathlib.Core.Path.{sym}
 use Prim.Native.Nat.{_+_}
@@ -35,17 +35,11 @@ array-borrow-prefix-line : tie.Need-array-borrow-prefix-line
 array-borrow-prefix-line c = search needs
 
 slice-aggregate-correlate-rows-3 : tie.Need-slice-aggregate-correlate-rows-3
-slice-aggregate-correlate-rows-3 c = let a = c .before .before .before .before .before .before .before .before .before .before .before .args .cells in sym (length-take-le (a .left + a .len + a .right) _ (array-borrow-prefix-line (c .before)))
-
-array-borrow-prefix-swept : tie.Need-array-borrow-prefix-swept
-array-borrow-prefix-swept c = search needs
-
-slice-aggregate-correlate-rows-4 : tie.Need-slice-aggregate-correlate-rows-4
-slice-aggregate-correlate-rows-4 c = let a = c .before .before .before .before .before .before .before .before .before .before .before .before .args .cells in sym (length-take-le (a .len) _ (array-borrow-prefix-swept (c .before)))
+slice-aggregate-correlate-rows-3 c = let z = c .before .before .before .before .before .before .before .before .before .before .before .before .before .args .axes .cells in sym (length-take-le (z .left + z .len + z .right) _ (array-borrow-prefix-line (c .before)))
 
 correlate-rows-requires : tie.Need-correlate-rows-requires
-correlate-rows-requires c κs = let s = c .before .before .before .before .before .before .before .before .before .before .before .before .before in
-    (s .pre .0, c .before .before .before .before .before .before .before .before .before .before .before .find-sources .ensures, c .before .before .before .before .before .before .before .before .find-sources2 .ensures, sym (slice-aggregate-correlate-rows-3 (c .before .before)), sym (slice-aggregate-correlate-rows-4 (c .before)), s .pre .1)
+correlate-rows-requires c κs = let s = c .before .before .before .before .before .before .before .before .before .before .before .before .before .before in
+    (record { laid = s .pre .0; planes = c .before .before .before .before .before .before .before .before .before .before .before .find-sources .ensures; rows = c .before .before .before .before .before .before .before .find-sources2 .ensures }, sym (slice-aggregate-correlate-rows-3 (c .before)), s .pre .1)
 
 same-length : tie.Need-same-length
 same-length c = search needs
@@ -67,8 +61,6 @@ correlate-three-spec =
     slice-aggregate-correlate-rows-2
     array-borrow-prefix-line
     slice-aggregate-correlate-rows-3
-    array-borrow-prefix-swept
-    slice-aggregate-correlate-rows-4
     correlate-rows-requires
     same-length
     returns)

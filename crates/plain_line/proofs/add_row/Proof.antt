@@ -1,21 +1,23 @@
--- `correlate_line::add_row` meets its contract: along the row, each cell gets its next term; term and sum fit.
+-- `plain_line::add_row` meets its contract: along the row, each cell gets the term of one weight; term and sum fit.
 -- Assumes nothing.
 use mathlib.Core.Path.{_≡_, refl}
-use Prim.Native.Nat.{_+_, _-_, _≤_}
+use Prim.Native.Nat.{_-_, _≤_}
 use native.Mathlib.Omega.{arith}
 use lib.Dec.{ltb}
 use lib.IntN.{pos}
 use lib.ListN.{length}
+use Rattle.numbers.proofs.Size.{size-le}
 use Rattle.numbers.proofs.Stored.{Stored, front-none, front-all}
-use Rattle.correlation.specs.Weighed.{wholeOps, plainTo}
+use Rattle.correlation.specs.Weighed.{wholeOps, cellTerm}
 use Rattle.line_sums.proofs.Terms.{term}
-use Rattle.correlate_line.proofs.Turns.{plain-sum, plain-stored}
+use Rattle.plain_line.specs.Added.{plus}
+use Rattle.plain_line.proofs.Turns.{one-size, added, added-more}
 use borrow.Author.Needs.{needs}
-use Rattle.correlate_line.proofs.add_row.Statement.{statement}
-use Rattle.correlate_line.proofs.add_row.Tie as tie
+use Rattle.plain_line.proofs.add_row.Statement.{statement}
+use Rattle.plain_line.proofs.add_row.Tie as tie
 
 abbrev Inv-loop : tie.InvT-loop
-Inv-loop weights line j out₀ weight n i₀ out i = (i ≤ n) × (n ≡ length out₀) × Stored (pos 0) (λ k. ltb k i) (plainTo wholeOps weights line (j + 1)) out₀ out
+Inv-loop weights line j out₀ weight n i₀ out i = (i ≤ n) × (n ≡ length out₀) × Stored (pos 0) (λ k. ltb k i) (plus out₀ (λ k. cellTerm wholeOps weights line k j)) out₀ out
 
 abbrev μ-loop : tie.MeasureT-loop
 μ-loop weights line j out₀ weight n i₀ out i = n - i
@@ -45,10 +47,12 @@ shared-slice-copy-out-out : tie.Need-shared-slice-copy-out-out Inv-loop μ-loop
 shared-slice-copy-out-out c = search needs
 
 mul-out-3 : tie.Need-mul-out-3 Inv-loop μ-loop
-mul-out-3 c = term (c .before .before .before .before .before .pre .0) _ _ .fits
+mul-out-3 c = term (c .before .before .before .before .before .pre .0 .line) _ _ .fits
 
 add-out-2 : tie.Need-add-out-2 Inv-loop μ-loop
-add-out-2 c = let s = c .before .before .before .before .before in plain-sum (s .pre .0) (s .args .j) (s .pre .1) (s .pre .2) (omega arith) (c .before .before .before .loop .inv .2) _ _ .fits
+add-out-2 c = let s = c .before .before .before .before .before in
+    let W = s .pre .0 .line in
+    added (s .pre .0) _ (omega arith) (c .before .before .before .loop .inv .2) (term W _ _) (size-le (one-size W _ _) (omega arith)) .fits
 
 mul-t21 : tie.Need-mul-t21 Inv-loop μ-loop
 mul-t21 c = search needs
@@ -63,10 +67,10 @@ loop-less : tie.Need-loop-less Inv-loop μ-loop
 loop-less c = search needs
 
 loop-again : tie.Need-loop-again Inv-loop μ-loop
-loop-again c =
-    let s = c .before .before .before .before .before in
+loop-again c = let s = c .before .before .before .before .before in
     let l = c .before .before .before .loop in
-    (search needs, l .inv .1, plain-stored (s .pre .0) (s .args .j) (s .pre .1) (s .pre .2) (omega arith) (l .inv .2))
+    let W = s .pre .0 .line in
+    (search needs, l .inv .1, added-more (s .pre .0) _ (omega arith) (l .inv .2) (term W _ _) (size-le (one-size W _ _) (omega arith)) refl)
 
 same-length : tie.Need-same-length Inv-loop μ-loop
 same-length c = c .before .loop .inv .2 .kept

@@ -1,0 +1,83 @@
+-- One kernel row on a row of the grid: its weights are a part of the kernel's, the row that it reads is in the grid, and the sums of the padded row are added.
+-- Assumes nothing.
+use mathlib.Core.Path.{_≡_, refl, ap, _∙_}
+use mathlib.Core.Bool.{Bool, false}
+use mathlib.Core.List.{List, [], _∷_}
+use Prim.Native.Nat.{ℕ, zero, suc, _+_, _-_, _*_, _≤_, _<_}
+use native.Mathlib.Nat.{mul-le-mul, le-refl}
+use native.Mathlib.Omega.{arith}
+use lib.IntN.{ℤ, pos, _+ℤ_, _*ℤ_}
+use lib.ListN.{length, getD, take, drop, length-take, length-drop}
+use lib.Seq.{getD-take, getD-drop}
+use Rattle.numbers.specs.Lists.{tabulate, anyOf}
+use Rattle.numbers.proofs.Tests.{or-false, or-no}
+use Rattle.numbers.proofs.Tabulate.{tabulate-agree}
+use Rattle.lanes.proofs.Cells.{step-le}
+use Rattle.border.specs.Border.{Border}
+use Rattle.correlation.specs.Weighed.{summed}
+use Rattle.correlation.proofs.Summed.{summed-agree}
+use Rattle.plain_line.specs.Added.{addedTo, Addable}
+use Rattle.correlate_grid.specs.declared.axes.Axis.{Axis}
+use Rattle.correlate_grid.specs.Axes.{Laid}
+use Rattle.correlate_grid.specs.ByRows.{rowLine, lineSum, Reading}
+use Rattle.correlate_grid.proofs.RowLine.{row-weighable}
+
+-- ---- a test that fails of a list fails of its parts
+any-drop : {A : Type 0} (t : A → Bool) (s : List A) (k : ℕ) → anyOf t s ≡ false → anyOf t (drop k s) ≡ false
+any-drop t s zero e = e
+any-drop t [] (suc k) e = refl
+any-drop t (x ∷ s) (suc k) e = any-drop t s k (or-false (t x) (anyOf t s) e .1)
+
+any-take : {A : Type 0} (t : A → Bool) (s : List A) (k : ℕ) → anyOf t s ≡ false → anyOf t (take k s) ≡ false
+any-take t s zero e = refl
+any-take t [] (suc k) e = refl
+any-take t (x ∷ s) (suc k) e = let p = or-false (t x) (anyOf t s) e in or-no (t x) (anyOf t (take k s)) (p .0) (any-take t s k (p .1))
+
+-- ---- how many rows and weights there are
+pub side-few : (a : Axis) → a .side ≤ a .left + a .right + 1 → a .left + a .right ≤ 7 → a .side ≤ 8
+side-few a h l = omega arith
+
+module _ {b : Border ℤ} {x y z : Axis} {w cells : List ℤ} (L : Laid b x y z w cells) where
+  pub rows-few : x .len * y .len ≤ 8192
+  rows-few = omega (arith, mul-le-mul (le-refl (x .len * y .len)) (L .row .some), L .count, L .small)
+
+  pub kernel-few : x .side * y .side ≤ 8 * 8
+  kernel-few = mul-le-mul (side-few x (L .planes .wide) (L .planes .pads)) (side-few y (L .rows .wide) (L .rows .pads))
+
+  pub weights-few : length w ≤ 512
+  weights-few = omega (arith, L .many, mul-le-mul kernel-few (side-few z (L .row .wide) (L .row .pads)))
+
+  module _ {row q : ℕ} {line out : List ℤ} (R : Reading x y z row q line out) where
+    pub row-in : (row ≡ x .len * y .len → ⊥) → row * z .len + z .len ≤ length cells
+    row-in o = omega (arith, step-le (z .len) (R .inside o), L .count)
+
+    -- ---- the weights of the kernel row
+    abbrev weightsOf : List ℤ
+    weightsOf = take (q * z .side + z .side - q * z .side) (drop (q * z .side) w)
+
+    pub weights-in : q * z .side + z .side ≤ length w
+    weights-in = omega (arith, step-le (z .side) (R .kernel), L .many)
+
+    weights-many : length weightsOf ≡ z .side
+    weights-many = simp (length-take, length-drop) (omega (arith, weights-in))
+
+    weight-is : (j : ℕ) → j < z .side → getD weightsOf j (pos 0) ≡ getD w (q * z .side + j) (pos 0)
+    weight-is j h = getD-take (q * z .side + z .side - q * z .side) (drop (q * z .side) w) j (pos 0) (omega arith) ∙ getD-drop (q * z .side) w j (pos 0)
+
+    -- ---- s is the padded row
+    module _ {s : List ℤ} (e : s ≡ rowLine b z (x .len * y .len) row cells) where
+      pub row-addable : Addable weightsOf s out
+      row-addable = record {
+        line =
+            row-weighable L (x .len * y .len) row weightsOf s (length out) weights-many
+            (any-take _ (drop (q * z .side) w) (q * z .side + z .side - q * z .side) (any-drop _ w (q * z .side) (L .weights))) e (R .out-long);
+        small = R .small;
+      }
+
+      line-sum : (i : ℕ) → summed _+ℤ_ (pos 0) (λ j. getD s (i + j) (pos 0) *ℤ getD weightsOf j (pos 0)) (length weightsOf) ≡ lineSum b x y z w cells row q i
+      unfolding lineSum
+      line-sum i = ap (summed _+ℤ_ (pos 0) _) weights-many ∙ summed-agree _+ℤ_ (pos 0) _ _ (z .side) (λ j l k. getD (e k) (i + j) (pos 0) *ℤ weight-is j l k)
+
+      pub row-added : {new : List ℤ} → new ≡ tabulate (addedTo out weightsOf s (length weightsOf)) 0 (length out)
+          → new ≡ tabulate (λ i. getD out i (pos 0) +ℤ lineSum b x y z w cells row q i) 0 (z .len)
+      row-added a = a ∙ ap (tabulate _ 0) (R .out-long) ∙ tabulate-agree _ _ 0 (z .len) (λ i h. ap (λ (v : ℤ). getD out (0 + i) (pos 0) +ℤ v) (line-sum (0 + i)))

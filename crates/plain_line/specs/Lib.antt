@@ -1,0 +1,2 @@
+-- Weighted sums added to what a row holds.
+pub mod Added
