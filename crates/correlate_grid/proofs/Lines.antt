@@ -3,28 +3,22 @@
 use mathlib.Core.Path.{_≡_, ap, _∙_}
 use mathlib.Core.Bool.{true, false, _&&_}
 use mathlib.Core.List.{List, _++_}
-use Prim.Native.Nat.{ℕ, _+_, _*_, _%_, _≤_, _<_}
-use native.Mathlib.Nat.{mul-one, div-one, mod-lt}
+use Prim.Native.Nat.{ℕ, _+_, _*_, _≤_, _<_}
 use native.Mathlib.Omega.{arith}
 use borrow.Author.Tests.{le-leb}
 use lib.ListN.{length, getD, drop, List·getD-append}
 use Rattle.lanes.specs.Lanes.{laneBase, lane, laneInside}
-use Rattle.lanes.proofs.Cells.{getD-laneAt, length-laneAt, inside-yes}
+use Rattle.lanes.proofs.Cells.{getD-laneAt, length-laneAt, base-neighbours, inside-yes}
 use Rattle.border.specs.Border.{Border}
 use Rattle.pad_line.specs.Line.{badPad, paddedAt, paddedLine, paddedLane}
 use Rattle.pad_line.proofs.Padded.{length-padded, getD-padded}
 use Rattle.pad_line.proofs.Serves.{Serves, served-line}
 
-pub base-row : (n l : ℕ) → laneBase n 1 l ≡ l * n
-base-row n l =
-    let one : 0 < 1 = omega arith in
-    (λ j. div-one l j * mul-one n j + l % 1) ∙ omega (arith, mod-lt l one)
-
 pub lane-row : {A : Type 0} (d : A) (n l : ℕ) (g : List A) (i : ℕ) → i < n → getD (lane d n 1 l g) i d ≡ getD g (l * n + i) d
-lane-row d n l g i h = getD-laneAt d g (laneBase n 1 l) 1 n i h ∙ ap (λ k. getD g k d) (omega (arith, base-row n l))
+lane-row d n l g i h = getD-laneAt d g (laneBase n 1 l) 1 n i h ∙ ap (λ k. getD g k d) (omega (arith, base-neighbours n l))
 
 pub row-inside : (n l count : ℕ) → 0 < n → l * n + n ≤ count → count ≤ 32768 → laneInside n 1 l count ≡ true
-row-inside n l count some h small = inside-yes (record { small = small; some = some; apart = omega arith; short = omega arith; last = omega (arith, base-row n l) })
+row-inside n l count some h small = inside-yes (record { small = small; some = some; apart = omega arith; short = omega arith; last = omega (arith, base-neighbours n l) })
 
 -- ---- a lane of n cells side by side that is padded into a line with room
 module _ {A : Type 0} (d : A) (b : Border A) (n l left right : ℕ) (g held : List A) (some : 0 < n) (inside : l * n + n ≤ length g) (small : length g ≤ 32768)
@@ -32,7 +26,7 @@ module _ {A : Type 0} (d : A) (b : Border A) (n l left right : ℕ) (g held : Li
   serves : Serves b n 1 l left right g held
   serves = record { fits = (λ j. row-inside n l (length g) some inside small j && le-leb (left + n + right) (length held) room j); fills-left = fl; fills-right = fr }
 
-  pub padded-is : paddedLane d b n 1 l left right g held ≡ paddedLine d b left right (lane d n 1 l g) ++ drop (left + n + right) held
+  padded-is : paddedLane d b n 1 l left right g held ≡ paddedLine d b left right (lane d n 1 l g) ++ drop (left + n + right) held
   padded-is = served-line d serves
 
   long : length (lane d n 1 l g) ≡ n

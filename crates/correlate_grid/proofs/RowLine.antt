@@ -10,22 +10,22 @@ use borrow.Author.Tests.{eq-eqb, ne-eqb, ltb-true}
 use lib.Arith.{digits-lt}
 use lib.Dec.{eqb}
 use lib.IntN.{ℤ, pos, negsuc, natAbs, _-ℤ_, negℤ}
-use lib.ListN.{length, getD, replicate, length-replicate, getD-replicate, drop-of-length-le}
+use lib.ListN.{length, getD, replicate, length-replicate, getD-replicate, drop, drop-of-length-le}
 use Rattle.numbers.specs.Lists.{anyOf}
 use Rattle.numbers.proofs.Tabulate.{tabulate-replicate}
 use Rattle.numbers.proofs.Tests.{cond-yes, cond-no, or-false, or-no}
 use Rattle.array.specs.Grid.{placeOf}
-use Rattle.lanes.specs.Lanes.{lane, laneBase}
-use Rattle.lanes.proofs.Cells.{length-laneAt}
+use Rattle.lanes.specs.Lanes.{lane, laneBase, laneAt}
+use Rattle.lanes.proofs.Cells.{length-laneAt, base-neighbours}
 use Rattle.border.specs.Border.{Border, constant, along, cellFor, inside, allInside, extendedLane, extendedGrid}
 use Rattle.border.specs.Modes.{badConstantBy}
-use Rattle.pad_line.specs.Line.{paddedAt, paddedLine, paddedLane}
+use Rattle.pad_line.specs.Line.{paddedAt, paddedLine, Padding}
 use Rattle.pad_line.proofs.Padded.{length-padded, getD-padded}
 use Rattle.axis_filter.proofs.Supposed.{any-table, any-padded}
 use Rattle.correlate_grid.specs.declared.axes.Axis.{Axis}
 use Rattle.correlate_grid.specs.Axes.{Serves, sourceFor, Laid}
 use Rattle.correlate_grid.specs.ByRows.{three, rowFor, constantOf, rowLine}
-use Rattle.correlate_grid.proofs.Lines.{lane-row, padded-is}
+use Rattle.correlate_grid.proofs.Lines.{lane-row}
 use Rattle.correlate_grid.proofs.Sources.{ReadsIn}
 use Rattle.numbers.specs.Ranges.{outsideZ}
 use Rattle.numbers.proofs.Size.{size-le, size-inside, inside-sized}
@@ -57,11 +57,15 @@ module _ (b : Border ℤ) (z : Axis) (none row : ℕ) (cells : List ℤ) where
   pub loaded-none : {c : ℤ} (line : List ℤ) {filled : List ℤ} → row ≡ none → length line ≡ z .left + z .len + z .right → c ≡ constantOf b → filled ≡ replicate (length line) c → filled ≡ rowLine b z none row cells
   loaded-none line h k q e = e ∙ (λ j. replicate (k j) (q j)) ∙ sym (line-none h)
 
-  pub loaded-some : (line : List ℤ) {new : List ℤ} → Serves b z → length cells ≤ 8192 → row * z .len + z .len ≤ length cells → (row ≡ none → ⊥) → length line ≡ z .left + z .len + z .right
-      → new ≡ paddedLane (pos 0) b (z .len) 1 row (z .left) (z .right) cells line → new ≡ rowLine b z none row cells
-  loaded-some line {new} S small i h k e =
-      e ∙ padded-is (pos 0) b (z .len) row (z .left) (z .right) cells line (S .some) i (omega arith) (omega arith) (S .fills-left) (S .fills-right)
-      ∙ ap (λ (t : List ℤ). padded ++ t) (drop-of-length-le line {i = z .left + z .len + z .right} (omega arith)) ∙ append-nil padded ∙ sym (line-some h)
+  -- what padding the row supposes
+  pub row-padding : (line : List ℤ) → Serves b z → row * z .len + z .len ≤ length cells → length line ≡ z .left + z .len + z .right → Padding b (z .len) 1 (row * z .len) (z .left) (z .right) cells line
+  row-padding line S i k = record { some = S .some; inside = omega (arith, S .some, mul-one (z .len)); fits = omega arith; fills-left = S .fills-left; fills-right = S .fills-right }
+
+  pub loaded-some : (line : List ℤ) {new : List ℤ} → (row ≡ none → ⊥) → length line ≡ z .left + z .len + z .right
+      → new ≡ paddedLine (pos 0) b (z .left) (z .right) (laneAt (pos 0) cells (row * z .len) 1 (z .len)) ++ drop (z .left + z .len + z .right) line → new ≡ rowLine b z none row cells
+  loaded-some line {new} h k e =
+      e ∙ (λ j. paddedLine (pos 0) b (z .left) (z .right) (laneAt (pos 0) cells (sym (base-neighbours (z .len) row) j) 1 (z .len)) ++ drop-of-length-le line {i = z .left + z .len + z .right} (omega arith) j)
+      ∙ append-nil padded ∙ sym (line-some h)
 
   -- ---- its length, and a test that fails of all its cells
   pub length-line : length (rowLine b z none row cells) ≡ z .left + z .len + z .right

@@ -49,7 +49,8 @@ fn load_row(data: &[i64], mode: BorderMode, axis: Axis, none: usize, row: usize,
         assign::fill(line, constant_of(mode));
         return;
     }
-    pad_line::pad_lane(data, 1, row, axis.len, mode, axis.left, axis.right, line);
+    let n = axis.len;
+    pad_line::pad_from(data, row * n, 1, n, mode, axis.left, axis.right, line);
 }
 
 // Adds the sums of kernel row q to those of a row of the grid: row is the row that it reads, line a buffer.
