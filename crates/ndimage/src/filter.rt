@@ -5,12 +5,10 @@ use border::BorderMode;
 use reading::place::AXIS;
 use reading::place::BORDER;
 use reading::place::CONSTANT_AT;
-use reading::place::KERNEL_AT;
 use reading::place::ORIGIN_AT;
 use reading::place::Place;
 use reading::place::REQUEST;
 use reading::place::SECOND;
-use reading::place::SIDES;
 use reading::place::SIZE;
 use reading::words;
 
@@ -23,11 +21,9 @@ fn origin_of(levels: &[i64]) -> isize {
 }
 
 // Grid kernels.
-fn kernel(place: &Place, levels: &[i64], out: &mut [i64]) -> u8 {
-    let shape = list::shape(place);
-    let data = list::data(place, levels);
+pub fn kernel(place: &Place, levels: &[i64], data: &[i64], shape: &[usize], out: &mut [i64]) -> u8 {
     let weights = list::weights(place, levels);
-    let sides = list::counts(place, KERNEL_AT, list::lent(place[SIDES], 4));
+    let sides = list::sides(place);
     let mode = border_of(place, levels);
     let origin = origin_of(levels);
     if place[REQUEST] == words::CORRELATE {
@@ -37,88 +33,102 @@ fn kernel(place: &Place, levels: &[i64], out: &mut [i64]) -> u8 {
 }
 
 // Weights along an axis.
-fn weigh(place: &Place, levels: &[i64], out: &mut [i64]) -> u8 {
-    let shape = list::shape(place);
-    let data = list::data(place, levels);
+pub fn weigh(place: &Place, levels: &[i64], data: &[i64], shape: &[usize], out: &mut [i64]) -> u8 {
     let weights = list::weights(place, levels);
-    let axis = place[AXIS];
     let mode = border_of(place, levels);
     let origin = origin_of(levels);
     if place[REQUEST] == words::CORRELATE1D {
-        return correlate1d::correlate1d(data, shape, weights, axis, mode, origin, out);
+        return correlate1d::correlate1d(data, shape, weights, place[AXIS], mode, origin, out);
     }
-    correlate1d::convolve1d(data, shape, weights, axis, mode, origin, out)
+    correlate1d::convolve1d(data, shape, weights, place[AXIS], mode, origin, out)
 }
 
-// Windows along an axis.
-fn line(place: &Place, levels: &[i64], out: &mut [i64]) -> u8 {
-    let shape = list::shape(place);
-    let data = list::data(place, levels);
+// The extremes of windows along an axis.
+fn extreme1d(
+    place: &Place,
+    data: &[i64],
+    shape: &[usize],
+    mode: BorderMode,
+    origin: isize,
+    out: &mut [i64],
+) -> u8 {
     let size = place[SIZE];
     let axis = place[AXIS];
-    let mode = border_of(place, levels);
-    let origin = origin_of(levels);
-    let request = place[REQUEST];
-    if request == words::MINIMUM1D {
+    if place[REQUEST] == words::MINIMUM1D {
         return min_max1d::minimum_filter1d(data, shape, size, axis, mode, origin, out);
     }
-    if request == words::MAXIMUM1D {
-        return min_max1d::maximum_filter1d(data, shape, size, axis, mode, origin, out);
-    }
-    uniform::uniform_filter1d(data, shape, size, axis, mode, out)
+    min_max1d::maximum_filter1d(data, shape, size, axis, mode, origin, out)
 }
 
-// Windows along every axis, with a second grid.
-fn window(place: &Place, levels: &[i64], second: &mut [i64], out: &mut [i64]) -> u8 {
-    let shape = list::shape(place);
-    let data = list::data(place, levels);
-    let size = place[SIZE];
-    let mode = border_of(place, levels);
-    let origin = origin_of(levels);
-    let request = place[REQUEST];
+// The extremes of windows along every axis.
+fn extreme(
+    request: usize,
+    data: &[i64],
+    shape: &[usize],
+    size: usize,
+    mode: BorderMode,
+    origin: isize,
+    second: &mut [i64],
+    out: &mut [i64],
+) -> u8 {
     if request == words::MINIMUM {
         return min_max::minimum_filter(data, shape, size, mode, origin, second, out);
     }
-    if request == words::MAXIMUM {
-        return min_max::maximum_filter(data, shape, size, mode, origin, second, out);
-    }
-    uniform::uniform_filter(data, shape, size, mode, second, out)
+    min_max::maximum_filter(data, shape, size, mode, origin, second, out)
 }
 
-fn gradient(place: &Place, levels: &[i64], second: &mut [i64], out: &mut [i64]) -> u8 {
-    let shape = list::shape(place);
-    let data = list::data(place, levels);
-    let axis = place[AXIS];
-    let mode = border_of(place, levels);
-    if place[REQUEST] == words::PREWITT {
+fn gradient(
+    request: usize,
+    data: &[i64],
+    shape: &[usize],
+    axis: usize,
+    mode: BorderMode,
+    second: &mut [i64],
+    out: &mut [i64],
+) -> u8 {
+    if request == words::PREWITT {
         return gradient::prewitt(data, shape, axis, mode, second, out);
     }
     gradient::sobel(data, shape, axis, mode, second, out)
 }
 
-// The filters with a second grid, which has what was asked, or one cell more than any call takes.
-fn two_grids(place: &Place, levels: &[i64], out: &mut [i64]) -> u8 {
-    let mut second = [0i64; 8193];
-    let n = list::lent(place[SECOND], 8193);
-    if place[REQUEST] >= words::PREWITT {
-        return gradient(place, levels, &mut second[0..n], out);
+// The filters with a second grid.
+fn two_grids(
+    place: &Place,
+    data: &[i64],
+    shape: &[usize],
+    mode: BorderMode,
+    origin: isize,
+    second: &mut [i64],
+    out: &mut [i64],
+) -> u8 {
+    let request = place[REQUEST];
+    if request >= words::PREWITT {
+        return gradient(request, data, shape, place[AXIS], mode, second, out);
     }
-    window(place, levels, &mut second[0..n], out)
+    if request == words::UNIFORM {
+        return uniform::uniform_filter(data, shape, place[SIZE], mode, second, out);
+    }
+    extreme(request, data, shape, place[SIZE], mode, origin, second, out)
 }
 
-pub fn filter(place: &Place, levels: &[i64], out: &mut [i64]) -> u8 {
-    let request = place[REQUEST];
-    if request <= words::CONVOLVE {
-        return kernel(place, levels, out);
+// Filters without weights; the second grid has what was asked, or one cell more than any call takes.
+pub fn windowed(
+    place: &Place,
+    levels: &[i64],
+    data: &[i64],
+    shape: &[usize],
+    out: &mut [i64],
+) -> u8 {
+    let mut second = [0i64; 8193];
+    let n = list::lent(place[SECOND], 8193);
+    let mode = border_of(place, levels);
+    let origin = origin_of(levels);
+    if place[REQUEST] <= words::MAXIMUM1D {
+        return extreme1d(place, data, shape, mode, origin, out);
     }
-    if request <= words::CONVOLVE1D {
-        return weigh(place, levels, out);
+    if place[REQUEST] == words::UNIFORM1D {
+        return uniform::uniform_filter1d(data, shape, place[SIZE], place[AXIS], mode, out);
     }
-    if request <= words::MAXIMUM1D {
-        return line(place, levels, out);
-    }
-    if request == words::UNIFORM1D {
-        return line(place, levels, out);
-    }
-    two_grids(place, levels, out)
+    two_grids(place, data, shape, mode, origin, &mut second[0..n], out)
 }

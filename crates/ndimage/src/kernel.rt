@@ -11,12 +11,14 @@ use symmetry::SymmetryState;
 
 const MOST: usize = 8192;
 
+// The name of a class.
 fn class(state: SymmetryState) {
     match state {
-        SymmetryState::NonSymmetric => answering::say(b"NonSymmetric\n"),
-        SymmetryState::Symmetric => answering::say(b"Symmetric\n"),
-        SymmetryState::AntiSymmetric => answering::say(b"AntiSymmetric\n"),
+        SymmetryState::NonSymmetric => answering::say(b"Non"),
+        SymmetryState::Symmetric => {}
+        SymmetryState::AntiSymmetric => answering::say(b"Anti"),
     }
+    answering::say(b"Symmetric\n");
 }
 
 // The class of weights; more than can be held are a fault.

@@ -2,8 +2,10 @@
 use reading::place::AXES;
 use reading::place::CELLS;
 use reading::place::COUNT;
+use reading::place::KERNEL_AT;
 use reading::place::LENGTHS_AT;
 use reading::place::Place;
+use reading::place::SIDES;
 use reading::place::WEIGHTS_AT;
 ghost use Prim.Native.Nat.{_≤_};
 
@@ -17,35 +19,23 @@ pub fn lent(n: usize, most: usize) -> usize
     most
 }
 
-// n counts from a place on, none where they are not there.
-pub fn counts(cells: &[usize], from: usize, n: usize) -> &[usize] {
-    if from > cells.len() {
-        return &cells[0..0];
-    }
-    if n > cells.len() - from {
-        return &cells[0..0];
-    }
-    &cells[from..from + n]
+// n counts from a place on, or what is there.
+fn counts(cells: &[usize], from: usize, n: usize) -> &[usize] {
+    let start = lent(from, cells.len());
+    let count = lent(n, cells.len() - start);
+    &cells[start..start + count]
 }
 
 pub fn levels(cells: &[i64], from: usize, n: usize) -> &[i64] {
-    if from > cells.len() {
-        return &cells[0..0];
-    }
-    if n > cells.len() - from {
-        return &cells[0..0];
-    }
-    &cells[from..from + n]
+    let start = lent(from, cells.len());
+    let count = lent(n, cells.len() - start);
+    &cells[start..start + count]
 }
 
 pub fn floats(cells: &[f64], from: usize, n: usize) -> &[f64] {
-    if from > cells.len() {
-        return &cells[0..0];
-    }
-    if n > cells.len() - from {
-        return &cells[0..0];
-    }
-    &cells[from..from + n]
+    let start = lent(from, cells.len());
+    let count = lent(n, cells.len() - start);
+    &cells[start..start + count]
 }
 
 // The level at a place.
@@ -58,6 +48,10 @@ pub fn level(cells: &[i64], at: usize) -> i64 {
 
 pub fn shape(place: &Place) -> &[usize] {
     counts(place, LENGTHS_AT, lent(place[AXES], 4))
+}
+
+pub fn sides(place: &Place) -> &[usize] {
+    counts(place, KERNEL_AT, lent(place[SIDES], 4))
 }
 
 pub fn data<'a>(place: &Place, cells: &'a [i64]) -> &'a [i64] {

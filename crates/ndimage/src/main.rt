@@ -11,9 +11,11 @@ mod request;
 use reading::cursor;
 use reading::place::FAULT;
 use reading::place::Floats;
+use reading::place::KIND;
 use reading::place::LEN;
 use reading::place::Levels;
 use reading::place::Place;
+use reading::place::REQUEST;
 use reading::place::Room;
 
 type Out = [i64; 32769];
@@ -23,7 +25,7 @@ fn answer(place: &Place, levels: &Levels, floats: &Floats, out: &mut Out) -> usi
     if place[FAULT] != 0 {
         return place[FAULT];
     }
-    if request::is_whole(place) {
+    if request::is_whole(place[REQUEST], place[KIND]) {
         return request::whole(place, levels, out);
     }
     request::other(place, levels, floats)

@@ -1,7 +1,6 @@
 // The median of masks, whose cells are read and written as 0 and 1.
 use crate::kernel::digit;
 use crate::list;
-use reading::place::Place;
 
 // Marks, one more than any call takes.
 type Mask = [bool; 8193];
@@ -59,12 +58,10 @@ fn vote(mask: &Mask, count: usize, shape: &[usize], out: &mut [i64]) -> u8 {
 }
 
 // The call, and its number.
-pub fn median(place: &Place, levels: &[i64], out: &mut [i64]) -> u8 {
+pub fn median(data: &[i64], shape: &[usize], out: &mut [i64]) -> u8 {
     let mut mask = [false; 8193];
-    let data = list::data(place, levels);
-    let n = list::lent(data.len(), 8193);
     if !mark(data, &mut mask) {
         return ODD;
     }
-    vote(&mask, n, list::shape(place), out)
+    vote(&mask, data.len(), shape, out)
 }

@@ -12,27 +12,21 @@ use reading::place::Place;
 use reading::place::REQUEST;
 use reading::words;
 
-// Pair i of the pads, of which the first n were given.
-fn pair(pads: &[usize], n: usize, i: usize) -> Pair {
-    if i >= n {
-        return Pair { left: 0, right: 0 };
+// A pair of pads, 0 and 0 where it was not given.
+fn pair(given: bool, left: usize, right: usize) -> Pair {
+    if given {
+        return Pair { left, right };
     }
-    if i > 2 {
-        return Pair { left: 0, right: 0 };
-    }
-    if pads.len() < 6 {
-        return Pair { left: 0, right: 0 };
-    }
-    Pair {
-        left: pads[2 * i],
-        right: pads[2 * i + 1],
-    }
+    Pair { left: 0, right: 0 }
 }
 
-fn pads_of(place: &Place) -> [Pair; 3] {
-    let n = place[PAIRS];
-    let pads = list::counts(place, PADS_AT, 6);
-    [pair(pads, n, 0), pair(pads, n, 1), pair(pads, n, 2)]
+// Three pairs, of which the first n were given.
+fn pads_of(place: &Place, n: usize) -> [Pair; 3] {
+    [
+        pair(n > 0, place[PADS_AT], place[PADS_AT + 1]),
+        pair(n > 1, place[PADS_AT + 2], place[PADS_AT + 3]),
+        pair(n > 2, place[PADS_AT + 4], place[PADS_AT + 5]),
+    ]
 }
 
 fn mode_of(place: &Place, levels: &[i64]) -> PadMode {
@@ -52,11 +46,15 @@ fn hold(held: &[i64], out: &mut [i64]) {
 }
 
 // The call, and its number.
-pub fn padding(place: &Place, levels: &[i64], out: &mut [i64]) -> u8 {
-    let shape = list::shape(place);
-    let data = list::data(place, levels);
-    let pads = pads_of(place);
+pub fn padding(
+    place: &Place,
+    levels: &[i64],
+    data: &[i64],
+    shape: &[usize],
+    out: &mut [i64],
+) -> u8 {
     let count = place[PAIRS];
+    let pads = pads_of(place, count);
     let mode = mode_of(place, levels);
     if place[REQUEST] == words::PAD {
         return pad::pad(data, shape, pads, count, mode, out);

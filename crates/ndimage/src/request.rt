@@ -6,7 +6,6 @@ use crate::list;
 use crate::mask;
 use crate::padding;
 use reading::place::Floats;
-use reading::place::KIND;
 use reading::place::Levels;
 use reading::place::ORIGIN_AT;
 use reading::place::OUT;
@@ -16,14 +15,22 @@ use reading::words;
 
 // The call, and its number.
 fn apply(place: &Place, levels: &[i64], out: &mut [i64]) -> u8 {
+    let shape = list::shape(place);
+    let data = list::data(place, levels);
     let request = place[REQUEST];
+    if request <= words::CONVOLVE {
+        return filter::kernel(place, levels, data, shape, out);
+    }
+    if request <= words::CONVOLVE1D {
+        return filter::weigh(place, levels, data, shape, out);
+    }
     if request < words::PAD {
-        return filter::filter(place, levels, out);
+        return filter::windowed(place, levels, data, shape, out);
     }
     if request == words::MEDIAN {
-        return mask::median(place, levels, out);
+        return mask::median(data, shape, out);
     }
-    padding::padding(place, levels, out)
+    padding::padding(place, levels, data, shape, out)
 }
 
 // A number or the levels; a fault where a mask has other levels than 0 and 1.
@@ -63,14 +70,14 @@ pub fn whole(place: &Place, levels: &[i64], out: &mut [i64]) -> usize {
 }
 
 // Whether a request has an output of whole levels.
-pub fn is_whole(place: &Place) -> bool {
-    if place[KIND] == 1 {
+pub fn is_whole(request: usize, kind: usize) -> bool {
+    if kind == 1 {
         return false;
     }
-    if place[REQUEST] == 0 {
+    if request == 0 {
         return false;
     }
-    place[REQUEST] <= words::MEDIAN
+    request <= words::MEDIAN
 }
 
 // Any other request, and an empty line; what is wrong with it, 0 for nothing.
