@@ -3,27 +3,42 @@ use print::levels;
 use print::line;
 use print::test;
 
-pub fn shapes() {
-    let shape = [2usize, 3];
-    line(shapes::len_of(&shape, 1));
-    line(shapes::len_of(&shape, 2));
-    line(shapes::cell_count(&shape));
-    line(shapes::cell_count(&[]));
-    line(shapes::cell_count(&[0]));
-    line(shapes::cell_count(&[1025]));
-    line(shapes::cell_count(&[128, 128]));
-    line(shapes::cell_count(&[18446744073709551615, 2]));
+fn counted(shape: &[usize]) {
+    line(shapes::cell_count(shape));
 }
 
-pub fn shape_conditions() {
-    test(conditions::bad_shape(&[1024]));
-    test(conditions::bad_shape(&[8, 1024]));
-    test(conditions::bad_shape(&[1025]));
-    test(conditions::bad_shape(&[128, 128]));
-    test(conditions::bad_length(&[2, 3], 6));
-    test(conditions::bad_length(&[2, 3], 5));
-    test(conditions::bad_axis(&[2, 3], 1));
-    test(conditions::bad_axis(&[2, 3], 2));
+// The lengths and the cells of two axes, and what is asked of them.
+fn two_axes(shape: &[usize]) {
+    line(shapes::len_of(shape, 1));
+    line(shapes::len_of(shape, 2));
+    counted(shape);
+    test(conditions::bad_length(shape, 6));
+    test(conditions::bad_length(shape, 5));
+    test(conditions::bad_axis(shape, 1));
+    test(conditions::bad_axis(shape, 2));
+}
+
+pub fn shapes() {
+    two_axes(&[2, 3]);
+    counted(&[]);
+    counted(&[0]);
+}
+
+// Whether a shape is refused, and how many cells it has.
+fn judged(shape: &[usize]) {
+    test(conditions::bad_shape(shape));
+    counted(shape);
+}
+
+pub fn limits() {
+    judged(&[1024]);
+    judged(&[1025]);
+    judged(&[8, 1024]);
+}
+
+pub fn large_shapes() {
+    judged(&[128, 128]);
+    judged(&[18446744073709551615, 2]);
 }
 
 pub fn level_conditions() {
@@ -57,18 +72,27 @@ pub fn copies() {
     levels(&out);
 }
 
-// The rows 1 2 3 / 4 5 6.
-pub fn lane_examples() {
-    let down = lanes::lanes_of(&[2, 3], 0);
-    line(down.len);
-    line(down.stride);
-    line(down.count);
+fn lane(lane: lanes::Lanes) {
+    line(lane.len);
+    line(lane.stride);
+    line(lane.count);
+}
+
+// A column of the rows 1 2 3 / 4 5 6; a lane that is not there leaves the line.
+fn column(number: usize) {
+    let mut cells = [0i64; 2];
+    lane_cells::read_lane(&[1, 2, 3, 4, 5, 6], 3, number, &mut cells);
+    levels(&cells);
+}
+
+pub fn read_lanes() {
+    lane(lanes::lanes_of(&[2, 3], 0));
+    column(1);
+    column(3);
+}
+
+pub fn write_lanes() {
     let mut grid = [1i64, 2, 3, 4, 5, 6];
-    let mut column = [0i64; 2];
-    lane_cells::read_lane(&grid, 3, 1, &mut column);
-    levels(&column);
-    lane_cells::read_lane(&grid, 3, 3, &mut column);
-    levels(&column);
     lane_cells::write_lane(&[7, 8], 3, 1, &mut grid);
     levels(&grid);
 }

@@ -1,22 +1,21 @@
 // The examples of `line_extremes`, `line_mean` and `line_median`.
-use print::levels;
+use print::level_line;
 
-pub fn extremes() {
-    levels(&[line_extremes::minimum(&[4, 2, 7, 1])]);
-    levels(&[line_extremes::minimum(&[])]);
-    levels(&[line_extremes::maximum(&[4, 2, 7, 1])]);
-    levels(&[line_extremes::maximum(&[])]);
+// What a line has.
+fn statistics(cells: &[i64]) {
+    level_line(line_extremes::minimum(cells));
+    level_line(line_extremes::maximum(cells));
+    level_line(line_mean::mean(cells));
+    level_line(line_median::median(cells));
 }
 
-pub fn means() {
-    levels(&[line_mean::mean(&[-1, -2])]);
-    levels(&[line_mean::mean(&[])]);
-    levels(&[line_mean::mean(&[2147483648])]);
+pub fn lines() {
+    statistics(&[4, 2, 7, 1]);
+    statistics(&[]);
+    statistics(&[1, 2, 4, 9]);
 }
 
-pub fn medians() {
-    levels(&[line_median::median(&[1, 2, 4, 9])]);
-    levels(&[line_median::median(&[-1, -2])]);
-    levels(&[line_median::median(&[])]);
-    levels(&[line_median::median(&[2147483648])]);
+pub fn odd_lines() {
+    statistics(&[-1, -2]);
+    statistics(&[2147483648]);
 }

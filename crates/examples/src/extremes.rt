@@ -10,14 +10,19 @@ pub fn rings() {
     test(minlist::serves(6, 3, 6));
 }
 
-// The last call has three windows for four cells, and leaves them as they were.
+// The extremes of the windows of a line.
+fn windows(cells: &[i64], n: usize) {
+    let mut least = [0i64; 4];
+    let mut greatest = [0i64; 4];
+    minimum_line::minimum_line(cells, n, &mut least);
+    maximum_line::maximum_line(cells, n, &mut greatest);
+    levels(&least);
+    levels(&greatest);
+}
+
+// Windows of 4 cells are three, and leave the four cells of each output as they were.
 pub fn lines() {
     let cells = [4i64, 4, 2, 7, 1, 1];
-    let mut out = [0i64; 4];
-    minimum_line::minimum_line(&cells, 3, &mut out);
-    levels(&out);
-    maximum_line::maximum_line(&cells, 3, &mut out);
-    levels(&out);
-    minimum_line::minimum_line(&cells, 4, &mut out);
-    levels(&out);
+    windows(&cells, 3);
+    windows(&cells, 4);
 }

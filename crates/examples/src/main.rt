@@ -1,12 +1,11 @@
-// The numeric examples of the public comments, run and printed; `stdout` beside src/ has what they must be. Here are the ground floor, padding and
-// minimum and maximum; `examples_correlation` has the others.
+// The numeric examples of the public comments, run and printed; `stdout` beside src/ has what they must be. Here are the ground floor, lines and the judge of
+// minimum and maximum; `examples_correlation` has the others, and those of the calls that `ndimage` serves are among its requests.
 // The theorems of worked rows and the rule on the order of axes are called here too, so that no crate can drop its own unnoticed.
 mod arrays;
 mod averages;
 mod borders;
 mod extremes;
 mod filters;
-mod grids;
 
 fn rows() {
     numbers::rows();
@@ -30,28 +29,18 @@ fn rows() {
 fn main() {
     rows();
     arrays::shapes();
-    arrays::shape_conditions();
+    arrays::limits();
+    arrays::large_shapes();
     arrays::level_conditions();
     arrays::judges();
     arrays::copies();
-    arrays::lane_examples();
+    arrays::read_lanes();
+    arrays::write_lanes();
     borders::modes();
     borders::origins();
     extremes::rings();
     extremes::lines();
-    averages::extremes();
-    averages::means();
-    averages::medians();
-    filters::one_axis();
-    filters::t4();
-    filters::limits();
-    filters::both_orders();
-    filters::every_axis();
+    averages::lines();
+    averages::odd_lines();
     filters::judges();
-    grids::t1();
-    grids::t10();
-    grids::squares();
-    grids::rims();
-    grids::refusals();
-    grids::two_pairs();
 }

@@ -1,13 +1,9 @@
-// The numeric examples of the public comments, run and printed; `stdout` beside src/ has what they must be. Here are correlation, the gradients, uniform filters
-// and masks, and what they rest on: kernels, symmetry, padded lines and windows; `examples` has the others.
+// The numeric examples of the public comments, run and printed; `stdout` beside src/ has what they must be. Here are kernels, padded lines, windows and the judges
+// of correlation, gradients, uniform filters and masks; `examples` has the others, and those of the calls that `ndimage` serves are among its requests.
 // The theorems of worked rows are called here too, so that no crate can drop its own unnoticed.
-mod correlations;
-mod gradients;
+mod judges;
 mod kernels;
-mod masks;
-mod means;
 mod padded;
-mod planes;
 mod weighing;
 
 fn rows() {
@@ -39,7 +35,6 @@ fn rows() {
 fn main() {
     rows();
     kernels::shapes();
-    kernels::symmetries();
     padded::pad_conditions();
     padded::fits();
     padded::lines();
@@ -48,20 +43,8 @@ fn main() {
     weighing::weights();
     weighing::judges();
     weighing::judges_f64();
-    correlations::t2();
-    correlations::t3();
-    correlations::limits();
-    correlations::floats();
-    planes::judges();
-    planes::t8();
-    planes::refusals();
-    gradients::t7();
-    gradients::refusals();
-    gradients::judges();
-    means::judges();
-    means::t6();
-    means::both_axes();
-    masks::conditions();
-    masks::t9();
-    masks::refusals();
+    judges::one_cell();
+    judges::gradients();
+    judges::means();
+    judges::masks();
 }

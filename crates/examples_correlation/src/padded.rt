@@ -26,14 +26,17 @@ pub fn fits() {
     test(pad_line::lane_fits(6, 1, 2, 3, 2, 2, 7));
 }
 
-// Lane 1 of the rows 4 5 6 / 1 2 3; the second call is refused and leaves the line as it was.
-pub fn lines() {
-    let grid = [4i64, 5, 6, 1, 2, 3];
+// Lane 1 of the rows 4 5 6 / 1 2 3; a lane that is refused leaves the line as it was.
+fn padded_by(left: usize) {
     let mut padded = [9i64; 8];
-    pad_line::pad_lane(&grid, 1, 1, 3, BorderMode::Mirror, 2, 2, &mut padded);
+    let mirror = BorderMode::Mirror;
+    pad_line::pad_lane(&[4, 5, 6, 1, 2, 3], 1, 1, 3, mirror, left, 2, &mut padded);
     levels(&padded);
-    pad_line::pad_lane(&grid, 1, 1, 3, BorderMode::Mirror, 3, 2, &mut padded);
-    levels(&padded);
+}
+
+pub fn lines() {
+    padded_by(2);
+    padded_by(3);
 }
 
 pub fn lines_f64() {
@@ -45,9 +48,17 @@ pub fn lines_f64() {
     test(padded[7] == 9.0);
 }
 
+fn two_windows(cells: &[i64]) {
+    levels(window::window(cells, 1, 2));
+    levels(window::window(cells, 4, 2));
+}
+
+fn two_windows_f64(cells: &[f64]) {
+    line(window::window_f64(cells, 1, 2).len());
+    line(window::window_f64(cells, 4, 2).len());
+}
+
 pub fn windows() {
-    levels(window::window(&[7, 1, 2, 3, 7], 1, 2));
-    levels(window::window(&[7, 1, 2, 3, 7], 4, 2));
-    line(window::window_f64(&[7.0, 1.0, 2.0, 3.0, 7.0], 1, 2).len());
-    line(window::window_f64(&[7.0, 1.0, 2.0, 3.0, 7.0], 4, 2).len());
+    two_windows(&[7, 1, 2, 3, 7]);
+    two_windows_f64(&[7.0, 1.0, 2.0, 3.0, 7.0]);
 }

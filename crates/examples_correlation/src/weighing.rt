@@ -10,35 +10,33 @@ pub fn weights() {
     test(correlate_judge::bad_weights(&[1, 65536]));
 }
 
-// Three cells under Mirror with 5 and with 7 weights, correlated and convolved.
-pub fn judges() {
-    let cells = [1i64, 2, 3];
-    let five = [1i64; 5];
-    let seven = [1i64; 7];
+// Under Mirror, correlated and convolved.
+fn both(cells: &[i64], shape: &[usize], weights: &[i64]) {
     let mirror = BorderMode::Mirror;
-    line(correlate_judge::judge_correlate(&cells, &[3], &five, 0, mirror, 0, false, 3) as usize);
-    line(correlate_judge::judge_correlate(&cells, &[3], &seven, 0, mirror, 0, false, 3) as usize);
-    line(correlate_judge::judge_correlate(&cells, &[3], &five, 0, mirror, 0, true, 3) as usize);
-    line(correlate_judge::judge_correlate(&cells, &[3], &seven, 0, mirror, 0, true, 3) as usize);
+    line(correlate_judge::judge_correlate(cells, shape, weights, 0, mirror, 0, false, 3) as usize);
+    line(correlate_judge::judge_correlate(cells, shape, weights, 0, mirror, 0, true, 3) as usize);
+}
+
+// Five and seven weights.
+fn two_counts(cells: &[i64], shape: &[usize]) {
+    both(cells, shape, &[1; 5]);
+    both(cells, shape, &[1; 7]);
+}
+
+pub fn judges() {
+    two_counts(&[1, 2, 3], &[3]);
+}
+
+// One cell and one weight under Wrap.
+fn single(cells: &[f64], weights: &[f64], shape: &[usize]) {
+    let wrap = BorderModeF64::Wrap;
+    line(
+        correlate_judge::judge_correlate_f64(cells, shape, weights, 0, wrap, 0, false, 1) as usize,
+    );
 }
 
 // An infinite weight, and a level -0.0.
 pub fn judges_f64() {
-    let wrap = BorderModeF64::Wrap;
-    let infinite = [1.0 / 0.0];
-    line(
-        correlate_judge::judge_correlate_f64(
-            &[1.0],
-            &[1],
-            &infinite,
-            0,
-            wrap,
-            0,
-            false,
-            1,
-        ) as usize,
-    );
-    line(
-        correlate_judge::judge_correlate_f64(&[-0.0], &[1], &[1.0], 0, wrap, 0, false, 1) as usize,
-    );
+    single(&[1.0], &[1.0 / 0.0], &[1]);
+    single(&[-0.0], &[1.0], &[1]);
 }

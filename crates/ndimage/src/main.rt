@@ -1,23 +1,67 @@
 // Answers requests on standard input, a line each, with a line each on standard output.
-mod apply;
 mod filter;
 mod filter_f64;
 mod kernel;
+mod list;
 mod mask;
+mod mode;
 mod padding;
 mod request;
 
 use reading::cursor;
+use reading::place::FAULT;
+use reading::place::Floats;
+use reading::place::KIND;
+use reading::place::LEN;
+use reading::place::Levels;
+use reading::place::Place;
+use reading::place::REQUEST;
+use reading::place::Room;
 
-// The large arrays are made once. Each holds one cell more than any call takes, so that what is too long is refused as such.
+type Out = [i64; 32769];
+
+// The answer to what was read; what is wrong with it, 0 for nothing.
+fn answer(place: &Place, levels: &Levels, floats: &Floats, out: &mut Out) -> usize {
+    if place[FAULT] != 0 {
+        return place[FAULT];
+    }
+    if request::is_whole(place[REQUEST], place[KIND]) {
+        return request::whole(place, levels, out);
+    }
+    request::other(place, levels, floats)
+}
+
+// What is wrong with the line, where something is.
+fn report(room: &[u8], place: &Place, fault: usize) {
+    if fault == 0 {
+        return;
+    }
+    answering::error(room, place[LEN], fault);
+}
+
+// A line: what it asks for, or what is wrong with it.
+fn serve(
+    room: &mut Room,
+    place: &mut Place,
+    levels: &mut Levels,
+    floats: &mut Floats,
+    out: &mut Out,
+) {
+    reading::read(room, place, levels, floats);
+    let fault = answer(place, levels, floats, out);
+    report(room, place, fault);
+}
+
+// The arrays are made once.
 fn main() {
     let mut room = [0u8; 65600];
-    let mut place = [0usize; 6];
-    let mut data = [0i64; 8193];
+    let mut place = [0usize; 48];
+    let mut levels = [0i64; 41308];
+    let mut floats = [0.0; 8538];
     let mut out = [0i64; 32769];
     let mut turns = u64::MAX;
     while turns > 0 {
-        request::serve(&mut room, &mut place, &mut data, &mut out);
+        serve(&mut room, &mut place, &mut levels, &mut floats, &mut out);
         if cursor::over(&place) {
             break;
         }

@@ -1,17 +1,15 @@
 // The median of masks, whose cells are read and written as 0 and 1.
-use crate::filter::answered;
-use crate::filter::lent;
 use crate::kernel::digit;
-use reading::cursor;
-use reading::cursor::FAULT;
-use reading::cursor::Place;
-use reading::number;
+use crate::list;
+
+// Marks, one more than any call takes.
+type Mask = [bool; 8193];
 
 // Sets each mark to whether its level is 1; false where a level is neither 0 nor 1.
-fn mark(data: &[i64], mask: &mut [bool]) -> bool {
+fn mark(data: &[i64], mask: &mut Mask) -> bool {
     let mut i = 0;
     while i < data.len() {
-        if i >= mask.len() {
+        if i >= 8193 {
             break;
         }
         let z = data[i];
@@ -28,9 +26,9 @@ fn mark(data: &[i64], mask: &mut [bool]) -> bool {
 }
 
 // Sets each level to 1 where the mark is true, and to 0 where it is not.
-fn unmark(mask: &[bool], out: &mut [i64]) {
+fn unmark(mask: &Mask, out: &mut [i64]) {
     let mut i = 0;
-    while i < mask.len() {
+    while i < 8193 {
         if i >= out.len() {
             break;
         }
@@ -39,51 +37,31 @@ fn unmark(mask: &[bool], out: &mut [i64]) {
     }
 }
 
-// The call on the marks of data, with an output of as many cells as out; mask and voted are buffers. False where a level is neither 0 nor 1.
-fn vote(
-    data: &[i64],
-    shape: &[usize],
-    mask: &mut [bool],
-    voted: &mut [bool],
-    out: &mut [i64],
-) -> bool {
-    if !mark(data, mask) {
-        return false;
+// The first n marks.
+fn first(mask: &[bool], n: usize) -> &[bool] {
+    if n > mask.len() {
+        return &mask[0..0];
     }
-    let refusal = median::median_filter(mask, shape, voted);
-    unmark(voted, out);
-    answered(refusal, out);
-    true
+    &mask[0..n]
 }
 
-// The same, with buffers of its own.
-fn serve(data: &[i64], shape: &[usize], out: &mut [i64]) -> bool {
-    let mut mask = [false; 8193];
+// What `median` answers where a level is neither 0 nor 1.
+pub const ODD: u8 = 255;
+
+// The call on marks, with an output of as many cells as out.
+fn vote(mask: &Mask, count: usize, shape: &[usize], out: &mut [i64]) -> u8 {
     let mut voted = [false; 8193];
-    let cells = lent(data.len(), 8193);
-    let n = lent(out.len(), 8193);
-    vote(data, shape, &mut mask[0..cells], &mut voted[0..n], out)
+    let n = list::lent(out.len(), 8193);
+    let refusal = median::median_filter(first(mask, count), shape, &mut voted[0..n]);
+    unmark(&voted, out);
+    refusal
 }
 
-// The call on what was read, where nothing was wrong with it.
-fn call(data: &[i64], shape: &[usize], grid: number::Grid, count: usize, out: &mut [i64]) -> bool {
-    let cells = lent(grid.cells, data.len());
-    let axes = lent(grid.axes, shape.len());
-    let n = lent(lent(count, data.len()), out.len());
-    serve(&data[0..cells], &shape[0..axes], &mut out[0..n])
-}
-
-// A request for the median of a mask, from its grid on.
-pub fn median(room: &mut [u8], place: &mut Place, data: &mut [i64], out: &mut [i64]) {
-    let mut shape = [0usize; 4];
-    let grid = number::read_grid(room, place, &mut shape, data);
-    let count = number::read_count(room, place);
-    cursor::finish(room, place);
-    if place[FAULT] != 0 {
-        return;
+// The call, and its number.
+pub fn median(data: &[i64], shape: &[usize], out: &mut [i64]) -> u8 {
+    let mut mask = [false; 8193];
+    if !mark(data, &mut mask) {
+        return ODD;
     }
-    if call(data, &shape, grid, count, out) {
-        return;
-    }
-    cursor::faulty(place, answering::MASK);
+    vote(&mask, data.len(), shape, out)
 }

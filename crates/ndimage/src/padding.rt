@@ -1,93 +1,64 @@
 // `pad` and `pad_to`.
-use crate::filter::answered;
-use crate::filter::lent;
+use crate::list;
+use crate::mode;
 use border::PadMode;
-use reading::cursor;
-use reading::cursor::FAULT;
-use reading::cursor::Place;
-use reading::mode;
-use reading::mode::Pads;
-use reading::number;
+use pad_levels::Pair;
+use reading::place::BORDER;
+use reading::place::CONSTANT_AT;
+use reading::place::HELD_AT;
+use reading::place::PADS_AT;
+use reading::place::PAIRS;
+use reading::place::Place;
+use reading::place::REQUEST;
+use reading::words;
 
-// How long the output is: a length, or what it holds before, as a list.
-fn read_out(to: bool, room: &mut [u8], place: &mut Place, out: &mut [i64]) -> usize {
-    if to {
-        return number::list(room, place, out);
+// A pair of pads, 0 and 0 where it was not given.
+fn pair(given: bool, left: usize, right: usize) -> Pair {
+    if given {
+        return Pair { left, right };
     }
-    number::read_count(room, place)
+    Pair { left: 0, right: 0 }
+}
+
+// Three pairs, of which the first n were given.
+fn pads_of(place: &Place, n: usize) -> [Pair; 3] {
+    [
+        pair(n > 0, place[PADS_AT], place[PADS_AT + 1]),
+        pair(n > 1, place[PADS_AT + 2], place[PADS_AT + 3]),
+        pair(n > 2, place[PADS_AT + 4], place[PADS_AT + 5]),
+    ]
+}
+
+fn mode_of(place: &Place, levels: &[i64]) -> PadMode {
+    mode::padding(place[BORDER], list::level(levels, CONSTANT_AT))
+}
+
+// What the output holds before.
+fn hold(held: &[i64], out: &mut [i64]) {
+    let mut i = 0;
+    while i < held.len() {
+        if i >= out.len() {
+            break;
+        }
+        out[i] = held[i];
+        i += 1;
+    }
 }
 
 // The call, and its number.
-fn apply(
-    to: bool,
+pub fn padding(
+    place: &Place,
+    levels: &[i64],
     data: &[i64],
     shape: &[usize],
-    mode: PadMode,
-    given: Pads,
     out: &mut [i64],
 ) -> u8 {
-    let pads = given.pads;
-    if to {
-        return pad::pad_to(data, shape, pads, given.count, mode, out);
+    let count = place[PAIRS];
+    let pads = pads_of(place, count);
+    let mode = mode_of(place, levels);
+    if place[REQUEST] == words::PAD {
+        return pad::pad(data, shape, pads, count, mode, out);
     }
-    pad::pad(data, shape, pads, given.count, mode, out)
-}
-
-// The call and its answer.
-fn answer(to: bool, data: &[i64], shape: &[usize], mode: PadMode, given: Pads, out: &mut [i64]) {
-    let refusal = apply(to, data, shape, mode, given, out);
-    answered(refusal, out);
-}
-
-// The call on what was read.
-fn serve(
-    to: bool,
-    data: &[i64],
-    shape: &[usize],
-    grid: number::Grid,
-    mode: PadMode,
-    given: Pads,
-    length: usize,
-    out: &mut [i64],
-) {
-    let cells = lent(grid.cells, data.len());
-    let axes = lent(grid.axes, shape.len());
-    let n = lent(length, out.len());
-    answer(
-        to,
-        &data[0..cells],
-        &shape[0..axes],
-        mode,
-        given,
-        &mut out[0..n],
-    );
-}
-
-// The request from the output on, to the end of the line; then the call, where nothing was wrong.
-fn answer_rest(
-    to: bool,
-    room: &mut [u8],
-    place: &mut Place,
-    data: &[i64],
-    shape: &[usize],
-    grid: number::Grid,
-    mode: PadMode,
-    given: Pads,
-    out: &mut [i64],
-) {
-    let length = read_out(to, room, place, out);
-    cursor::finish(room, place);
-    if place[FAULT] != 0 {
-        return;
-    }
-    serve(to, data, shape, grid, mode, given, length, out);
-}
-
-// A request for padding, from its grid on.
-pub fn padding(to: bool, room: &mut [u8], place: &mut Place, data: &mut [i64], out: &mut [i64]) {
-    let mut shape = [0usize; 4];
-    let grid = number::read_grid(room, place, &mut shape, data);
-    let mode = mode::read_padding(room, place);
-    let given = mode::read_pads(room, place);
-    answer_rest(to, room, place, data, &shape, grid, mode, given, out);
+    hold(list::levels(levels, HELD_AT, out.len()), out);
+    pad::pad_to(data, shape, pads, count, mode, out)
 }

@@ -43,6 +43,12 @@ fn level(z: i64) {
     io::print_decimal(STDOUT_FILENO, z as u64);
 }
 
+// Writes a level and ends the line.
+pub fn level_line(z: i64) {
+    level(z);
+    end();
+}
+
 // Writes the levels on one line, each with a space after it: 4 2 7 1.
 pub fn levels(cells: &[i64]) {
     let mut i = 0;

@@ -1,30 +1,18 @@
-// Reading standard input token by token. A token is what stands between spaces; only its first bytes are kept. What reading works on is lent to every
-// function: a room for bytes, with the token in front and what was read behind it, and a place, the numbers that say where reading stands.
+// Reading standard input token by token. A token is what stands between spaces; only its first bytes are kept.
+use crate::place::AT;
+use crate::place::END;
+use crate::place::FAULT;
+use crate::place::LEN;
+use crate::place::LINE;
+use crate::place::Place;
+use crate::place::Room;
+use crate::place::STATE;
 use answering::EXTRA;
 use answering::LONG;
 use libc::STDIN_FILENO;
 
-pub type Place = [usize; 6];
-
 // How many bytes of a token are kept, in front of what was read.
-pub const KEPT: usize = 64;
-
-// The numbers of a place: the next byte of the room, and where what was read ends.
-const AT: usize = 0;
-
-const END: usize = 1;
-
-// How many bytes of the line were read, at most LONGEST + 1.
-const LINE: usize = 2;
-
-// How many bytes the token has, 0 for none, at most one more than are kept.
-pub const LEN: usize = 3;
-
-// OPEN, SPACE, LINE_END or INPUT_END.
-const STATE: usize = 4;
-
-// The first thing that is wrong with the line, 0 for nothing.
-pub const FAULT: usize = 5;
+const KEPT: usize = 64;
 
 // In a token or before it; the token is whole; the line has ended; the input has ended.
 const OPEN: usize = 0;
@@ -43,7 +31,6 @@ const NONE: usize = 256;
 // Goes on with the next line.
 pub fn begin_line(place: &mut Place) {
     place[LINE] = 0;
-    place[LEN] = 0;
     place[STATE] = OPEN;
     place[FAULT] = 0;
 }
@@ -61,20 +48,32 @@ pub fn faulty(place: &mut Place, fault: usize) {
     place[FAULT] = fault;
 }
 
-// More bytes, or the end of the input.
-fn fill(room: &mut [u8], place: &mut Place) {
+// Reads behind the token: how many bytes.
+fn bring(room: &mut [u8]) -> usize {
     if room.len() < KEPT {
-        place[STATE] = INPUT_END;
-        return;
+        return 0;
     }
     let got = libc::read(STDIN_FILENO, &mut room[KEPT..]);
-    let n = io::count(got, &room[KEPT..]);
+    io::count(got, &room[KEPT..])
+}
+
+// More bytes, or the end of the input.
+fn fill(room: &mut Room, place: &mut Place) {
+    let n = bring(room);
     if n == 0 {
         place[STATE] = INPUT_END;
         return;
     }
     place[AT] = KEPT;
-    place[END] = KEPT + n;
+    place[END] = behind(n);
+}
+
+// Where n bytes end that were read behind the token.
+fn behind(n: usize) -> usize {
+    if n > 65536 {
+        return KEPT;
+    }
+    KEPT + n
 }
 
 // Counts a byte of the line; its end does not count.
@@ -94,13 +93,13 @@ fn wide(byte: u8) -> usize {
 }
 
 // The next byte; NONE where more bytes had to be brought into the room first, or the input has ended.
-fn advance(room: &mut [u8], place: &mut Place) -> usize {
+fn advance(room: &mut Room, place: &mut Place) -> usize {
     let at = place[AT];
     if at >= place[END] {
         fill(room, place);
         return NONE;
     }
-    if at >= room.len() {
+    if at >= 65600 {
         place[STATE] = INPUT_END;
         return NONE;
     }
@@ -111,21 +110,21 @@ fn advance(room: &mut [u8], place: &mut Place) -> usize {
 }
 
 // Keeps a byte of the token where there is room.
-fn keep(room: &mut [u8], n: usize, byte: usize) {
+fn keep(room: &mut Room, n: usize, byte: usize) {
     if n >= KEPT {
-        return;
-    }
-    if n >= room.len() {
         return;
     }
     room[n] = (byte % 256) as u8;
 }
 
-// What a byte does.
-fn take(room: &mut [u8], place: &mut Place, byte: usize) {
+// What a byte does; after a fault only the end of the line counts.
+fn take(room: &mut Room, place: &mut Place, byte: usize) {
     let len = place[LEN];
     if byte == 10 {
         place[STATE] = LINE_END;
+        return;
+    }
+    if place[FAULT] != 0 {
         return;
     }
     if byte == 32 {
@@ -143,7 +142,7 @@ fn take(room: &mut [u8], place: &mut Place, byte: usize) {
 }
 
 // One byte, or more bytes into the room.
-fn turn(room: &mut [u8], place: &mut Place) {
+fn turn(room: &mut Room, place: &mut Place) {
     let byte = advance(room, place);
     if byte == NONE {
         return;
@@ -151,39 +150,29 @@ fn turn(room: &mut [u8], place: &mut Place) {
     take(room, place, byte);
 }
 
-// The next token of the line: its length is 0 where there is none.
-pub fn next(room: &mut [u8], place: &mut Place) {
-    place[LEN] = 0;
-    if place[STATE] >= LINE_END {
-        return;
-    }
-    place[STATE] = OPEN;
+// Reads on to a state or a later one.
+fn run(room: &mut Room, place: &mut Place, state: usize) {
     let mut turns = u64::MAX;
     while turns > 0 {
-        turn(room, place);
-        if place[STATE] != OPEN {
+        if place[STATE] >= state {
             break;
         }
+        turn(room, place);
         turns -= 1;
     }
 }
 
-// To the end of the line; the token stays.
-fn skip(room: &mut [u8], place: &mut Place) {
-    let mut turns = u64::MAX;
-    while turns > 0 {
-        if place[STATE] >= LINE_END {
-            break;
-        }
-        if advance(room, place) == 10 {
-            place[STATE] = LINE_END;
-        }
-        turns -= 1;
+// The next token of the line: its length is 0 where there is none.
+pub fn next(room: &mut Room, place: &mut Place) {
+    place[LEN] = 0;
+    if place[STATE] == SPACE {
+        place[STATE] = OPEN;
     }
+    run(room, place, SPACE);
 }
 
 // Nothing may follow.
-fn expect_end(room: &mut [u8], place: &mut Place) {
+fn expect_end(room: &mut Room, place: &mut Place) {
     if place[FAULT] != 0 {
         return;
     }
@@ -204,8 +193,8 @@ fn measure(place: &mut Place) {
 }
 
 // The end of the request.
-pub fn finish(room: &mut [u8], place: &mut Place) {
+pub fn finish(room: &mut Room, place: &mut Place) {
     expect_end(room, place);
-    skip(room, place);
+    run(room, place, LINE_END);
     measure(place);
 }

@@ -1,36 +1,24 @@
-// Numbers out of tokens, and lists and grids of them, straight into the arrays that are lent. After a fault nothing more is read: numbers are 0.
+// Numbers out of tokens, each straight to its place in the arrays that are lent.
 use crate::cursor;
-use crate::cursor::FAULT;
-use crate::cursor::KEPT;
-use crate::cursor::LEN;
-use crate::cursor::Place;
+use crate::parts;
+use crate::place::BORDER;
+use crate::place::Floats;
+use crate::place::KIND;
+use crate::place::LAST;
+use crate::place::LEN;
+use crate::place::Levels;
+use crate::place::PART;
+use crate::place::Place;
+use crate::place::REQUEST;
+use crate::place::WHERE;
+use crate::words;
 use text::Signed;
 use text::Unsigned;
 use text_f64::Token;
 
-// How many axes and levels a grid was given.
-pub struct Grid {
-    pub axes: usize,
-    pub cells: usize,
-}
-
-// The next token, which has to be there: its length, 0 after a fault.
-pub fn word(room: &mut [u8], place: &mut Place) -> usize {
-    if place[FAULT] != 0 {
-        return 0;
-    }
-    cursor::next(room, place);
-    let len = place[LEN];
-    if len != 0 {
-        return len;
-    }
-    cursor::faulty(place, answering::MISSING);
-    0
-}
-
 // The token's bytes; of one that is longer than what is kept, nothing, which is no word and no number.
-fn shown(room: &[u8], len: usize) -> &[u8] {
-    if len > KEPT {
+pub fn shown(room: &[u8], len: usize) -> &[u8] {
+    if len > 64 {
         return &room[0..0];
     }
     if len > room.len() {
@@ -39,166 +27,107 @@ fn shown(room: &[u8], len: usize) -> &[u8] {
     &room[0..len]
 }
 
-// Whether the token is this word.
-pub fn is(room: &[u8], len: usize, word: &[u8]) -> bool {
-    check::same(shown(room, len), word)
-}
-
-pub fn read_count(room: &mut [u8], place: &mut Place) -> usize {
-    let len = word(room, place);
-    if let Unsigned::Is(n) = read_text::read_unsigned(shown(room, len)) {
-        return n as usize;
+// Keeps a count where there is room for it.
+fn keep(place: &mut Place, n: usize) {
+    let at = place[WHERE];
+    place[LAST] = n;
+    if at < 48 {
+        place[at] = n;
     }
-    cursor::faulty(place, answering::NUMBER);
-    0
 }
 
-// A count where the request has one here.
-pub fn count_if(asked: bool, room: &mut [u8], place: &mut Place) -> usize {
-    if asked {
-        return read_count(room, place);
-    }
-    0
-}
-
-pub fn read_level(room: &mut [u8], place: &mut Place) -> i64 {
-    let len = word(room, place);
-    if let Signed::Is(z) = read_text::read_signed(shown(room, len)) {
-        return z;
-    }
-    cursor::faulty(place, answering::NUMBER);
-    0
-}
-
-// An origin where the request has one here.
-pub fn level_if(asked: bool, room: &mut [u8], place: &mut Place) -> i64 {
-    if asked {
-        return read_level(room, place);
-    }
-    0
-}
-
-pub fn read_level_f64(room: &mut [u8], place: &mut Place) -> f64 {
-    let len = word(room, place);
-    if let Token::Is(x) = text_f64::read_float(shown(room, len)) {
-        return x;
-    }
-    cursor::faulty(place, answering::NUMBER);
-    0.0
-}
-
-fn store_count(cells: &mut [usize], i: usize, n: usize) {
-    if i >= cells.len() {
+fn take_count(room: &[u8], place: &mut Place) {
+    if let Unsigned::Is(n) = read_text::read_unsigned(shown(room, place[LEN])) {
+        keep(place, n as usize);
         return;
     }
-    cells[i] = n;
+    cursor::faulty(place, answering::NUMBER);
 }
 
-fn store(cells: &mut [i64], i: usize, z: i64) {
-    if i >= cells.len() {
+pub fn take_level(room: &[u8], place: &mut Place, levels: &mut Levels) {
+    let at = place[WHERE];
+    if let Signed::Is(z) = read_text::read_signed(shown(room, place[LEN])) {
+        if at < 41308 {
+            levels[at] = z;
+        }
         return;
     }
-    cells[i] = z;
+    cursor::faulty(place, answering::NUMBER);
 }
 
-fn store_f64(cells: &mut [f64], i: usize, x: f64) {
-    if i >= cells.len() {
+pub fn take_float(room: &[u8], place: &mut Place, floats: &mut Floats) {
+    let at = place[WHERE];
+    if let Token::Is(x) = text_f64::read_float(shown(room, place[LEN])) {
+        if at < 8538 {
+            floats[at] = x;
+        }
         return;
     }
-    cells[i] = x;
+    cursor::faulty(place, answering::NUMBER);
 }
 
-// n counts; those beyond the cells are read and not kept.
-pub fn counts(room: &mut [u8], place: &mut Place, n: usize, cells: &mut [usize]) {
-    let mut i = 0;
-    while i < n {
-        let count = read_count(room, place);
-        if place[FAULT] != 0 {
-            break;
-        }
-        store_count(cells, i, count);
-        i += 1;
+// The number of the word that the token is, by the request: 0 for none.
+fn word_of(token: &[u8], request: usize, part: usize) -> usize {
+    if part == KIND {
+        return words::kind(token);
     }
-}
-
-fn levels(room: &mut [u8], place: &mut Place, n: usize, cells: &mut [i64]) {
-    let mut i = 0;
-    while i < n {
-        let z = read_level(room, place);
-        if place[FAULT] != 0 {
-            break;
-        }
-        store(cells, i, z);
-        i += 1;
+    if request == words::KERNEL3D {
+        return words::kernel(token);
     }
-}
-
-fn levels_f64(room: &mut [u8], place: &mut Place, n: usize, cells: &mut [f64]) {
-    let mut i = 0;
-    while i < n {
-        let x = read_level_f64(room, place);
-        if place[FAULT] != 0 {
-            break;
-        }
-        store_f64(cells, i, x);
-        i += 1;
+    if request < words::PAD {
+        return words::border(token);
     }
+    words::padding(token)
 }
 
-// A list: how many, and the levels.
-pub fn list(room: &mut [u8], place: &mut Place, cells: &mut [i64]) -> usize {
-    let n = read_count(room, place);
-    levels(room, place, n, cells);
-    n
+// What is wrong where it is none.
+fn odd(request: usize, part: usize) -> usize {
+    if part == KIND {
+        return answering::KIND;
+    }
+    if request == words::KERNEL3D {
+        return answering::SHAPE;
+    }
+    answering::MODE
 }
 
-// A list where the request has one here.
-pub fn list_if(asked: bool, room: &mut [u8], place: &mut Place, cells: &mut [i64]) -> usize {
-    if asked {
-        return list(room, place, cells);
+// 1 for the first word, 0 for the others.
+fn first(word: usize) -> usize {
+    if word == 1 {
+        return 1;
     }
     0
 }
 
-pub fn list_f64(room: &mut [u8], place: &mut Place, cells: &mut [f64]) -> usize {
-    let n = read_count(room, place);
-    levels_f64(room, place, n, cells);
-    n
-}
-
-// Counts in front of which their number stands: the lengths of a grid, the sides of a kernel.
-pub fn lengths(room: &mut [u8], place: &mut Place, cells: &mut [usize]) -> usize {
-    let n = read_count(room, place);
-    counts(room, place, n, cells);
-    n
-}
-
-// Sides where the request has them here.
-pub fn lengths_if(asked: bool, room: &mut [u8], place: &mut Place, cells: &mut [usize]) -> usize {
-    if asked {
-        return lengths(room, place, cells);
+fn take_word(room: &[u8], place: &mut Place) {
+    let part = place[PART];
+    let request = place[REQUEST];
+    let word = word_of(shown(room, place[LEN]), request, part);
+    if word == 0 {
+        cursor::faulty(place, odd(request, part));
+        return;
     }
-    0
+    place[LAST] = first(word);
+    if part == KIND {
+        place[KIND] = word;
+        return;
+    }
+    place[BORDER] = word;
 }
 
-pub fn read_grid(
-    room: &mut [u8],
-    place: &mut Place,
-    shape: &mut [usize],
-    cells: &mut [i64],
-) -> Grid {
-    let axes = lengths(room, place, shape);
-    let n = list(room, place, cells);
-    Grid { axes, cells: n }
-}
-
-pub fn read_grid_f64(
-    room: &mut [u8],
-    place: &mut Place,
-    shape: &mut [usize],
-    cells: &mut [f64],
-) -> Grid {
-    let axes = lengths(room, place, shape);
-    let n = list_f64(room, place, cells);
-    Grid { axes, cells: n }
+// A token, which has to be there: takes a count or a word, and says what it is.
+pub fn take(room: &[u8], place: &mut Place) -> u8 {
+    let kind = parts::kind_of(place[PART], place[KIND]);
+    if place[LEN] == 0 {
+        cursor::faulty(place, answering::MISSING);
+        return parts::WORD;
+    }
+    if kind == parts::WORD {
+        take_word(room, place);
+        return kind;
+    }
+    if kind == parts::UNSIGNED {
+        take_count(room, place);
+    }
+    kind
 }

@@ -1,28 +1,17 @@
--- `main` is safe and ends: the arrays keep their lengths, and the measure is the turns that are left.
+-- `main` is safe and ends: the measure is the turns that are left.
 -- Assumes nothing.
-use mathlib.Core.Path.{_≡_}
-use lib.ListN.{length}
 use borrow.Author.Needs.{needs}
 use Rattle.ndimage.proofs.main.Statement.{statement}
 use Rattle.ndimage.proofs.main.Tie as tie
 
 abbrev Inv-loop : tie.InvT-loop
-Inv-loop room₀ place₀ data₀ out₀ turns₀ room place «data» out turns = (length room ≡ 65600) × (length «data» ≡ 8193) × (length out ≡ 32769)
+Inv-loop room₀ place₀ levels₀ floats₀ out₀ turns₀ room place levels floats out turns = Unit {0}
 
 abbrev μ-loop : tie.MeasureT-loop
-μ-loop room₀ place₀ data₀ out₀ turns₀ room place «data» out turns = turns
+μ-loop room₀ place₀ levels₀ floats₀ out₀ turns₀ room place levels floats out turns = turns
 
 loop-holds : tie.Need-loop-holds Inv-loop μ-loop
 loop-holds c = search needs
-
-slice-aggregate-serve : tie.Need-slice-aggregate-serve Inv-loop μ-loop
-slice-aggregate-serve c = search needs
-
-slice-aggregate-serve-2 : tie.Need-slice-aggregate-serve-2 Inv-loop μ-loop
-slice-aggregate-serve-2 c = search needs
-
-slice-aggregate-serve-3 : tie.Need-slice-aggregate-serve-3 Inv-loop μ-loop
-slice-aggregate-serve-3 c = search needs
 
 serve-requires : tie.Need-serve-requires Inv-loop μ-loop
 serve-requires c κs = search needs
@@ -52,9 +41,6 @@ main-spec =
     Inv-loop
     μ-loop
     loop-holds
-    slice-aggregate-serve
-    slice-aggregate-serve-2
-    slice-aggregate-serve-3
     serve-requires
     over-requires
     sub-turns

@@ -1,14 +1,13 @@
 -- `mask::mark` is safe and ends: the measure is what is left of the levels.
 -- Assumes nothing.
 use Prim.Native.Nat.{_≤_, _-_}
-use mathlib.Core.Path.{_≡_}
 use lib.ListN.{length}
 use borrow.Author.Needs.{needs}
 use Rattle.ndimage.proofs.mask.mark.Statement.{statement}
 use Rattle.ndimage.proofs.mask.mark.Tie as tie
 
 abbrev Inv-loop : tie.InvT-loop
-Inv-loop «data» mask₀ i₀ mask i = (i ≤ length «data») × (length mask ≡ length mask₀)
+Inv-loop «data» mask₀ i₀ mask i = i ≤ length «data»
 
 abbrev μ-loop : tie.MeasureT-loop
 μ-loop «data» mask₀ i₀ mask i = length «data» - i
@@ -22,20 +21,14 @@ mul-z c = search needs
 shared-slice-copy-out-z : tie.Need-shared-slice-copy-out-z Inv-loop μ-loop
 shared-slice-copy-out-z c = search needs
 
-same-length : tie.Need-same-length Inv-loop μ-loop
-same-length c = search needs
-
 returns : tie.Need-returns Inv-loop μ-loop
 returns c = search needs
-
-same-length-2 : tie.Need-same-length-2 Inv-loop μ-loop
-same-length-2 c = search needs
 
 returns-2 : tie.Need-returns-2 Inv-loop μ-loop
 returns-2 c = search needs
 
-slice-write-mask : tie.Need-slice-write-mask Inv-loop μ-loop
-slice-write-mask c = search needs
+element-write-mask : tie.Need-element-write-mask Inv-loop μ-loop
+element-write-mask c = search needs
 
 add-i : tie.Need-add-i Inv-loop μ-loop
 add-i c = search needs
@@ -46,14 +39,8 @@ loop-less c = search needs
 loop-again : tie.Need-loop-again Inv-loop μ-loop
 loop-again c = search needs
 
-same-length-3 : tie.Need-same-length-3 Inv-loop μ-loop
-same-length-3 c = search needs
-
 returns-3 : tie.Need-returns-3 Inv-loop μ-loop
 returns-3 c = search needs
-
-same-length-4 : tie.Need-same-length-4 Inv-loop μ-loop
-same-length-4 c = search needs
 
 returns-4 : tie.Need-returns-4 Inv-loop μ-loop
 returns-4 c = search needs
@@ -67,15 +54,11 @@ mark-spec =
     loop-holds
     mul-z
     shared-slice-copy-out-z
-    same-length
     returns
-    same-length-2
     returns-2
-    slice-write-mask
+    element-write-mask
     add-i
     loop-less
     loop-again
-    same-length-3
     returns-3
-    same-length-4
     returns-4)

