@@ -18,12 +18,10 @@ fn rows() {
     pad_axis::rows();
     pad_levels::rows();
     pad_frame::rows();
-    pad::rows();
     sweeps::rows();
     sweeps::order_of_axes();
     filter_judge::rows();
     min_max1d::rows();
-    min_max::rows();
 }
 
 fn main() {

@@ -30,6 +30,8 @@ fn rows() {
     text_f64::rows();
     text_f64::reads_back_f64();
     codes::rows();
+    min_max::rows();
+    pad::rows();
 }
 
 fn main() {
