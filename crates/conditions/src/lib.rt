@@ -40,15 +40,7 @@ pub fn bad_level(z: i64) -> bool
 pub fn bad_levels(data: &[i64]) -> bool
     ensures { λ r. ⌜ r ≡ anyOf badLevel (now («data» .entry)) ⌝ }
 {
-    // No early return, so that the loop is compiled to vector code: the sizes' bits joined pass the limit where one size does.
-    let mut sizes = 0;
-    let mut i = 0;
-    while i < data.len() {
-        let z = data[i];
-        sizes = sizes | numbers::magnitude(z);
-        i += 1;
-    }
-    2147483647 < sizes
+    level_range::any_outside(data)
 }
 
 // Condition 3 of one float level: not finite. -0.0 and subnormal numbers are finite.

@@ -4,10 +4,8 @@ ghost use mathlib.Core.Bool.{false};
 ghost use Rattle.numbers.specs.Sums.{sumOf};
 ghost use Rattle.statistics.specs.Statistics.{meanOf, unserved, answered};
 
-// The limits of a line that mean and median serve: its cells, and the size of a level.
+// How many cells a line may have that mean and median serve.
 const MOST_CELLS: usize = 1024;
-
-const GREATEST: u64 = 2147483647;
 
 // Whether mean and median do not serve the line: over 1,024 cells, or a level outside -(2^31 - 1)..2^31 - 1.
 //
@@ -20,15 +18,7 @@ pub fn not_served(line: &[i64]) -> bool
     if MOST_CELLS < line.len() {
         return true;
     }
-    // The sizes' bits joined pass the limit where one size does.
-    let mut sizes = 0;
-    let mut k = 0;
-    while k < line.len() {
-        let z = line[k];
-        sizes = sizes | numbers::magnitude(z);
-        k += 1;
-    }
-    GREATEST < sizes
+    level_range::any_outside(line)
 }
 
 // The sum of the levels, which stays below 2^41 in size.

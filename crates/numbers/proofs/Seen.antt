@@ -75,12 +75,14 @@ joined-passes k a b = go (ltb (2 ^ k - 1) a) (ltb (2 ^ k - 1) b) refl refl
         below : {x : ℕ} → x < 2 ^ k → x ≤ 2 ^ k - 1
         below h = omega arith
 
+-- a number joined to those before, which is 2^k or more exactly where the member passes
+pub seen-joined : {A : Type 0} {t : A → Bool} (k : ℕ) {s : List A} {i n : ℕ} (m : ℕ) (d : A) → Seen t (2 ^ k - 1) s i n → i < length s → ltb (2 ^ k - 1) m ≡ t (getD s i d) → Seen t (2 ^ k - 1) s (i + 1) (bitOr n m)
+seen-joined k {s} {i} {n} m d S h e = seen-more S d (bitOr n m) h (joined-passes k n m ∙ ap (λ b. ltb (2 ^ k - 1) n || b) e)
+
 -- the size of a number that was read, joined to those before: a number outside −(2^k − 1)..2^k − 1 was seen
 pub seen-size : (k : ℕ) {s : List ℤ} {i n m : ℕ} → let t = outsideZ (negℤ (pos (2 ^ k - 1))) (pos (2 ^ k - 1)) in let z = getD s i (pos 0) in
     Seen t (2 ^ k - 1) s i n → i < length s → mag z < 2 ^ 63 → m ≡ natAbs (toZ w64 (ofZ w64 z)) → Seen t (2 ^ k - 1) s (i + 1) (bitOr n m)
-seen-size k {s} {i} {n} {m} S h f e =
-    seen-more S (pos 0) (bitOr n m) h
-    (joined-passes k n m ∙ ap (λ b. ltb (2 ^ k - 1) n || b) (ap (ltb (2 ^ k - 1)) (e ∙ ap natAbs back) ∙ sym (outside-size (2 ^ k - 1) (getD s i (pos 0)))))
+seen-size k {s} {i} {n} {m} S h f e = seen-joined k m (pos 0) S h (ap (ltb (2 ^ k - 1)) (e ∙ ap natAbs back) ∙ sym (outside-size (2 ^ k - 1) (getD s i (pos 0))))
   where
     back : toZ w64 (ofZ w64 (getD s i (pos 0))) ≡ getD s i (pos 0)
     back = read f refl

@@ -1,56 +1,16 @@
--- `conditions::bad_levels` meets its contract. The loop's invariant: the sizes before place `i`, joined, pass the limit exactly where one of them is outside.
--- The measure is what is left of the grid.
+-- `conditions::bad_levels` meets its contract: condition 3 of a level is the range that `level_range` asks about.
 -- Assumes nothing.
 use borrow.Author.Needs.{needs}
-use Prim.Native.Nat.{_≤_, _-_}
-use lib.ListN.{length}
-use Rattle.numbers.proofs.Seen.{Seen, seen-none, seen-size, seen-all}
 use Rattle.array.specs.Conditions.{badLevel}
 use Rattle.conditions.proofs.bad_levels.Statement.{statement}
 use Rattle.conditions.proofs.bad_levels.Tie as tie
 
-abbrev Inv-loop : tie.InvT-loop
-Inv-loop «data» sizes₀ i₀ sizes i = (i ≤ length «data») × Seen badLevel 2147483647 «data» i sizes
+any-outside-requires : tie.Need-any-outside-requires
+any-outside-requires c κs = search needs
 
-abbrev μ-loop : tie.MeasureT-loop
-μ-loop «data» sizes₀ i₀ sizes i = length «data» - i
-
-loop-holds : tie.Need-loop-holds Inv-loop μ-loop
-loop-holds c = (search needs, seen-none badLevel 2147483647 _)
-
-mul-z : tie.Need-mul-z Inv-loop μ-loop
-mul-z c = search needs
-
-shared-slice-copy-out-z : tie.Need-shared-slice-copy-out-z Inv-loop μ-loop
-shared-slice-copy-out-z c = search needs
-
-magnitude-requires : tie.Need-magnitude-requires Inv-loop μ-loop
-magnitude-requires c κs = search needs
-
-add-i : tie.Need-add-i Inv-loop μ-loop
-add-i c = search needs
-
-loop-less : tie.Need-loop-less Inv-loop μ-loop
-loop-less c = search needs
-
-loop-again : tie.Need-loop-again Inv-loop μ-loop
+returns : tie.Need-returns
 unfolding badLevel
-loop-again c = (search needs, seen-size 31 (c .before .before .before .loop .inv .1) (search needs) (c .before .z .given) (c .magnitude .ensures))
-
-returns : tie.Need-returns Inv-loop μ-loop
-returns c = seen-all (c .before .loop .inv .1) (search needs)
+returns c = c .any-outside .ensures
 
 pub bad-levels-spec : {M : Type 1} → statement M
-bad-levels-spec =
-    tie.close
-    (tie.spec
-    Inv-loop
-    μ-loop
-    loop-holds
-    mul-z
-    shared-slice-copy-out-z
-    magnitude-requires
-    add-i
-    loop-less
-    loop-again
-    returns)
+bad-levels-spec = tie.close (tie.spec any-outside-requires returns)

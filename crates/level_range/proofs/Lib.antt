@@ -1,0 +1,2 @@
+-- Laws of levels raised above zero.
+pub mod Raising

@@ -1,0 +1,61 @@
+// Whether a line has a level outside -(2^31 - 1)..2^31 - 1: condition 3 of whole levels, and which lines mean and median serve.
+//
+// No loop here has an early return, so that each is compiled to vector code. Most lines have no level of 2^30 or more in size; that is seen with one
+// addition a level, of which the compiler makes a plain one, and the sizes are looked at of the other lines only.
+ghost use mathlib.Core.Path.{_≡_};
+ghost use Prim.Native.Nat.{_-_, _^_};
+ghost use lib.IntN.{pos, negℤ, _+ℤ_};
+ghost use Rattle.numbers.specs.Lists.{anyOf};
+ghost use Rattle.numbers.specs.Ranges.{outsideZ};
+
+// A level as a number above zero: 2^63 is added.
+fn raised(z: i64) -> u64
+    ensures { λ r. ⌜ pos r ≡ z +ℤ pos (2 ^ 63) ⌝ }
+{
+    if z < 0 {
+        return (z + 9223372036854775807 + 1) as u64;
+    }
+    z as u64 + 9223372036854775808
+}
+
+// Whether some level is outside -2^30..2^30 - 1. With 2^30 added, modulo 2^64, those inside are below 2^31, and so are their bits joined.
+fn any_far(line: &[i64]) -> bool
+    ensures { λ r. ⌜ r ≡ anyOf (outsideZ (negℤ (pos (2 ^ 30))) (pos (2 ^ 30 - 1))) (now (line .entry)) ⌝ }
+{
+    let mut bits = 0;
+    let mut i = 0;
+    while i < line.len() {
+        let z = line[i];
+        bits = bits | std::num::wrapping_add_u64(raised(z), 9223372037928517632);
+        i += 1;
+    }
+    2147483647 < bits
+}
+
+// Whether some level is outside -(2^31 - 1)..2^31 - 1: the sizes' bits joined pass the limit where one size does.
+fn any_over(line: &[i64]) -> bool
+    ensures { λ r. ⌜ r ≡ anyOf (outsideZ (negℤ (pos (2 ^ 31 - 1))) (pos (2 ^ 31 - 1))) (now (line .entry)) ⌝ }
+{
+    let mut sizes = 0;
+    let mut i = 0;
+    while i < line.len() {
+        let z = line[i];
+        sizes = sizes | numbers::magnitude(z);
+        i += 1;
+    }
+    2147483647 < sizes
+}
+
+// Whether some level is outside -(2^31 - 1)..2^31 - 1.
+//
+// * `line` - the levels, any number of them.
+//
+// Refuses nothing. Of 2147483648 alone it is true, of 2147483647 false, of no level false.
+pub fn any_outside(line: &[i64]) -> bool
+    ensures { λ r. ⌜ r ≡ anyOf (outsideZ (negℤ (pos (2 ^ 31 - 1))) (pos (2 ^ 31 - 1))) (now (line .entry)) ⌝ }
+{
+    if !any_far(line) {
+        return false;
+    }
+    any_over(line)
+}
