@@ -9,8 +9,8 @@ use narrow::is_narrow;
 use plain_line::add_line;
 use raised_line::raised_line;
 
-// Sets each cell of out to the weighted sum of its window of the padded line. From five weights on, raising them and the line pays.
-pub fn correlate_line(weights: &[i64], line: &[i64], out: &mut [i64])
+// Sets each cell of out to the weighted sum of its window of the padded line. From five weights on, raising them and the line pays; what the line then holds is of no use.
+pub fn correlate_line(weights: &[i64], line: &mut [i64], out: &mut [i64])
     requires { ⌜ Weighable (now weights) (now line) (length (now out)) ⌝ }
     ensures { λ _. ⌜ now (out .exit) ≡ weighedLine wholeOps NonSymmetric (now (weights .entry)) (now (line .entry)) (length (now (out .entry))) ⌝ }
 {

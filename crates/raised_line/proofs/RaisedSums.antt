@@ -1,12 +1,13 @@
 -- The sum of the raised terms, from where it starts, is the plain sum: what raising adds is what the start takes away.
 -- Assumes nothing.
 use Prim.Native.Nat.{ℕ, _+_}
-use mathlib.Core.Path.{_≡_, sym, ap, _∙_}
+use mathlib.Core.Path.{_≡_, sym, ap, subst, _∙_}
 use mathlib.Core.List.{List}
 use native.Mathlib.Nat.{zero-add}
 use lib.IntN.{ℤ, pos, negℤ, _+ℤ_, _-ℤ_, _*ℤ_, *ℤ-comm, +ℤ-assoc, +ℤ-comm, +ℤ-idl, negℤ-+ℤ, +ℤ-negℤ-cancel}
 use lib.ListN.{length, getD}
 use Rattle.numbers.specs.Lists.{tabulate}
+use Rattle.numbers.proofs.Tabulate.{length-tabulate}
 use Rattle.numbers.proofs.IntProduct.{*ℤ-distrib-right, *ℤ-distrib-left}
 use Rattle.correlation.specs.Weighed.{summed, wholeOps, plainAt}
 use Rattle.correlation.specs.WindowSum.{windowSum}
@@ -14,7 +15,8 @@ use Rattle.correlation.proofs.Along.{Row, row-start, row-end}
 use Rattle.correlation.proofs.Folded.{start-moved}
 use Rattle.correlation.proofs.Linear.{summed-plus, summed-times, summed-same}
 use Rattle.correlation.proofs.Summed.{summed-agree}
-use Rattle.raised_start.specs.Raised.{raisedStart, raisedTerm, raisedTo}
+use Rattle.raised_start.specs.Raised.{raisedStart, raisedTerm, raisedTo, Raisable}
+use Rattle.raised_start.proofs.RaisedStart.{raisable-kept}
 
 -- ---- numbers x raised by b, times numbers w raised by a
 -- one product: both plain, the cell times a, the raised weight times b
@@ -63,3 +65,14 @@ module _ (by : ℕ) (w s : List ℤ) where
 
   pub raised-end : {j n m : ℕ} {l : List ℤ} → Row (raisedTo by w s j) n l → j ≡ length w → n ≡ m → l ≡ tabulate (plainAt wholeOps w s) 0 m
   raised-end {m = m} r p q = row-end _+ℤ_ (raisedStart by w s) (raisedTerm by w s) r p q ∙ ap (λ (g : ℕ → ℤ). tabulate g 0 m) (λ t i. raised-plain i t)
+
+-- ---- the row of starts is made of a line s, which is then known as t
+module _ {by : ℕ} {w s t out : List ℤ} {n : ℕ} (e : t ≡ s) (A : Raisable by w s n) (p : out ≡ tabulate (raisedStart by w s) 0 n) where
+  long : length out ≡ n
+  long = ap length p ∙ length-tabulate (raisedStart by w s) 0 n
+
+  pub raised-set : Raisable by w t (length out) × (out ≡ tabulate (raisedStart by w t) 0 (length out))
+  raised-set = subst (λ (x : List ℤ). Raisable by w x (length out) × (out ≡ tabulate (raisedStart by w x) 0 (length out))) (sym e) (raisable-kept long A, p ∙ ap (tabulate (raisedStart by w s) 0) (sym long))
+
+  pub raised-sums : {new : List ℤ} → new ≡ tabulate (plainAt wholeOps w t) 0 (length out) → new ≡ tabulate (plainAt wholeOps w s) 0 n
+  raised-sums q = q ∙ (λ j. tabulate (plainAt wholeOps w (e j)) 0 (long j))

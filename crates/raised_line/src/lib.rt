@@ -1,5 +1,5 @@
 // The weighted sums of a line whose cells fit 32 bits, four weights a pass: cells and weights are raised so that none is below 0, and a product is one
-// multiply of the machine. What raising adds is taken away beforehand.
+// multiply of the machine. What raising adds is taken away beforehand. The line is a buffer of the caller's, and its cells are raised in place.
 ghost use mathlib.Core.Path.{_≡_};
 ghost use Prim.Native.Nat.{_+_, _≤_, _<_};
 ghost use lib.ListN.{length};
@@ -8,18 +8,20 @@ ghost use Rattle.symmetry.specs.declared.SymmetryState.the-variants.{NonSymmetr
 ghost use Rattle.correlation.specs.Weighed.{wholeOps, weighedLine};
 ghost use Rattle.line_sums.specs.Sizes.{Weighable};
 ghost use Rattle.narrow.specs.Narrow.{Narrow};
-ghost use Rattle.raised_start.specs.Raised.{raisedTo, Raisable};
+ghost use Rattle.raised_start.specs.Raised.{raisedStart, raisedTo, Raisable};
+ghost use Rattle.raised_terms.specs.Products.{lowered};
 use narrow::raise_of;
 use raised_start::start_row;
 use raised_terms::four_terms;
+use raised_terms::raise_cells;
 use raised_terms::raised_four;
 use raised_terms::raised_term;
 use raised_terms::raised_weight;
 
-// Adds to every cell the raised term of cell j of its window.
+// Adds to every cell the raised term of cell j of its window. The line holds raised cells.
 fn add_raised_row(weights: &[i64], line: &[i64], by: u32, j: usize, out: &mut [i64])
-    requires { ⌜ Raisable by (now weights) (now line) (length (now out)) × (j < length (now weights)) × (now out ≡ tabulate (raisedTo by (now weights) (now line) j) 0 (length (now out))) ⌝ }
-    ensures { λ _. ⌜ now (out .exit) ≡ tabulate (raisedTo by (now (weights .entry)) (now (line .entry)) (j + 1)) 0 (length (now (out .entry))) ⌝ }
+    requires { ⌜ Raisable by (now weights) (lowered (now line)) (length (now out)) × (j < length (now weights)) × (now out ≡ tabulate (raisedTo by (now weights) (lowered (now line)) j) 0 (length (now out))) ⌝ }
+    ensures { λ _. ⌜ now (out .exit) ≡ tabulate (raisedTo by (now (weights .entry)) (lowered (now (line .entry))) (j + 1)) 0 (length (now (out .entry))) ⌝ }
 {
     let weight = raised_weight(weights, by, j);
     let n = out.len();
@@ -30,10 +32,10 @@ fn add_raised_row(weights: &[i64], line: &[i64], by: u32, j: usize, out: &mut [i
     }
 }
 
-// Adds to every cell the raised terms of cells j to j + 3 of its window.
+// Adds to every cell the raised terms of cells j to j + 3 of its window. The line holds raised cells.
 fn add_four_raised_rows(weights: &[i64], line: &[i64], by: u32, j: usize, out: &mut [i64])
-    requires { ⌜ Raisable by (now weights) (now line) (length (now out)) × (j + 4 ≤ length (now weights)) × (now out ≡ tabulate (raisedTo by (now weights) (now line) j) 0 (length (now out))) ⌝ }
-    ensures { λ _. ⌜ now (out .exit) ≡ tabulate (raisedTo by (now (weights .entry)) (now (line .entry)) (j + 4)) 0 (length (now (out .entry))) ⌝ }
+    requires { ⌜ Raisable by (now weights) (lowered (now line)) (length (now out)) × (j + 4 ≤ length (now weights)) × (now out ≡ tabulate (raisedTo by (now weights) (lowered (now line)) j) 0 (length (now out))) ⌝ }
+    ensures { λ _. ⌜ now (out .exit) ≡ tabulate (raisedTo by (now (weights .entry)) (lowered (now (line .entry))) (j + 4)) 0 (length (now (out .entry))) ⌝ }
 {
     let four = raised_four(weights, by, j);
     let n = out.len();
@@ -44,13 +46,11 @@ fn add_four_raised_rows(weights: &[i64], line: &[i64], by: u32, j: usize, out: &
     }
 }
 
-// Every cell of the window times its own weight, both raised, four weights a pass.
-pub fn raised_line(weights: &[i64], line: &[i64], out: &mut [i64])
-    requires { ⌜ Weighable (now weights) (now line) (length (now out)) × Narrow (now line) ⌝ }
-    ensures { λ _. ⌜ now (out .exit) ≡ weighedLine wholeOps NonSymmetric (now (weights .entry)) (now (line .entry)) (length (now (out .entry))) ⌝ }
+// Adds to every cell the raised terms of all weights, four weights a pass while four are left. The line holds raised cells, and every cell what its sum starts from.
+fn add_raised(weights: &[i64], line: &[i64], by: u32, out: &mut [i64])
+    requires { ⌜ Raisable by (now weights) (lowered (now line)) (length (now out)) × (now out ≡ tabulate (raisedStart by (now weights) (lowered (now line))) 0 (length (now out))) ⌝ }
+    ensures { λ _. ⌜ now (out .exit) ≡ weighedLine wholeOps NonSymmetric (now (weights .entry)) (lowered (now (line .entry))) (length (now (out .entry))) ⌝ }
 {
-    let by = raise_of(weights);
-    start_row(weights, line, by, out);
     let count = weights.len();
     let mut k = 0;
     while count - k >= 4 {
@@ -61,4 +61,15 @@ pub fn raised_line(weights: &[i64], line: &[i64], out: &mut [i64])
         add_raised_row(weights, line, by, k, out);
         k += 1;
     }
+}
+
+// Every cell of the window times its own weight, both raised. What the line then holds is of no use.
+pub fn raised_line(weights: &[i64], line: &mut [i64], out: &mut [i64])
+    requires { ⌜ Weighable (now weights) (now line) (length (now out)) × Narrow (now line) ⌝ }
+    ensures { λ _. ⌜ now (out .exit) ≡ weighedLine wholeOps NonSymmetric (now (weights .entry)) (now (line .entry)) (length (now (out .entry))) ⌝ }
+{
+    let by = raise_of(weights);
+    start_row(weights, line, by, out);
+    raise_cells(line);
+    add_raised(weights, line, by, out);
 }

@@ -22,6 +22,9 @@ use Rattle.line_sums.proofs.SlidingSum.{sum-computed}
 pub raisable : {by m n : ℕ} {w s : List ℤ} → m ≡ n → Weighable w s n → Narrow s → (by ≤ 65535) × Every (Raised by 131070) w → Raisable by w s m
 raisable e W N r = record { weighable = weighable-kept e W; low = r .0; weights = r .1; cells = N }
 
+pub raisable-kept : {by m n : ℕ} {w s : List ℤ} → m ≡ n → Raisable by w s n → Raisable by w s m
+raisable-kept e A = raisable e (A .weighable) (A .cells) (A .low, A .weights)
+
 module _ {by : ℕ} {w s : List ℤ} {n : ℕ} (A : Raisable by w s n) where
   pub liftable : Liftable by w
   liftable = record { few = A .weighable .few; weights = A .weighable .weights; low = A .low }

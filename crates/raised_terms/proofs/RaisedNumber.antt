@@ -1,12 +1,11 @@
--- One number, raised, on the machine: the sum fits, is not below 0, and goes through 32 bits without loss; and such a number times a raised weight.
+-- One number, raised, on the machine: the sum fits, is not below 0, and goes through 32 bits without loss.
 -- Assumes nothing.
-use Prim.Native.Nat.{ℕ, _+_, _*_, _^_, _≤_, _<_}
+use Prim.Native.Nat.{ℕ, _+_, _^_, _≤_, _<_}
 use mathlib.Core.List.{List}
 use mathlib.Core.Path.{_≡_, refl, sym, ap, subst, _∙_}
-use native.Mathlib.Nat.{le-trans, mul-le-mul}
 use native.Mathlib.Omega.{arith}
 use lib.Dec.{T}
-use lib.IntN.{ℤ, pos, natAbs, _+ℤ_, _*ℤ_, +ℤ-idl, +ℤ-negℤ-cancel}
+use lib.IntN.{ℤ, pos, natAbs, _+ℤ_, +ℤ-idl, +ℤ-negℤ-cancel}
 use lib.ListN.{getD}
 use lib.Signed.{nonNeg}
 use mir.Syntax.{w32, w64}
@@ -52,14 +51,3 @@ module _ {by most : ℕ} {x : ℤ} (low : by < 2 ^ 32) (fits : most < 2 ^ 32) (R
 
   pub raised-small : natAbs (read (read x +ℤ read (pos by))) ≤ most
   raised-small = subst (λ (z : ℤ). natAbs z ≤ most) (sym raised-read) (R .small)
-
-  -- times a raised weight
-  module _ {v : ℕ} (few : v ≤ 131070) where
-    pub times-small : natAbs (read (read x +ℤ read (pos by))) * v ≤ 2 ^ 38 * 65535
-    times-small = le-trans (mul-le-mul raised-small few) (omega arith)
-
-    pub times-fits : Fits w64 (natAbs (read (read x +ℤ read (pos by))) * v)
-    times-fits = record { fits = omega (arith, times-small) }
-
-    pub times-is : pos (natAbs (read (read x +ℤ read (pos by))) * v) ≡ (x +ℤ pos by) *ℤ pos v
-    times-is = ap (λ (z : ℤ). z *ℤ pos v) raised-is

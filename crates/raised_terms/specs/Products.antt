@@ -1,12 +1,16 @@
 -- Products of a raised cell and a raised weight.
+--   lowered s                   s with 2^31 taken from every cell: the line whose raised cells s holds
 --   RaisedWeight by w k v       v is weight k, raised by by; it is small enough
 --   product s a v               the cell at place a, raised, times v
 --   fourProducts s a p q r t    the products of the cells at places a to a + 3 and p, q, r and t, in one sum
 use Prim.Native.Nat.{ℕ, _+_, _≤_}
 use mathlib.Core.Path.{_≡_}
-use mathlib.Core.List.{List}
-use lib.IntN.{ℤ, pos, _+ℤ_, _*ℤ_}
+use mathlib.Core.List.{List, map}
+use lib.IntN.{ℤ, pos, _+ℤ_, _-ℤ_, _*ℤ_}
 use lib.ListN.{getD}
+
+abbrev pub lowered : List ℤ → List ℤ
+lowered s = map (λ x. x -ℤ pos 2147483648) s
 
 pub record RaisedWeight (by : ℕ) (w : List ℤ) (k v : ℕ) : Type 0 where
   pub is : pos v ≡ getD w k (pos 0) +ℤ pos by

@@ -1,12 +1,12 @@
-// Weights and terms that are raised above zero: a product is one multiply of numbers below 2^32. The way through 32 bits lets the compiler see that the upper
-// half is 0.
+// Cells, weights and terms that are raised above zero: a product is one multiply of numbers below 2^32. The way through 32 bits lets the compiler see that the upper
+// half is 0. A line's cells are raised once, in place, and not for every weight.
 ghost use mathlib.Core.Path.{_≡_};
 ghost use Prim.Native.Nat.{_+_, _*_, _^_, _≤_, _<_};
 ghost use lib.IntN.{pos};
 ghost use lib.ListN.{length};
 ghost use Rattle.numbers.specs.Lists.{Every};
 ghost use Rattle.narrow.specs.Narrow.{Raised, Narrow};
-ghost use Rattle.raised_terms.specs.Products.{RaisedWeight, product, fourProducts};
+ghost use Rattle.raised_terms.specs.Products.{lowered, RaisedWeight, product, fourProducts};
 
 // Four raised weights.
 pub struct Four {
@@ -41,18 +41,31 @@ pub fn raised_four(weights: &[i64], by: u32, j: usize) -> Four
     }
 }
 
-// The cell at a place, raised, times a raised weight.
-pub fn raised_term(line: &[i64], at: usize, weight: u64) -> u64
-    requires { ⌜ Narrow (now line) × (at < length (now line)) × (weight ≤ 131070) ⌝ }
-    ensures { λ r. ⌜ (pos r ≡ product (now (line .entry)) at weight) × (r ≤ 2 ^ 38 * 65535) ⌝ }
+// Raises every cell of a line by 2^31.
+pub fn raise_cells(line: &mut [i64])
+    requires { ⌜ Narrow (now line) ⌝ }
+    ensures { λ _. ⌜ lowered (now (line .exit)) ≡ now (line .entry) ⌝ }
 {
-    ((line[at] + 2147483648) as u32) as u64 * weight
+    let n = line.len();
+    let mut i = 0;
+    while i < n {
+        line[i] = line[i] + 2147483648;
+        i += 1;
+    }
 }
 
-// The cells at four neighbouring places, raised, each times its raised weight, in one sum.
+// The raised cell at a place times a raised weight.
+pub fn raised_term(line: &[i64], at: usize, weight: u64) -> u64
+    requires { ⌜ Narrow (lowered (now line)) × (at < length (now line)) × (weight ≤ 131070) ⌝ }
+    ensures { λ r. ⌜ (pos r ≡ product (lowered (now (line .entry))) at weight) × (r ≤ 2 ^ 38 * 65535) ⌝ }
+{
+    (line[at] as u32) as u64 * weight
+}
+
+// The raised cells at four neighbouring places, each times its raised weight, in one sum.
 pub fn four_terms(line: &[i64], at: usize, four: Four) -> u64
-    requires { ⌜ Narrow (now line) × (at + 4 ≤ length (now line)) × (four .w0 ≤ 131070) × (four .w1 ≤ 131070) × (four .w2 ≤ 131070) × (four .w3 ≤ 131070) ⌝ }
-    ensures { λ r. ⌜ (pos r ≡ fourProducts (now (line .entry)) at (four .w0) (four .w1) (four .w2) (four .w3)) × (r ≤ 4 * (2 ^ 38 * 65535)) ⌝ }
+    requires { ⌜ Narrow (lowered (now line)) × (at + 4 ≤ length (now line)) × (four .w0 ≤ 131070) × (four .w1 ≤ 131070) × (four .w2 ≤ 131070) × (four .w3 ≤ 131070) ⌝ }
+    ensures { λ r. ⌜ (pos r ≡ fourProducts (lowered (now (line .entry))) at (four .w0) (four .w1) (four .w2) (four .w3)) × (r ≤ 4 * (2 ^ 38 * 65535)) ⌝ }
 {
     let t0 = raised_term(line, at, four.w0);
     let t1 = raised_term(line, at + 1, four.w1);

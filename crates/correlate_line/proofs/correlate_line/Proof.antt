@@ -9,10 +9,13 @@ is-narrow-requires : tie.Need-is-narrow-requires
 is-narrow-requires c κs = search needs
 
 raised-line-requires : tie.Need-raised-line-requires
-raised-line-requires c κs = (c .before .before .before .before .pre, c .before .before .is-narrow .ensures (c .before .if2 .taken))
+raised-line-requires c κs = (c .before .before .before .before .before .before .pre, c .before .before .before .is-narrow .ensures (c .before .before .if2 .taken))
 
 same-length : tie.Need-same-length
 same-length c = search needs
+
+same-length-2 : tie.Need-same-length-2
+same-length-2 c = search needs
 
 returns : tie.Need-returns
 returns c = search needs
@@ -21,13 +24,16 @@ fill-requires : tie.Need-fill-requires
 fill-requires c κs = search needs
 
 add-line-requires : tie.Need-add-line-requires
-add-line-requires c κs = zero-addable (c .before .before .before .before .before .pre) (c .before .before .fill .ensures)
+add-line-requires c κs = zero-addable (c .before .before .before .before .before .before .pre) (c .before .before .before .fill .ensures)
 
-same-length-2 : tie.Need-same-length-2
-same-length-2 c = search needs
+same-length-3 : tie.Need-same-length-3
+same-length-3 c = search needs
+
+same-length-4 : tie.Need-same-length-4
+same-length-4 c = search needs
 
 returns-2 : tie.Need-returns-2
-returns-2 c = zero-added (c .before .before .before .before .before .before .before .pre) (c .before .before .before .before .fill .ensures) (c .before .add-line .ensures)
+returns-2 c = zero-added (c .before .before .before .before .before .before .before .before .pre) (c .before .before .before .before .before .fill .ensures) (c .before .add-line .ensures)
 
 pub correlate-line-spec : {M : Type 1} → statement M
 correlate-line-spec =
@@ -36,8 +42,10 @@ correlate-line-spec =
     is-narrow-requires
     raised-line-requires
     same-length
+    same-length-2
     returns
     fill-requires
     add-line-requires
-    same-length-2
+    same-length-3
+    same-length-4
     returns-2)

@@ -10,13 +10,16 @@ use Rattle.numbers.proofs.Size.{fits-size}
 use Rattle.numbers.proofs.Stored.{Stored, front-none, front-all}
 use Rattle.line_sums.proofs.Computed.{size-pos}
 use Rattle.raised_start.specs.Raised.{raisedTo}
+use Rattle.raised_terms.specs.Products.{lowered}
+use Rattle.raised_terms.proofs.RaisedCells.{length-lowered}
+use denote.Ref.{now}
 use Rattle.raised_line.proofs.RaisedTurns.{more-fits, raised-four}
 use borrow.Author.Needs.{needs}
 use Rattle.raised_line.proofs.add_four_raised_rows.Statement.{statement}
 use Rattle.raised_line.proofs.add_four_raised_rows.Tie as tie
 
 abbrev Inv-loop : tie.InvT-loop
-Inv-loop weights line by j out₀ four n i₀ out i = (i ≤ n) × (n ≡ length out₀) × Stored (pos 0) (λ k. ltb k i) (raisedTo by weights line (j + 4)) out₀ out
+Inv-loop weights line by j out₀ four n i₀ out i = (i ≤ n) × (n ≡ length out₀) × Stored (pos 0) (λ k. ltb k i) (raisedTo by weights (lowered line) (j + 4)) out₀ out
 
 abbrev μ-loop : tie.MeasureT-loop
 μ-loop weights line by j out₀ four n i₀ out i = n - i
@@ -37,7 +40,7 @@ add-four-terms : tie.Need-add-four-terms Inv-loop μ-loop
 add-four-terms c = search needs
 
 four-terms-requires : tie.Need-four-terms-requires Inv-loop μ-loop
-four-terms-requires c κs = search needs
+four-terms-requires c κs = search (needs, length-lowered (now (c .before .before .before .before .args .line)))
 
 cast-out : tie.Need-cast-out Inv-loop μ-loop
 cast-out c = fits-size (size-pos _) (omega arith)

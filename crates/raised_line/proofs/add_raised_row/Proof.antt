@@ -10,13 +10,16 @@ use Rattle.numbers.proofs.Size.{fits-size}
 use Rattle.numbers.proofs.Stored.{Stored, front-none, front-all}
 use Rattle.line_sums.proofs.Computed.{size-pos}
 use Rattle.raised_start.specs.Raised.{raisedTo}
+use Rattle.raised_terms.specs.Products.{lowered}
+use Rattle.raised_terms.proofs.RaisedCells.{length-lowered}
+use denote.Ref.{now}
 use Rattle.raised_line.proofs.RaisedTurns.{more-fits, raised-stored}
 use borrow.Author.Needs.{needs}
 use Rattle.raised_line.proofs.add_raised_row.Statement.{statement}
 use Rattle.raised_line.proofs.add_raised_row.Tie as tie
 
 abbrev Inv-loop : tie.InvT-loop
-Inv-loop weights line by j out₀ weight n i₀ out i = (i ≤ n) × (n ≡ length out₀) × Stored (pos 0) (λ k. ltb k i) (raisedTo by weights line (j + 1)) out₀ out
+Inv-loop weights line by j out₀ weight n i₀ out i = (i ≤ n) × (n ≡ length out₀) × Stored (pos 0) (λ k. ltb k i) (raisedTo by weights (lowered line) (j + 1)) out₀ out
 
 abbrev μ-loop : tie.MeasureT-loop
 μ-loop weights line by j out₀ weight n i₀ out i = n - i
@@ -37,7 +40,7 @@ add-raised-term : tie.Need-add-raised-term Inv-loop μ-loop
 add-raised-term c = search needs
 
 raised-term-requires : tie.Need-raised-term-requires Inv-loop μ-loop
-raised-term-requires c κs = search needs
+raised-term-requires c κs = search (needs, length-lowered (now (c .before .before .before .before .args .line)))
 
 cast-out : tie.Need-cast-out Inv-loop μ-loop
 cast-out c = fits-size (size-pos _) (omega arith)

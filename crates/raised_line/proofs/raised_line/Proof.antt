@@ -1,111 +1,45 @@
--- `raised_line::raised_line` meets its contract: from the row of starts, each turn adds the raised terms of four weights to the whole row, and then of
--- one; the last row has the plain sums. Assumes nothing.
-use mathlib.Core.Path.{_≡_, refl, _∙_}
-use Prim.Native.Nat.{_+_, _-_, _≤_}
-use native.Mathlib.Omega.{arith}
-use denote.Ref.{now}
-use lib.ListN.{length}
-use Rattle.correlation.proofs.Along.{Row, row-made, row-length, row-own, row-next}
-use Rattle.raised_start.specs.Raised.{raisedTo}
+-- `raised_line::raised_line` meets its contract: the row of starts is made of the cells as they are, the sums of the raised ones.
+-- Assumes nothing.
+use mathlib.Core.Path.{refl}
 use Rattle.raised_start.proofs.RaisedStart.{raisable}
-use Rattle.raised_line.proofs.RaisedSums.{raised-begin, raised-end}
+use Rattle.raised_line.proofs.RaisedSums.{raised-set, raised-sums}
 use borrow.Author.Needs.{needs}
 use Rattle.raised_line.proofs.raised_line.Statement.{statement}
 use Rattle.raised_line.proofs.raised_line.Tie as tie
 
-abbrev Inv-loop : tie.InvT-loop
-Inv-loop weights line out₀ by count k₀ out k = (k ≤ count) × (count ≡ length weights) × Row (raisedTo by weights line k) (length out₀) out
-
-abbrev μ-loop : tie.MeasureT-loop
-μ-loop weights line out₀ by count k₀ out k = count - k
-
-abbrev Inv-loop2 : tie.InvT-loop2
-Inv-loop2 weights line out₀ by count k₀ out k = (k ≤ count) × (count ≡ length weights) × Row (raisedTo by weights line k) (length out₀) out
-
-abbrev μ-loop2 : tie.MeasureT-loop2
-μ-loop2 weights line out₀ by count k₀ out k = count - k
-
-raise-of-requires : tie.Need-raise-of-requires Inv-loop μ-loop Inv-loop2 μ-loop2
+raise-of-requires : tie.Need-raise-of-requires
 raise-of-requires c κs = search needs
 
-start-row-requires : tie.Need-start-row-requires Inv-loop μ-loop Inv-loop2 μ-loop2
-start-row-requires c κs = raisable refl (c .before .before .pre .0) (c .before .before .pre .1) (c .before .raise-of .ensures)
+start-row-requires : tie.Need-start-row-requires
+start-row-requires c κs = let s = c .before .before .before in raisable refl (s .pre .0) (s .pre .1) (c .before .before .raise-of .ensures)
 
-loop-holds : tie.Need-loop-holds Inv-loop μ-loop Inv-loop2 μ-loop2
-loop-holds c = let s = c .before .before .before .before in (search needs, refl, raised-begin (c .before .before .before .raise-of .result) (now (s .args .weights)) (now (s .args .line)) _ (c .before .start-row .ensures))
+raise-cells-requires : tie.Need-raise-cells-requires
+raise-cells-requires c κs = search needs
 
-sub-loop : tie.Need-sub-loop Inv-loop μ-loop Inv-loop2 μ-loop2
-sub-loop c = search needs
+add-raised-requires : tie.Need-add-raised-requires
+add-raised-requires c κs =
+    let s = c .before .before .before .before .before .before .before .before .before .before in
+    raised-set (c .before .before .before .raise-cells .ensures) (raisable refl (s .pre .0) (s .pre .1) (c .before .before .before .before .before .before .before .before .before .raise-of .ensures)) (c .before .before .before .before .before .before .start-row .ensures)
 
-add-four-raised-rows-requires : tie.Need-add-four-raised-rows-requires Inv-loop μ-loop Inv-loop2 μ-loop2
-add-four-raised-rows-requires c κs =
-    let s = c .before .before .before .before .before .before .before in
-    let r = c .before .before .loop .inv .2 in
-    let e = row-length r ∙ c .before .before .before .before .start-row .kept .1 .1 .1 .0 in
-    (raisable e (s .pre .0) (s .pre .1) (c .before .before .before .before .before .before .raise-of .ensures), search needs, row-own r)
+same-length : tie.Need-same-length
+same-length c = search needs
 
-add-k : tie.Need-add-k Inv-loop μ-loop Inv-loop2 μ-loop2
-add-k c = search needs
+same-length-2 : tie.Need-same-length-2
+same-length-2 c = search needs
 
-loop-less : tie.Need-loop-less Inv-loop μ-loop Inv-loop2 μ-loop2
-loop-less c = search needs
-
-loop-again : tie.Need-loop-again Inv-loop μ-loop Inv-loop2 μ-loop2
-loop-again c =
-    let s = c .before .before .before .before .before .before .before .before .before in
-    let l = c .before .before .before .before .loop in
-    (search needs, l .inv .1, row-next (l .inv .2) {h = raisedTo (c .before .before .before .before .before .before .before .before .raise-of .result) (now (s .args .weights)) (now (s .args .line)) (l .k + 4)} (c .before .add-four-raised-rows .ensures))
-
-loop2-holds : tie.Need-loop2-holds Inv-loop μ-loop Inv-loop2 μ-loop2
-loop2-holds c = let l = c .before .loop in (l .inv .0, l .inv .1, row-made _ _ (l .inv .2 .is))
-
-add-raised-row-requires : tie.Need-add-raised-row-requires Inv-loop μ-loop Inv-loop2 μ-loop2
-add-raised-row-requires c κs =
-    let s = c .before .before .before .before .before .before .before .before .before in
-    let r = c .before .before .loop2 .inv .2 in
-    let e = row-length r ∙ row-length (c .before .before .before .before .loop .inv .2) ∙ c .before .before .before .before .before .before .start-row .kept .1 .1 .1 .0 in
-    (raisable e (s .pre .0) (s .pre .1) (c .before .before .before .before .before .before .before .before .raise-of .ensures), search needs, row-own r)
-
-add-k-2 : tie.Need-add-k-2 Inv-loop μ-loop Inv-loop2 μ-loop2
-add-k-2 c = search needs
-
-loop2-less : tie.Need-loop2-less Inv-loop μ-loop Inv-loop2 μ-loop2
-loop2-less c = search needs
-
-loop2-again : tie.Need-loop2-again Inv-loop μ-loop Inv-loop2 μ-loop2
-loop2-again c =
-    let s = c .before .before .before .before .before .before .before .before .before .before .before in
-    let l = c .before .before .before .before .loop2 in
-    (search needs, l .inv .1, row-next (l .inv .2) {h = raisedTo (c .before .before .before .before .before .before .before .before .before .before .raise-of .result) (now (s .args .weights)) (now (s .args .line)) (l .k + 1)} (c .before .add-raised-row .ensures))
-
-same-length : tie.Need-same-length Inv-loop μ-loop Inv-loop2 μ-loop2
-same-length c = row-length (c .before .loop2 .inv .2) ∙ row-length (c .before .before .before .loop .inv .2) ∙ c .before .before .before .before .before .start-row .kept .1 .1 .1 .0
-
-returns : tie.Need-returns Inv-loop μ-loop Inv-loop2 μ-loop2
+returns : tie.Need-returns
 returns c =
-    let s = c .before .before .before .before .before .before .before .before in
-    raised-end (c .before .before .before .before .before .before .before .raise-of .result) (now (s .args .weights)) (now (s .args .line)) (c .before .loop2 .inv .2) (omega arith) (row-length (c .before .before .before .loop .inv .2) ∙ c .before .before .before .before .before .start-row .kept .1 .1 .1 .0)
+    let s = c .before .before .before .before .before .before .before .before .before .before .before .before in
+    raised-sums (c .before .before .before .before .before .raise-cells .ensures) (raisable refl (s .pre .0) (s .pre .1) (c .before .before .before .before .before .before .before .before .before .before .before .raise-of .ensures)) (c .before .before .before .before .before .before .before .before .start-row .ensures) (c .before .add-raised .ensures)
 
 pub raised-line-spec : {M : Type 1} → statement M
 raised-line-spec =
     tie.close
     (tie.spec
-    Inv-loop
-    μ-loop
-    Inv-loop2
-    μ-loop2
     raise-of-requires
     start-row-requires
-    loop-holds
-    sub-loop
-    add-four-raised-rows-requires
-    add-k
-    loop-less
-    loop-again
-    loop2-holds
-    add-raised-row-requires
-    add-k-2
-    loop2-less
-    loop2-again
+    raise-cells-requires
+    add-raised-requires
     same-length
+    same-length-2
     returns)
