@@ -1,10 +1,10 @@
-// A line filter on every lane of an axis: each lane is padded into a line, filtered, and written back.
+// A line filter on every lane of an axis: each lane is padded into a line and filtered, straight into out where its cells are neighbours, else through a buffer.
 ghost use mathlib.Core.Path.{_≡_};
 ghost use Prim.Native.Nat.{_+_};
 ghost use lib.IntN.{pos};
 ghost use lib.ListN.{length};
-ghost use Rattle.array.specs.Grid.{lengthOf};
-ghost use Rattle.lanes.specs.Lanes.{lane as laneOf, withLane, alongAxis};
+ghost use Rattle.array.specs.Grid.{lengthOf, strideOf};
+ghost use Rattle.lanes.specs.Lanes.{laneAt, alongAxis};
 ghost use Rattle.border.specs.Modes.{borderOf};
 ghost use Rattle.axis_filter.specs.Lane.{filteredLane, Room, Sweep};
 ghost use Rattle.axis_filter.specs.Filter.{filtered, ServedLine, Supposed};
@@ -32,32 +32,69 @@ fn filter_line(filter: LineFilter, weights: &[i64], size: usize, line: &[i64], o
     }
 }
 
-// Writes to a lane of out the filtered lane of data, which starts at place base. The line has room for the padded lane, and swept is as long as the lane.
+// Fills a row with the filtered lane of data that starts at place base and has as many cells as the row. The line has room for the padded lane.
 fn filter_lane(
     filter: LineFilter,
     weights: &[i64],
     mode: BorderMode,
     data: &[i64],
-    stride: usize,
-    lane: usize,
     base: usize,
+    stride: usize,
     left: usize,
     right: usize,
     line: &mut [i64],
-    swept: &mut [i64],
-    out: &mut [i64],
+    row: &mut [i64],
 )
-    requires { ⌜ Room (borderOf mode) stride lane base left right (now «data») (now line) (now swept) (now out) × Supposed filter (now weights) (left + right + 1) (borderOf mode) (now «data») ⌝ }
-    ensures { λ _. ⌜ now (out .exit) ≡ withLane (pos 0) (length (now (swept .entry))) stride lane (filteredLane (pos 0) (filtered filter (now (weights .entry)) (left + right + 1)) (borderOf mode) left right (laneOf (pos 0) (length (now (swept .entry))) stride lane (now («data» .entry)))) (now (out .entry)) ⌝ }
+    requires { ⌜ Room (borderOf mode) (length (now row)) stride base left right (now «data») (now line) × Supposed filter (now weights) (left + right + 1) (borderOf mode) (now «data») ⌝ }
+    ensures { λ _. ⌜ now (row .exit) ≡ filteredLane (pos 0) (filtered filter (now (weights .entry)) (left + right + 1)) (borderOf mode) left right (laneAt (pos 0) (now («data» .entry)) base stride (length (now (row .entry)))) ⌝ }
 {
-    let n = swept.len();
+    let n = row.len();
     pad_line::pad_from(data, base, stride, n, mode, left, right, line);
     let total = left + n + right;
-    filter_line(filter, weights, left + right + 1, &line[..total], swept);
-    lane_cells::write_from(swept, stride, lane, base, out);
+    filter_line(filter, weights, left + right + 1, &line[..total], row);
 }
 
-// As filter_lane, on every lane of the axis. The line and swept are buffers, of 1,088 cells and as long as the axis.
+// The filter on every lane of an axis whose cells are neighbours: each lane is filtered straight into its part of out. The line is a buffer of 1,088 cells.
+fn filter_rows(
+    filter: LineFilter,
+    weights: &[i64],
+    mode: BorderMode,
+    data: &[i64],
+    shape: &[usize],
+    axis: usize,
+    left: usize,
+    right: usize,
+    line: &mut [i64],
+    out: &mut [i64],
+)
+    requires { ⌜ Sweep (borderOf mode) (now shape) axis left right (now «data») (now out) × Supposed filter (now weights) (left + right + 1) (borderOf mode) (now «data») × (length (now line) ≡ 1088) × (strideOf (now shape) axis ≡ 1) ⌝ }
+    ensures { λ _. ⌜ now (out .exit) ≡ alongAxis (pos 0) (filteredLane (pos 0) (filtered filter (now (weights .entry)) (left + right + 1)) (borderOf mode) left right) (now (shape .entry)) axis (now («data» .entry)) ⌝ }
+{
+    let along = lanes::lanes_of(shape, axis);
+    let n = along.len;
+    let count = along.count;
+    let mut base = 0;
+    let mut lane = 0;
+    while lane < count {
+        let e = base + n;
+        filter_lane(
+            filter,
+            weights,
+            mode,
+            data,
+            base,
+            1,
+            left,
+            right,
+            line,
+            &mut out[base..e],
+        );
+        base = e;
+        lane += 1;
+    }
+}
+
+// The filter on every lane of any axis: each lane is filtered into swept, which is as long as the axis, and written to its cells of out.
 fn filter_lanes(
     filter: LineFilter,
     weights: &[i64],
@@ -89,18 +126,50 @@ fn filter_lanes(
             weights,
             mode,
             data,
-            stride,
-            lane,
             start.place,
+            stride,
             left,
             right,
             line,
             swept,
-            out,
         );
+        lane_cells::write_from(swept, stride, lane, start.place, out);
         start = lanes::next_start(n, stride, lane, start);
         lane += 1;
     }
+}
+
+// As filter_lanes, with a buffer of its own for the filtered lane: a call on neighbouring cells does not clear it.
+fn filter_columns(
+    filter: LineFilter,
+    weights: &[i64],
+    mode: BorderMode,
+    data: &[i64],
+    shape: &[usize],
+    axis: usize,
+    left: usize,
+    right: usize,
+    line: &mut [i64],
+    out: &mut [i64],
+)
+    requires { ⌜ Sweep (borderOf mode) (now shape) axis left right (now «data») (now out) × Supposed filter (now weights) (left + right + 1) (borderOf mode) (now «data») × (length (now line) ≡ 1088) ⌝ }
+    ensures { λ _. ⌜ now (out .exit) ≡ alongAxis (pos 0) (filteredLane (pos 0) (filtered filter (now (weights .entry)) (left + right + 1)) (borderOf mode) left right) (now (shape .entry)) axis (now («data» .entry)) ⌝ }
+{
+    let n = shapes::len_of(shape, axis);
+    let mut swept = [0; 1024];
+    filter_lanes(
+        filter,
+        weights,
+        mode,
+        data,
+        shape,
+        axis,
+        left,
+        right,
+        line,
+        &mut swept[..n],
+        out,
+    );
 }
 
 // Fills out with the filtered lanes of the axis of data: left and right are the pads of a window of left + right + 1 cells.
@@ -118,10 +187,23 @@ pub fn filter_axis(
     requires { ⌜ Sweep (borderOf mode) (now shape) axis left right (now «data») (now out) × Supposed filter (now weights) (left + right + 1) (borderOf mode) (now «data») ⌝ }
     ensures { λ _. ⌜ now (out .exit) ≡ alongAxis (pos 0) (filteredLane (pos 0) (filtered filter (now (weights .entry)) (left + right + 1)) (borderOf mode) left right) (now (shape .entry)) axis (now («data» .entry)) ⌝ }
 {
-    let n = shapes::len_of(shape, axis);
     let mut line = [0; 1088];
-    let mut swept = [0; 1024];
-    filter_lanes(
+    if lanes::stride_of(shape, axis) == 1 {
+        filter_rows(
+            filter,
+            weights,
+            mode,
+            data,
+            shape,
+            axis,
+            left,
+            right,
+            &mut line,
+            out,
+        );
+        return;
+    }
+    filter_columns(
         filter,
         weights,
         mode,
@@ -131,7 +213,6 @@ pub fn filter_axis(
         left,
         right,
         &mut line,
-        &mut swept[..n],
         out,
     );
 }

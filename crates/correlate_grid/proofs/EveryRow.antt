@@ -2,20 +2,22 @@
 -- Assumes nothing.
 use mathlib.Core.Path.{_≡_, refl, sym, ap, subst, _∙_}
 use mathlib.Core.Bool.{Bool, true, false}
-use mathlib.Core.List.{List, _++_}
+use mathlib.Core.List.{List}
 use Prim.Native.Nat.{ℕ, _+_, _-_, _*_, _/_, _%_, _≤_, _<_}
 use native.Mathlib.Nat.{add-zero, add-mul, div-add-mod'}
 use native.Mathlib.Omega.{arith}
 use borrow.Author.Tests.{ltb-true, ltb-false}
-use borrow.Rule.Slice.PartMut.{putMid, midOf, postOf, mid-len, same-len-mid}
+use borrow.Rule.Slice.PartMut.{putMid, midOf, mid-len}
 use lib.Arith.{digits-div, digits-mod}
 use lib.Dec.{ltb}
 use lib.IntN.{ℤ, pos}
-use lib.ListN.{length, getD, take, replicate, List·getD-append}
-use lib.Seq.{getD-take, getD-append-add, length-take-le}
+use lib.ListN.{length, getD, replicate}
 use Rattle.numbers.specs.Lists.{tabulate}
+use Rattle.numbers.proofs.Stored.{Stored}
 use Rattle.numbers.proofs.Tabulate.{length-tabulate, getD-tabulate, tabulate-unique, tabulate-replicate}
+use Rattle.numbers.proofs.Tests.{cond-yes, cond-no}
 use Rattle.lanes.proofs.Cells.{step-le}
+use Rattle.lanes.proofs.Part.{onRow, row-yes, row-no, part-put}
 use Rattle.border.specs.Border.{Border}
 use Rattle.correlation.specs.Weighed.{summed}
 use Rattle.correlate_grid.specs.declared.axes.Axis.{Axis}
@@ -41,20 +43,6 @@ module _ {b : Border ℤ} {x y z : Axis} {w cells : List ℤ} {r : ℕ} where
   -- the sums of as many kernel rows
   pub summing-to : {m : ℕ} {line out : List ℤ} → Summing b x y z w cells r m line out → (k : ℕ) → m ≡ k → out ≡ tabulate (rowsTo b x y z w cells r k) 0 (z .len)
   summing-to S k e = S .sums ∙ ap (λ (m : ℕ). tabulate (rowsTo b x y z w cells r m) 0 (z .len)) e
-
--- ---- a row stored in the grid: the cells before it stay, and its own are the row's
-module _ {A : Type 0} (d : A) (a n : ℕ) (out part : List A) (long : length part ≡ n) (room : a + n ≤ length out) where
-  front : length (take a out) ≡ a
-  front = length-take-le a out (omega arith)
-
-  stored-before : (k : ℕ) → k < a → getD (putMid a (a + n - a) out part) k d ≡ getD out k d
-  stored-before k h = List·getD-append (take a out) (part ++ postOf a (a + n - a) out) d k (omega (arith, front)) ∙ getD-take a out k d h
-
-  stored-on : (i : ℕ) → i < n → getD (putMid a (a + n - a) out part) (a + i) d ≡ getD part i d
-  stored-on i h =
-      ap (λ (k : ℕ). getD (putMid a (a + n - a) out part) (k + i) d) (sym front)
-      ∙ getD-append-add (take a out) (part ++ postOf a (a + n - a) out) i d
-      ∙ List·getD-append part (postOf a (a + n - a) out) d i (omega arith)
 
 -- ---- the rows below r are stored
 abbrev pub sumAt : Border ℤ → Axis → Axis → Axis → List ℤ → List ℤ → ℕ → ℤ
@@ -87,7 +75,7 @@ module _ {b : Border ℤ} {x y z : Axis} {w cells : List ℤ} (L : Laid b x y z 
     storing-more {line′} {part} {out′} h l f e = record {
       below = omega arith;
       line-long = l ∙ S .line-long;
-      kept = ap length e ∙ same-len-mid a (a + z .len - a) out part (long ∙ sym (part-long h)) ∙ S .kept;
+      kept = ap length e ∙ put .kept ∙ S .kept;
       sums = λ k c. ap (λ (o : List ℤ). getD o k (pos 0)) e ∙ at k c (ltb k a) refl;
     }
       where
@@ -102,14 +90,18 @@ module _ {b : Border ℤ} {x y z : Axis} {w cells : List ℤ} (L : Laid b x y z 
             ap (λ (o : List ℤ). getD o i (pos 0)) p ∙ getD-tabulate (rowsTo b x y z w cells r (x .side * y .side)) (z .len) i (pos 0) c
             ∙ (λ j. rowsTo b x y z w cells (sym (digits-div r c) j) (x .side * y .side) (sym (digits-mod r c) j))
 
+        put : Stored (pos 0) (onRow a (z .len)) (λ k. getD part (k - a) (pos 0)) out (putMid a (a + z .len - a) out part)
+        put = part-put (pos 0) a (z .len) out part (row-room h) long
+
         at : (k : ℕ) → k < (r + 1) * z .len → (t : Bool) → ltb k a ≡ t → getD (putMid a (a + z .len - a) out part) k (pos 0) ≡ sumAt b x y z w cells k
-        at k c true q = let g = ltb-true k a q in stored-before (pos 0) a (z .len) out part long (row-room h) k g ∙ S .sums k g
+        at k c true q =
+            let g = ltb-true k a q in
+            put .cells k (omega (arith, row-room h)) ∙ cond-no (onRow a (z .len) k) _ _ (row-no a (z .len) k (λ i j. omega arith)) ∙ S .sums k g
         at k c false q =
             let d = ltb-false k a q in
             let i : k - a < z .len = omega (arith, add-mul r 1 (z .len)) in
             let g : a + (k - a) ≡ k = omega arith in
-            ap (λ (j : ℕ). getD (putMid a (a + z .len - a) out part) j (pos 0)) (sym g)
-            ∙ stored-on (pos 0) a (z .len) out part long (row-room h) (k - a) i ∙ own (k - a) i ∙ ap (sumAt b x y z w cells) g
+            put .cells k (omega (arith, row-room h)) ∙ cond-yes (onRow a (z .len) k) _ _ (row-yes a (z .len) k d (omega arith)) ∙ own (k - a) i ∙ ap (sumAt b x y z w cells) g
 
     pub storing-all : x .len * y .len ≤ r → out ≡ tabulate (sumAt b x y z w cells) 0 (length cells)
     storing-all h = tabulate-unique (pos 0) (sumAt b x y z w cells) out (length cells) (S .kept) (λ k c. S .sums k (subst (λ (m : ℕ). k < m) (L .count ∙ ap (λ (m : ℕ). m * z .len) last) c))

@@ -86,7 +86,7 @@ module _ (b : Border ℤ) (z : Axis) (none row : ℕ) (cells : List ℤ) where
 
       go : (s : Bool) → anyOf t (cond s (replicate total (constantOf b)) padded) ≡ false
       go true = subst (λ (l : List ℤ). anyOf t l ≡ false) (tabulate-replicate (constantOf b) 0 total) (any-table t (λ k. constantOf b) 0 total (λ k. level b q))
-      go false = any-padded t (pos 0) b (z .left) (z .right) (z .len) 1 row cells o q e
+      go false = any-padded t (pos 0) b (z .left) (z .right) (z .len) 1 (laneBase (z .len) 1 row) cells o q e
 
 -- ---- the cells of a row that is in the grid
 module _ (n : ℕ) (s : List ℤ) (long : length s ≡ n) (f : ℕ → ℤ) (own : (i : ℕ) → i < n → getD s i (pos 0) ≡ f i) where

@@ -3,5 +3,6 @@ pub mod Cells
 pub mod Next
 pub mod FirstPlace
 pub mod Stores
+pub mod Part
 pub mod AlongAxis
 pub mod Passes

@@ -3,33 +3,18 @@
 use mathlib.Core.Path.{_≡_, refl, sym, ap, subst, _∙_}
 use mathlib.Core.Bool.{Bool, true, false, _&&_, _||_, cond}
 use mathlib.Core.List.{List}
-use Prim.Native.Nat.{ℕ, _+_, _-_, _≤_, _<_}
+use Prim.Native.Nat.{ℕ, _+_, _-_, _<_}
 use native.Mathlib.Omega.{arith}
-use borrow.Author.Tests.{leb-true, leb-false, ne-eqb, ltb-true, le-leb, lt-ltb}
+use borrow.Author.Tests.{leb-false, ne-eqb}
 use lib.Dec.{leb, ltb, eqb}
 use lib.IntN.{ℤ, pos}
 use lib.ListN.{length, getD, set}
 use Rattle.numbers.proofs.Stored.{Stored, stored-none, stored-one, stored-then, stored-table}
-use Rattle.numbers.proofs.Tests.{and-true, ltb-more}
+use Rattle.numbers.proofs.Tests.{ltb-more}
+use Rattle.lanes.proofs.Part.{onRow, row-no}
 use Rattle.pad_frame.specs.Frame.{rowSet}
 
--- ---- the n places from at on
-abbrev pub onRow : ℕ → ℕ → ℕ → Bool
-onRow at n k = leb at k && ltb k (at + n)
-
-pub row-yes : (at n k : ℕ) → at ≤ k → k < at + n → onRow at n k ≡ true
-row-yes at n k h l = (λ j. le-leb at k h j && lt-ltb k (at + n) l j)
-
-pub row-in : (at n k : ℕ) → onRow at n k ≡ true → (at ≤ k) × (k < at + n)
-row-in at n k e = let p = and-true (leb at k) (ltb k (at + n)) e in (leb-true at k (p .0), ltb-true k (at + n) (p .1))
-
-pub row-no : (at n k : ℕ) → (at ≤ k → k < at + n → ⊥) → onRow at n k ≡ false
-row-no at n k h = go (onRow at n k) refl
-  where
-    go : (t : Bool) → onRow at n k ≡ t → t ≡ false
-    go true e = absurd (h (row-in at n k e .0) (row-in at n k e .1))
-    go false e = refl
-
+-- ---- one place more
 pub row-empty : (at k : ℕ) → onRow at 0 k ≡ false
 row-empty at k = row-no at 0 k (λ h l. omega arith)
 

@@ -17,10 +17,11 @@ use Rattle.array.proofs.Places.{length-pos}
 use Rattle.array.proofs.Strides.{outerOf, count-split}
 use Rattle.array.proofs.Shapes.{stride-past}
 use Rattle.lanes.proofs.AlongAxis.{count-lanes}
+use Rattle.lanes.proofs.Part.{onRow, row-yes, row-in}
 use Rattle.pad_levels.specs.Pads.{middleFrom}
 use Rattle.pad_frame.specs.Frame.{Framed, targetOf, rowLength, rowSet, middleSet}
 use Rattle.pad_frame.proofs.Room.{grid-accepted}
-use Rattle.pad_frame.proofs.OneRow.{onRow, row-yes, row-in, cellOn, stored-over}
+use Rattle.pad_frame.proofs.OneRow.{cellOn, stored-over}
 use Rattle.pad_middle.proofs.Targets.{sourceOf, target-lt, target-middle, source-target, source-lt, target-source}
 use Rattle.pad_middle.proofs.Row.{target-row}
 

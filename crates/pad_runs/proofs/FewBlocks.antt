@@ -1,64 +1,30 @@
 -- A grid while its rims are copied some blocks at a time: a part that is whole blocks has whole lanes, so a part that is filled holds what belongs there in the grid.
 -- Assumes nothing.
 use mathlib.Core.Path.{_≡_, refl, sym, ap, subst, _∙_}
-use mathlib.Core.Bool.{Bool, true, false, cond, true≢false}
-use mathlib.Core.List.{List, _++_}
+use mathlib.Core.Bool.{Bool, true, false, true≢false}
+use mathlib.Core.List.{List}
 use Prim.Native.Nat.{ℕ, _+_, _-_, _*_, _/_, _%_, _≤_, _<_}
-use native.Mathlib.Nat.{add-mul, mul-assoc, mul-pos, mul-le-mul, le-refl, mod-lt, add-mul-div-right, add-mul-mod-self-right}
+use native.Mathlib.Nat.{add-mul, mul-assoc, mul-pos, mul-le-mul, le-refl, add-mul-div-right, add-mul-mod-self-right}
 use native.Mathlib.Omega.{arith}
 use borrow.Author.Tests.{ltb-true, ltb-false, lt-ltb, le-ltb}
-use borrow.Rule.Slice.PartMut.{putMid, midOf, postOf, mid-len, same-len-mid}
+use borrow.Rule.Slice.PartMut.{putMid, midOf, mid-len}
 use lib.Dec.{ltb}
 use lib.IntN.{ℤ, pos}
-use lib.ListN.{length, getD, take, drop, length-append, List·getD-append}
-use lib.Seq.{getD-take, getD-drop, getD-append-add, length-take-le, ext-getD}
+use lib.ListN.{length, getD, drop}
+use lib.Seq.{getD-take, getD-drop, ext-getD}
 use Rattle.numbers.proofs.Stored.{Stored, stored-none, stored-all}
 use Rattle.numbers.proofs.Tabulate.{length-tabulate, getD-tabulate}
 use Rattle.numbers.proofs.Tests.{cond-no}
 use Rattle.lanes.specs.Lanes.{laneOf, laneBase}
 use Rattle.lanes.proofs.Cells.{base-of}
+use Rattle.lanes.proofs.Part.{onRow, row-yes, row-in, part-put}
 use Rattle.border.specs.Border.{along}
 use Rattle.border.specs.declared.Along.{Along}
 use Rattle.pad_line.specs.Line.{paddedAt}
 use Rattle.pad_axis.proofs.Rims.{ownOf, length-own, getD-own}
 use Rattle.pad_frame.specs.Runs.{Runs, extendedAt, axisSet}
-use Rattle.pad_frame.proofs.OneRow.{onRow, row-yes, row-in, row-no, stored-over}
+use Rattle.pad_frame.proofs.OneRow.{stored-over}
 use Rattle.pad_steps.proofs.CopiedRims.{some-cells, cell-in}
-
--- ---- a part put back: the places from a on hold it
-pub part-put : {A : Type 0} (d : A) (a n : ℕ) (g part : List A) → a + n ≤ length g → length part ≡ n → Stored d (onRow a n) (λ k. getD part (k - a) d) g (putMid a (a + n - a) g part)
-part-put d a n g part room long = record {
-  kept = same-len-mid a (a + n - a) g part (long ∙ sym (mid-len a (a + n) g room ∙ omega arith));
-  cells = λ k b. at k (ltb k a) refl (ltb k (a + n)) refl;
-}
-  where
-    front : length (take a g) ≡ a
-    front = length-take-le a g (omega arith)
-
-    at : (k : ℕ) (t : Bool) → ltb k a ≡ t → (u : Bool) → ltb k (a + n) ≡ u → getD (putMid a (a + n - a) g part) k d ≡ cond (onRow a n k) (getD part (k - a) d) (getD g k d)
-    at k true x u y =
-        let h = ltb-true k a x in
-        List·getD-append (take a g) (part ++ postOf a (a + n - a) g) d k (omega (arith, front)) ∙ getD-take a g k d h
-        ∙ sym (cond-no (onRow a n k) _ _ (row-no a n k (λ p q. omega arith)))
-    at k false x true y =
-        let lo = ltb-false k a x in
-        let hi = ltb-true k (a + n) y in
-        let e : k ≡ length (take a g) + (k - a) = omega (arith, front) in
-        ap (λ (j : ℕ). getD (putMid a (a + n - a) g part) j d) e
-        ∙ getD-append-add (take a g) (part ++ postOf a (a + n - a) g) (k - a) d
-        ∙ List·getD-append part (postOf a (a + n - a) g) d (k - a) (omega arith)
-        ∙ sym (ap (λ t. cond t (getD part (k - a) d) (getD g k d)) (row-yes a n k lo hi))
-    at k false x false y =
-        let hi = ltb-false k (a + n) y in
-        let e : k ≡ length (take a g) + (length part + (k - (a + n))) = omega (arith, front) in
-        let f : a + (a + n - a + (k - (a + n))) ≡ k = omega arith in
-        ap (λ (j : ℕ). getD (putMid a (a + n - a) g part) j d) e
-        ∙ getD-append-add (take a g) (part ++ postOf a (a + n - a) g) (length part + (k - (a + n))) d
-        ∙ getD-append-add part (postOf a (a + n - a) g) (k - (a + n)) d
-        ∙ getD-drop (a + n - a) (drop a g) (k - (a + n)) d
-        ∙ getD-drop a g (a + n - a + (k - (a + n))) d
-        ∙ ap (λ (j : ℕ). getD g j d) f
-        ∙ sym (cond-no (onRow a n k) _ _ (row-no a n k (λ p q. omega arith)))
 
 -- ---- places of a part that starts after i blocks
 module _ (p s : ℕ) (pp : 0 < p) (ps : 0 < s) (i r : ℕ) where

@@ -1,28 +1,22 @@
--- `axis_filter::filter_axis` meets its contract: an axis of an accepted shape has at most 1,024 cells.
+-- `axis_filter::filter_axis` meets its contract: neighbouring cells are 1 apart, and both ways leave the filtered lanes.
 -- Assumes nothing.
-use Prim.Native.Nat.{ℕ, _≤_}
-use mathlib.Core.Path.{refl, sym, subst, _∙_}
+use native.Mathlib.Omega.{arith}
 use denote.Ref.{now}
-use lib.Seq.{length-take-le}
 use Rattle.array.proofs.Shapes.{shape-accepted}
 use borrow.Author.Needs.{needs}
 use Rattle.axis_filter.proofs.filter_axis.Statement.{statement}
 use Rattle.axis_filter.proofs.filter_axis.Tie as tie
 
-len-of-requires : tie.Need-len-of-requires
-len-of-requires c κs = search needs
+stride-of-requires : tie.Need-stride-of-requires
+stride-of-requires c κs = let s = c .before in
+    let A = shape-accepted (now (s .args .shape)) (s .pre .0 .shape) in
+    (A .few, λ a. omega (arith, A .short a))
 
-slice-aggregate-filter-lanes : tie.Need-slice-aggregate-filter-lanes
-slice-aggregate-filter-lanes c = search needs
+slice-aggregate-filter-rows : tie.Need-slice-aggregate-filter-rows
+slice-aggregate-filter-rows c = search needs
 
-array-borrow-prefix-swept : tie.Need-array-borrow-prefix-swept
-array-borrow-prefix-swept c = let s = c .before .before .before in subst (λ (x : ℕ). x ≤ 1024) (sym (c .before .len-of .ensures)) (shape-accepted (now (s .args .shape)) (s .pre .0 .shape) .short (s .args .axis))
-
-slice-aggregate-filter-lanes-2 : tie.Need-slice-aggregate-filter-lanes-2
-slice-aggregate-filter-lanes-2 c = sym (length-take-le (c .before .before .len-of .result) _ (array-borrow-prefix-swept (c .before)))
-
-filter-lanes-requires : tie.Need-filter-lanes-requires
-filter-lanes-requires c κs = let s = c .before .before .before .before .before in (s .pre .0, s .pre .1, refl, sym (slice-aggregate-filter-lanes-2 (c .before)) ∙ c .before .before .before .len-of .ensures)
+filter-rows-requires : tie.Need-filter-rows-requires
+filter-rows-requires c κs = search needs
 
 same-length : tie.Need-same-length
 same-length c = search needs
@@ -30,14 +24,28 @@ same-length c = search needs
 returns : tie.Need-returns
 returns c = search needs
 
+slice-aggregate-filter-columns : tie.Need-slice-aggregate-filter-columns
+slice-aggregate-filter-columns c = search needs
+
+filter-columns-requires : tie.Need-filter-columns-requires
+filter-columns-requires c κs = search needs
+
+same-length-2 : tie.Need-same-length-2
+same-length-2 c = search needs
+
+returns-2 : tie.Need-returns-2
+returns-2 c = search needs
+
 pub filter-axis-spec : {M : Type 1} → statement M
 filter-axis-spec =
     tie.close
     (tie.spec
-    len-of-requires
-    slice-aggregate-filter-lanes
-    array-borrow-prefix-swept
-    slice-aggregate-filter-lanes-2
-    filter-lanes-requires
+    stride-of-requires
+    slice-aggregate-filter-rows
+    filter-rows-requires
     same-length
-    returns)
+    returns
+    slice-aggregate-filter-columns
+    filter-columns-requires
+    same-length-2
+    returns-2)

@@ -1,22 +1,21 @@
--- `axis_filter::filter_lane` meets its contract: the padded lane, filtered, and the lane that it is written to.
+-- `axis_filter::filter_lane` meets its contract: the padded lane, filtered.
 -- Assumes nothing.
 use mathlib.Core.Path.{sym, subst}
 use mathlib.Core.List.{List}
 use Prim.Native.Nat.{_+_}
-use native.Mathlib.Omega.{arith}
 use lib.IntN.{ℤ, pos}
 use lib.ListN.{length}
 use lib.Seq.{length-take-le}
 use denote.Ref.{now}
 use Rattle.axis_filter.specs.Filter.{filtered, ServedLine}
-use Rattle.axis_filter.proofs.OneLane.{line-room, lane-padding, write-room, front-is, length-swept, lane-filtered}
-use Rattle.axis_filter.proofs.Supposed.{length-filtered, line-served}
+use Rattle.axis_filter.proofs.OneLane.{front-is, lane-filtered}
+use Rattle.axis_filter.proofs.Supposed.{line-served}
 use borrow.Author.Needs.{needs}
 use Rattle.axis_filter.proofs.filter_lane.Statement.{statement}
 use Rattle.axis_filter.proofs.filter_lane.Tie as tie
 
 pad-from-requires : tie.Need-pad-from-requires
-pad-from-requires c κs = lane-padding (pos 0) (c .before .pre .0)
+pad-from-requires c κs = search needs
 
 add-total : tie.Need-add-total
 add-total c = search needs
@@ -31,7 +30,7 @@ add-filter-line-2 : tie.Need-add-filter-line-2
 add-filter-line-2 c = search needs
 
 slice-reshare-prefix-filter-line : tie.Need-slice-reshare-prefix-filter-line
-slice-reshare-prefix-filter-line c = omega (arith, line-room (pos 0) (c .before .before .before .pre .0), c .before .pad-from .kept .1 .1 .1 .1 .1 .1 .1 .0)
+slice-reshare-prefix-filter-line c = search needs
 
 slice-aggregate-filter-line : tie.Need-slice-aggregate-filter-line
 slice-aggregate-filter-line c = sym (length-take-le _ _ (slice-reshare-prefix-filter-line (c .before)))
@@ -39,11 +38,8 @@ slice-aggregate-filter-line c = sym (length-take-le _ _ (slice-reshare-prefix-fi
 filter-line-requires : tie.Need-filter-line-requires
 filter-line-requires c κs =
     let s = c .before .before .before .before .before in
-    subst (λ (p : List ℤ). ServedLine (s .args .filter) (now (s .args .weights)) (s .args .left + s .args .right + 1) p (length (now (s .args .swept))))
+    subst (λ (p : List ℤ). ServedLine (s .args .filter) (now (s .args .weights)) (s .args .left + s .args .right + 1) p (length (now (s .args .row))))
     (sym (front-is (pos 0) (s .pre .0) (c .before .before .before .pad-from .ensures))) (line-served (s .pre .0) (s .args .filter) (now (s .args .weights)) (s .pre .1))
-
-write-from-requires : tie.Need-write-from-requires
-write-from-requires c κs = write-room (pos 0) (c .before .before .before .before .before .before .before .before .before .pre .0) (c .before .before .before .filter-line .last .1 .1 .1 .1 .0) (c .before .before .before .filter-line .kept .1 .1 .1 .1 .0)
 
 same-length : tie.Need-same-length
 same-length c = search needs
@@ -51,13 +47,9 @@ same-length c = search needs
 same-length-2 : tie.Need-same-length-2
 same-length-2 c = search needs
 
-same-length-3 : tie.Need-same-length-3
-same-length-3 c = search needs
-
 returns : tie.Need-returns
-returns c = let s = c .before .before .before .before .before .before .before .before .before .before .before in
-    lane-filtered (pos 0) (s .pre .0) (c .before .before .before .before .before .before .before .before .before .pad-from .ensures) (filtered (s .args .filter) (now (s .args .weights)) (s .args .left + s .args .right + 1))
-    (length-filtered (s .args .filter) (now (s .args .weights)) (s .args .left + s .args .right + 1)) (c .before .before .before .before .before .filter-line .ensures) (c .before .write-from .ensures)
+returns c = let s = c .before .before .before .before .before .before .before in
+    lane-filtered (pos 0) (s .pre .0) (c .before .before .before .before .before .pad-from .ensures) (filtered (s .args .filter) (now (s .args .weights)) (s .args .left + s .args .right + 1)) (c .before .filter-line .ensures)
 
 pub filter-lane-spec : {M : Type 1} → statement M
 filter-lane-spec =
@@ -71,8 +63,6 @@ filter-lane-spec =
     slice-reshare-prefix-filter-line
     slice-aggregate-filter-line
     filter-line-requires
-    write-from-requires
     same-length
     same-length-2
-    same-length-3
     returns)
