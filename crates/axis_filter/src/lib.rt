@@ -19,8 +19,8 @@ pub enum LineFilter {
     Mean,
 }
 
-// The filter on a padded line. Only Weighed reads weights.
-fn filter_line(filter: LineFilter, weights: &[i64], size: usize, line: &[i64], out: &mut [i64])
+// The filter on a padded line. Only Weighed reads weights, and may change the line.
+fn filter_line(filter: LineFilter, weights: &[i64], size: usize, line: &mut [i64], out: &mut [i64])
     requires { ⌜ ServedLine filter (now weights) size (now line) (length (now out)) ⌝ }
     ensures { λ _. ⌜ now (out .exit) ≡ filtered filter (now (weights .entry)) size (now (line .entry)) (length (now (out .entry))) ⌝ }
 {
@@ -51,7 +51,7 @@ fn filter_lane(
     let n = row.len();
     pad_line::pad_from(data, base, stride, n, mode, left, right, line);
     let total = left + n + right;
-    filter_line(filter, weights, left + right + 1, &line[..total], row);
+    filter_line(filter, weights, left + right + 1, &mut line[..total], row);
 }
 
 // The filter on every lane of an axis whose cells are neighbours: each lane is filtered straight into its part of out. The line is a buffer of 1,088 cells.

@@ -29,11 +29,11 @@ add-filter-line c = search needs
 add-filter-line-2 : tie.Need-add-filter-line-2
 add-filter-line-2 c = search needs
 
-slice-reshare-prefix-filter-line : tie.Need-slice-reshare-prefix-filter-line
-slice-reshare-prefix-filter-line c = search needs
+slice-relend-prefix-filter-line : tie.Need-slice-relend-prefix-filter-line
+slice-relend-prefix-filter-line c = search needs
 
 slice-aggregate-filter-line : tie.Need-slice-aggregate-filter-line
-slice-aggregate-filter-line c = sym (length-take-le _ _ (slice-reshare-prefix-filter-line (c .before)))
+slice-aggregate-filter-line c = sym (length-take-le _ _ (slice-relend-prefix-filter-line (c .before)))
 
 filter-line-requires : tie.Need-filter-line-requires
 filter-line-requires c κs =
@@ -48,8 +48,8 @@ same-length-2 : tie.Need-same-length-2
 same-length-2 c = search needs
 
 returns : tie.Need-returns
-returns c = let s = c .before .before .before .before .before .before .before in
-    lane-filtered (pos 0) (s .pre .0) (c .before .before .before .before .before .pad-from .ensures) (filtered (s .args .filter) (now (s .args .weights)) (s .args .left + s .args .right + 1)) (c .before .filter-line .ensures)
+returns c = let s = c .before .before .before .before .before .before .before .before in
+    lane-filtered (pos 0) (s .pre .0) (c .before .before .before .before .before .before .pad-from .ensures) (filtered (s .args .filter) (now (s .args .weights)) (s .args .left + s .args .right + 1)) (c .before .before .filter-line .ensures)
 
 pub filter-lane-spec : {M : Type 1} → statement M
 filter-lane-spec =
@@ -60,7 +60,7 @@ filter-lane-spec =
     add-total-2
     add-filter-line
     add-filter-line-2
-    slice-reshare-prefix-filter-line
+    slice-relend-prefix-filter-line
     slice-aggregate-filter-line
     filter-line-requires
     same-length

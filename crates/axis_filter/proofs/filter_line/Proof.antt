@@ -25,43 +25,55 @@ enum-told-3 : tie.Need-enum-told-3
 enum-told-3 c = search needs
 
 correlate-line-requires : tie.Need-correlate-line-requires
-correlate-line-requires c κs = rw (c .before .enum-told3 .given .1) at (c .before .before .before .pre)
+correlate-line-requires c κs = rw (c .before .before .enum-told3 .given .1) at (c .before .before .before .before .pre)
 
 enum-told-4 : tie.Need-enum-told-4
 enum-told-4 c = search needs
 
 uniform-line-requires : tie.Need-uniform-line-requires
-uniform-line-requires c κs = rw (c .before .enum-told4 .given .1) at (c .before .before .before .pre)
+uniform-line-requires c κs = rw (c .before .before .enum-told4 .given .1) at (c .before .before .before .before .pre)
 
 same-length : tie.Need-same-length
 same-length c = search needs
 
-returns : tie.Need-returns
-returns c =
-    let s = c .before .before .before .before .before in
-    let e = c .before .before .before .enum-told .given .1 in
-    rw e (c .before .minimum-line .ensures ∙ swept-filled leZ (now (s .args .line)) (s .args .size) (now (s .args .out)) (rw e at (s .pre)))
-
 same-length-2 : tie.Need-same-length-2
 same-length-2 c = search needs
 
-returns-2 : tie.Need-returns-2
-returns-2 c =
-    let s = c .before .before .before .before .before in
-    let e = c .before .before .before .enum-told2 .given .1 in
-    rw e (c .before .maximum-line .ensures ∙ swept-filled atLeast (now (s .args .line)) (s .args .size) (now (s .args .out)) (rw e at (s .pre)))
+returns : tie.Need-returns
+returns c =
+    let s = c .before .before .before .before .before .before in
+    let e = c .before .before .before .before .enum-told .given .1 in
+    rw e (c .before .minimum-line .ensures ∙ swept-filled leZ (now (s .args .line)) (s .args .size) (now (s .args .out)) (rw e at (s .pre)))
 
 same-length-3 : tie.Need-same-length-3
 same-length-3 c = search needs
 
-returns-3 : tie.Need-returns-3
-returns-3 c = rw (c .before .before .before .enum-told3 .given .1) (c .before .correlate-line .ensures)
-
 same-length-4 : tie.Need-same-length-4
 same-length-4 c = search needs
 
+returns-2 : tie.Need-returns-2
+returns-2 c =
+    let s = c .before .before .before .before .before .before in
+    let e = c .before .before .before .before .enum-told2 .given .1 in
+    rw e (c .before .maximum-line .ensures ∙ swept-filled atLeast (now (s .args .line)) (s .args .size) (now (s .args .out)) (rw e at (s .pre)))
+
+same-length-5 : tie.Need-same-length-5
+same-length-5 c = search needs
+
+same-length-6 : tie.Need-same-length-6
+same-length-6 c = search needs
+
+returns-3 : tie.Need-returns-3
+returns-3 c = rw (c .before .before .before .before .before .enum-told3 .given .1) (c .before .before .correlate-line .ensures)
+
+same-length-7 : tie.Need-same-length-7
+same-length-7 c = search needs
+
+same-length-8 : tie.Need-same-length-8
+same-length-8 c = search needs
+
 returns-4 : tie.Need-returns-4
-returns-4 c = rw (c .before .before .before .enum-told4 .given .1) (c .before .uniform-line .ensures)
+returns-4 c = rw (c .before .before .before .before .enum-told4 .given .1) (c .before .uniform-line .ensures)
 
 pub filter-line-spec : {M : Type 1} → statement M
 filter-line-spec =
@@ -76,10 +88,14 @@ filter-line-spec =
     enum-told-4
     uniform-line-requires
     same-length
-    returns
     same-length-2
-    returns-2
+    returns
     same-length-3
-    returns-3
     same-length-4
+    returns-2
+    same-length-5
+    same-length-6
+    returns-3
+    same-length-7
+    same-length-8
     returns-4)
