@@ -61,7 +61,8 @@ fn above(low: i64, offset: usize) -> i32
 }
 
 // The level at place k of the sorted line, found without sorting: the least one with more than k levels at or below it.
-// It is bisected between the least level of the line and the greatest, by `from` and `to`, offsets from the least.
+// It is bisected between the least level of the line and the greatest, by `from` and `to`, offsets from the least. Where k levels are at most the one that is
+// tried, it is the least above that: on levels that differ much this comes after about as many turns as halve the line, not the range of its levels.
 fn level_of_rank(levels: &[i32], low: i64, high: i64, k: usize) -> i32
     requires { ⌜ unserved (now levels) ≡ false ⌝ }
     requires { ⌜ low ≡ minimumOf (now levels) ⌝ }
@@ -73,10 +74,15 @@ fn level_of_rank(levels: &[i32], low: i64, high: i64, k: usize) -> i32
     let mut to = distance(low, high);
     while from < to {
         let middle = from + (to - from) / 2;
-        if count_at_most(levels, above(low, middle)) as usize <= k {
-            from = middle + 1;
-        } else {
+        let z = above(low, middle);
+        let count = count_at_most(levels, z) as usize;
+        if k < count {
             to = middle;
+        } else {
+            if count == k {
+                return least_above(levels, z, high as i32);
+            }
+            from = middle + 1;
         }
     }
     above(low, from)

@@ -1,6 +1,6 @@
--- `pad` lays the grid over what it started with: under Constant every place outside the middle gets the constant, so the whole is the padded grid.
+-- `pad` lays the grid over what it started with: under Constant every place outside the middle holds the constant, so the whole is the padded grid.
 -- Assumes nothing.
-use mathlib.Core.Path.{_≡_, refl, sym, ap, _∙_}
+use mathlib.Core.Path.{_≡_, refl, sym, ap, subst, _∙_}
 use mathlib.Core.Bool.{Bool, true, false, _&&_, not, cond, true≢false}
 use mathlib.Core.List.{List}
 use Prim.Native.Nat.{ℕ, zero, suc, _+_, _-_, _≤_, _<_}
@@ -9,18 +9,19 @@ use native.Mathlib.Omega.{arith}
 use borrow.Author.Tests.{leb-false, ltb-false}
 use lib.Dec.{leb, ltb}
 use lib.IntN.{ℤ, pos}
-use lib.ListN.{length, getD, replicate}
-use Rattle.numbers.proofs.Tabulate.{length-tabulate, getD-tabulate, tabulate-replicate, tabulate-agree}
+use lib.ListN.{length, getD}
+use Rattle.numbers.proofs.Tabulate.{length-tabulate, tabulate-agree}
 use Rattle.array.specs.Grid.{cellCount, lengthOf, coordinate, moved}
 use Rattle.border.specs.Border.{constant}
 use Rattle.border.specs.declared.PadMode.{PadMode}
 use Rattle.border.specs.declared.PadMode.the-variants.{Constant, Edge, Maximum, Mean, Median, Minimum, Reflect, Symmetric, Wrap}
 use Rattle.pad_line.specs.Line.{paddedAt}
 use Rattle.pad_line.proofs.Padded.{constant-before, constant-after}
-use Rattle.pad_levels.specs.Levels.{levelTo, ownCells, paddedLevel, paddedGrid, paddedOver}
+use Rattle.pad_levels.specs.Levels.{keepsRim, levelTo, ownCells, paddedLevel, paddedGrid, paddedOver}
 use Rattle.pad_levels.specs.Pads.{inMiddle, allFrom, middleFrom, paddedShape}
 use Rattle.pad_levels.proofs.Levels.{level-middle}
-use Rattle.pad.specs.Laid.{laidOver, started}
+use Rattle.pad_constant.specs.Around.{Around}
+use Rattle.pad.specs.Laid.{laidOver, Started}
 
 -- a run's last member
 all-last : (t : ℕ → Bool) (a n : ℕ) → allFrom t a (suc n) ≡ allFrom t a n && t (a + n)
@@ -73,40 +74,69 @@ module _ (c : ℤ) (ns lefts : List ℕ) (cells : List ℤ) where
   pub outside-constant : (q : ℕ → ℕ) → middleFrom ns lefts 0 q ≡ false → levelTo (Constant c) ns lefts cells (length ns) q ≡ c
   outside-constant q e = let n : length ns ≡ length ns - 0 = omega arith in outside-from (length ns) (omega arith) q (ap (allFrom (inMiddle ns lefts q) 0) n ∙ e)
 
-  over-constant : (rights : List ℕ) (held : List ℤ) → length held ≡ cellCount (paddedShape ns lefts rights)
-      → paddedOver (Constant c) ns lefts rights cells (replicate (length held) c) ≡ paddedGrid (Constant c) ns lefts rights cells
+  over-constant : (rights : List ℕ) (held : List ℤ) → Around c ns lefts (paddedShape ns lefts rights) held → paddedOver (Constant c) ns lefts rights cells held ≡ paddedGrid (Constant c) ns lefts rights cells
   unfolding paddedOver paddedGrid
-  over-constant rights held h = tabulate-agree _ (paddedLevel (Constant c) ns lefts rights cells) 0 (cellCount ps) (λ k b. at (0 + k) (less k b) (middleFrom ns lefts 0 (coordinate ps (0 + k))) refl)
+  over-constant rights held A = tabulate-agree _ (paddedLevel (Constant c) ns lefts rights cells) 0 (cellCount ps) (λ k b. at (0 + k) (less k b) (middleFrom ns lefts 0 (coordinate ps (0 + k))) refl)
     where
       ps : List ℕ
       ps = paddedShape ns lefts rights
 
-      less : (k : ℕ) → k < cellCount ps → 0 + k < length held
+      less : (k : ℕ) → k < cellCount ps → 0 + k < cellCount ps
       less k b = omega arith
 
-      held-at : (k : ℕ) → k < length held → getD (replicate (length held) c) k (pos 0) ≡ c
-      held-at k b = ap (λ s. getD s k (pos 0)) (sym (tabulate-replicate c 0 (length held))) ∙ getD-tabulate (λ x. c) (length held) k (pos 0) b
-
-      at : (k : ℕ) → k < length held → (t : Bool) → middleFrom ns lefts 0 (coordinate ps k) ≡ t
-          → cond (true && not t) (getD (replicate (length held) c) k (pos 0)) (paddedLevel (Constant c) ns lefts rights cells k) ≡ paddedLevel (Constant c) ns lefts rights cells k
+      at : (k : ℕ) → k < cellCount ps → (t : Bool) → middleFrom ns lefts 0 (coordinate ps k) ≡ t
+          → cond (true && not t) (getD held k (pos 0)) (paddedLevel (Constant c) ns lefts rights cells k) ≡ paddedLevel (Constant c) ns lefts rights cells k
       at k b true m = refl
-      at k b false m = held-at k b ∙ sym (outside-constant (coordinate ps k) m)
+      at k b false m = A .beside k b m ∙ sym (outside-constant (coordinate ps k) m)
 
--- what is laid over a start is the padded grid
-pub over-started : (mode : PadMode) (ns lefts rights : List ℕ) (cells held : List ℤ) → length held ≡ cellCount (paddedShape ns lefts rights)
-    → paddedOver mode ns lefts rights cells (started mode held) ≡ paddedGrid mode ns lefts rights cells
-unfolding paddedOver paddedGrid
-over-started (Constant c) ns lefts rights cells held h = over-constant c ns lefts cells rights held h
-over-started Edge ns lefts rights cells held h = refl
-over-started Maximum ns lefts rights cells held h = refl
-over-started Mean ns lefts rights cells held h = refl
-over-started Median ns lefts rights cells held h = refl
-over-started Minimum ns lefts rights cells held h = refl
-over-started Reflect ns lefts rights cells held h = refl
-over-started Symmetric ns lefts rights cells held h = refl
-over-started Wrap ns lefts rights cells held h = refl
+-- a start that fills nothing: the whole is not asked for, or the mode fills the rim later
+module _ (ns lefts ps : List ℕ) (held : List ℤ) where
+  pub none-started : (whole : Bool) (mode : PadMode) → not whole ≡ true → Started whole mode ns lefts ps held held
+  none-started true mode e = absurd (true≢false (sym e))
+  none-started false mode e = refl
 
--- what the worker lays over is what `pad_to` promises
-pub laid-padded : (mode : PadMode) (ns lefts rights : List ℕ) (cells held : List ℤ) → laidOver mode ns lefts (paddedShape ns lefts rights) cells held ≡ paddedOver mode ns lefts rights cells held
-unfolding laidOver paddedOver
-laid-padded mode ns lefts rights cells held = refl
+  pub rest-started : (whole : Bool) (mode : PadMode) → keepsRim mode ≡ false → Started whole mode ns lefts ps held held
+  rest-started false mode e = refl
+  rest-started true (Constant c) e = absurd (true≢false e)
+  rest-started true Edge e = refl
+  rest-started true Maximum e = refl
+  rest-started true Mean e = refl
+  rest-started true Median e = refl
+  rest-started true Minimum e = refl
+  rest-started true Reflect e = refl
+  rest-started true Symmetric e = refl
+  rest-started true Wrap e = refl
+
+  -- a start that fills the rim
+  pub constant-started : (whole : Bool) (mode : PadMode) {c z : ℤ} {out : List ℤ} → not whole ≡ false → mode ≡ Constant c → z ≡ c → Around z ns lefts ps out → Started whole mode ns lefts ps held out
+  constant-started false mode w e q A = absurd (true≢false w)
+  constant-started true mode {c} {z} {out} w e q A = subst (λ m. Started true m ns lefts ps held out) (sym e) (subst (λ (x : ℤ). Around x ns lefts ps out) q A)
+
+-- what is laid over a start is the padded grid where the whole is asked for, else what `pad_to` promises
+module _ (ns lefts rights : List ℕ) (cells held : List ℤ) where
+  abbrev asked : Bool → PadMode → List ℤ
+  asked whole mode = cond whole (paddedGrid mode ns lefts rights cells) (paddedOver mode ns lefts rights cells held)
+
+  over-started : (whole : Bool) (mode : PadMode) (out : List ℤ) → Started whole mode ns lefts (paddedShape ns lefts rights) held out → paddedOver mode ns lefts rights cells out ≡ asked whole mode
+  unfolding paddedOver paddedGrid
+  over-started false mode out S = ap (paddedOver mode ns lefts rights cells) S
+  over-started true (Constant c) out S = over-constant c ns lefts cells rights out S
+  over-started true Edge out S = refl
+  over-started true Maximum out S = refl
+  over-started true Mean out S = refl
+  over-started true Median out S = refl
+  over-started true Minimum out S = refl
+  over-started true Reflect out S = refl
+  over-started true Symmetric out S = refl
+  over-started true Wrap out S = refl
+
+  laid-padded : (mode : PadMode) (out : List ℤ) → laidOver mode ns lefts (paddedShape ns lefts rights) cells out ≡ paddedOver mode ns lefts rights cells out
+  unfolding laidOver paddedOver
+  laid-padded mode out = refl
+
+  -- the same of the frame as it was set
+  pub laid-started : (whole : Bool) (mode : PadMode) {l p : List ℕ} (out : List ℤ) {new : List ℤ} → l ≡ lefts → p ≡ paddedShape ns lefts rights → Started whole mode ns l p held out
+      → new ≡ laidOver mode ns l p cells out → new ≡ asked whole mode
+  laid-started whole mode {l} {p} out {new} e f S q =
+      q ∙ (λ j. laidOver mode ns (e j) (f j) cells out) ∙ laid-padded mode out
+      ∙ over-started whole mode out (subst (λ (x : List ℕ). Started whole mode ns x (paddedShape ns lefts rights) held out) e (subst (λ (x : List ℕ). Started whole mode ns l x held out) f S))

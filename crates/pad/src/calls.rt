@@ -1,6 +1,6 @@
 // The two calls: a judge that only returns a number, then the grid laid over what the output holds.
 ghost use mathlib.Core.Path.{_≡_};
-ghost use mathlib.Core.Bool.{false};
+ghost use mathlib.Core.Bool.{false, cond};
 ghost use lib.ListN.{length};
 ghost use Rattle.numbers.specs.Lists.{anyOf};
 ghost use Rattle.numbers.specs.Refusal.{refusalOf, Answers};
@@ -9,8 +9,8 @@ ghost use Rattle.array.specs.Grid.{cellCount};
 ghost use Rattle.pad_levels.specs.Conditions.{padJudged};
 ghost use Rattle.pad_levels.specs.Levels.{keepsRim, paddedGrid, paddedOver};
 ghost use Rattle.pad_levels.specs.Pads.{leftsOf, rightsOf};
-ghost use Rattle.pad_frame.specs.Frame.{Filling};
-ghost use Rattle.pad.specs.Laid.{laidOver, started};
+ghost use Rattle.pad_frame.specs.Frame.{Framed, Filling};
+ghost use Rattle.pad.specs.Laid.{laidOver, Started};
 use border::PadMode;
 use pad_levels::Pair;
 
@@ -31,12 +31,26 @@ fn keeps_rim(mode: PadMode) -> bool
     }
 }
 
-// Sets every cell to the constant under Constant.
-fn start(mode: PadMode, out: &mut [i64])
-    ensures { λ _. ⌜ now (out .exit) ≡ started mode (now (out .entry)) ⌝ }
+// Where the whole padded grid is asked for, sets every place that is not in its middle to the constant, under Constant.
+fn start(
+    whole: bool,
+    mode: PadMode,
+    cells: usize,
+    shape: &[usize],
+    lefts: &[usize],
+    padded: &[usize],
+    out: &mut [i64],
+)
+    requires { ⌜ Framed (now shape) (now lefts) (now padded) × (cells ≡ cellCount (now shape)) × (length (now out) ≡ cellCount (now padded)) ⌝ }
+    ensures { λ _. ⌜ Started whole mode (now (shape .entry)) (now (lefts .entry)) (now (padded .entry)) (now (out .entry)) (now (out .exit)) ⌝ }
 {
+    if !whole {
+        return;
+    }
     match mode {
-        PadMode::Constant(c) => assign::fill(out, c),
+        PadMode::Constant(c) => {
+            pad_constant::fill_around(c, cells, shape, lefts, padded, out);
+        }
         PadMode::Edge => {}
         PadMode::Maximum => {}
         PadMode::Mean => {}
@@ -67,28 +81,38 @@ fn lay_over(
     pad_grid::fill_axes(mode, shape, lefts, padded, out);
 }
 
-// The same from the pairs of pads; lefts and padded are buffers, as long as the shape.
+// The same from the pairs of pads, over a start where the whole padded grid is asked for; lefts and padded are buffers, as long as the shape.
 fn lay_in(
     data: &[i64],
     shape: &[usize],
     pads: [Pair; 3],
     count: usize,
     mode: PadMode,
+    whole: bool,
     lefts: &mut [usize],
     padded: &mut [usize],
     out: &mut [i64],
 )
     requires { ⌜ (refusalOf (padJudged mode (now shape) pads count (now «data») (length (now out))) ≡ 0) × (length (now lefts) ≡ length (now shape)) × (length (now padded) ≡ length (now shape)) ⌝ }
-    ensures { λ _. ⌜ now (out .exit) ≡ paddedOver mode (now (shape .entry)) (leftsOf (now (shape .entry)) pads count) (rightsOf (now (shape .entry)) pads count) (now («data» .entry)) (now (out .entry)) ⌝ }
+    ensures { λ _. ⌜ now (out .exit) ≡ cond whole (paddedGrid mode (now (shape .entry)) (leftsOf (now (shape .entry)) pads count) (rightsOf (now (shape .entry)) pads count) (now («data» .entry))) (paddedOver mode (now (shape .entry)) (leftsOf (now (shape .entry)) pads count) (rightsOf (now (shape .entry)) pads count) (now («data» .entry)) (now (out .entry))) ⌝ }
 {
     pad_frame::set_frame(shape, pads, count, lefts, padded);
+    start(whole, mode, data.len(), shape, lefts, padded, out);
     lay_over(data, shape, lefts, padded, mode, out);
 }
 
 // The same with buffers of its own.
-fn lay(data: &[i64], shape: &[usize], pads: [Pair; 3], count: usize, mode: PadMode, out: &mut [i64])
+fn lay(
+    data: &[i64],
+    shape: &[usize],
+    pads: [Pair; 3],
+    count: usize,
+    mode: PadMode,
+    whole: bool,
+    out: &mut [i64],
+)
     requires { ⌜ refusalOf (padJudged mode (now shape) pads count (now «data») (length (now out))) ≡ 0 ⌝ }
-    ensures { λ _. ⌜ now (out .exit) ≡ paddedOver mode (now (shape .entry)) (leftsOf (now (shape .entry)) pads count) (rightsOf (now (shape .entry)) pads count) (now («data» .entry)) (now (out .entry)) ⌝ }
+    ensures { λ _. ⌜ now (out .exit) ≡ cond whole (paddedGrid mode (now (shape .entry)) (leftsOf (now (shape .entry)) pads count) (rightsOf (now (shape .entry)) pads count) (now («data» .entry))) (paddedOver mode (now (shape .entry)) (leftsOf (now (shape .entry)) pads count) (rightsOf (now (shape .entry)) pads count) (now («data» .entry)) (now (out .entry))) ⌝ }
 {
     let axes = shape.len();
     let mut lefts = [0; 3];
@@ -99,6 +123,7 @@ fn lay(data: &[i64], shape: &[usize], pads: [Pair; 3], count: usize, mode: PadMo
         pads,
         count,
         mode,
+        whole,
         &mut lefts[..axes],
         &mut padded[..axes],
         out,
@@ -129,7 +154,7 @@ pub fn pad_to(
     if refusal != 0 {
         return refusal;
     }
-    lay(data, shape, pads, count, mode, out);
+    lay(data, shape, pads, count, mode, false, out);
     numbers::ACCEPTED
 }
 
@@ -156,7 +181,6 @@ pub fn pad(
     if refusal != 0 {
         return refusal;
     }
-    start(mode, out);
-    lay(data, shape, pads, count, mode, out);
+    lay(data, shape, pads, count, mode, true, out);
     numbers::ACCEPTED
 }

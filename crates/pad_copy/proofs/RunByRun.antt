@@ -176,12 +176,3 @@ blocks-one {p} {from} {at} {g₀} {g} {i} v hf ha other b e S =
   where
     single : (c : ℕ) → i * p + c ≡ runAt p 1 i c
     single c = (λ j. i * sym (mul-one p) j + sym (mul-one c) j)
-
--- a grid that is one lane
-pub lane-one : {p from at : ℕ} (g : List ℤ) (v : ℤ) → length g ≡ p → from < p → at < p → (from ≡ at → ⊥) → v ≡ getD g from (pos 0) → set g at v ≡ coordinateSet p 1 from at g
-lane-one {p} {from} {at} g v w hf ha other e =
-    ap (λ x. set g x v) (sym (first at))
-    ∙ blocks-all {blocks = 1} (w ∙ omega arith) (omega arith) (blocks-one {i = 0} v hf ha other (omega arith) (e ∙ ap (λ x. getD g x (pos 0)) (sym (first from))) (blocks-none p 1 from at g))
-  where
-    first : (c : ℕ) → 0 * p + c ≡ c
-    first c = omega arith

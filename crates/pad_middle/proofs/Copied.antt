@@ -66,7 +66,7 @@ module _ (ns lefts ps : List ℕ) (F : Framed ns lefts ps) where
       row-target : onRow at (rowLength ns) j ≡ true → targetOf ns lefts ps (row * rowLength ns + (j - at)) ≡ j
       row-target q = let r = row-in at (rowLength ns) j q in target-on (j - at) (omega arith) ∙ omega (arith, r .0)
 
-      row-middle : onRow at (rowLength ns) j ≡ true → middleFrom ns lefts 0 (coordinate ps j) ≡ true
+      pub row-middle : onRow at (rowLength ns) j ≡ true → middleFrom ns lefts 0 (coordinate ps j) ≡ true
       row-middle q =
           let r = row-in at (rowLength ns) j q in
           ap (λ x. middleFrom ns lefts 0 (coordinate ps x)) (sym (row-target q)) ∙ target-middle ns lefts ps F (row * rowLength ns + (j - at)) (omega (arith, r .0, r .1))

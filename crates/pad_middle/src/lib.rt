@@ -20,7 +20,13 @@ fn copy_row(data: &[i64], from: usize, n: usize, at: usize, out: &mut [i64])
 }
 
 // The place in the padded grid where a row of the grid starts.
-fn row_place(shape: &[usize], lefts: &[usize], padded: &[usize], row: usize) -> usize
+//
+// * `shape` - the length of each axis of the grid.
+// * `lefts`, `padded` - the pad before each axis, and its padded length.
+// * `row` - the number of a row of the grid.
+//
+// Supposes `Framed`, and refuses nothing. Of row 1 of 2 rows with pads of 1 on both sides, in rows of 5: 11.
+pub fn row_place(shape: &[usize], lefts: &[usize], padded: &[usize], row: usize) -> usize
     requires { ⌜ Framed (now shape) (now lefts) (now padded) × (row * rowLength (now shape) < cellCount (now shape)) ⌝ }
     ensures { λ r. ⌜ r ≡ targetOf (now (shape .entry)) (now (lefts .entry)) (now (padded .entry)) (row * rowLength (now (shape .entry))) ⌝ }
 {

@@ -1,4 +1,6 @@
-// Both rims of the lanes of an axis, copied from the lanes' own cells, which never change: coordinate by coordinate, and in a single lane step by step.
+// Both rims of the lanes of an axis, copied from the lanes' own cells, which never change: coordinate by coordinate, and where the cells of a lane stand side by side,
+// lane by lane, unless the rims are short.
+ghost use mathlib.Core.Bool.{true};
 ghost use mathlib.Core.Path.{_≡_};
 ghost use Prim.Native.Nat.{ℕ, _+_, _≤_, _<_};
 ghost use lib.ListN.{length};
@@ -7,6 +9,22 @@ use border::Along;
 use pad_copy::copy_coordinate;
 use pad_steps::copy_side;
 use pad_steps::read_from;
+
+// From so many cells on a rim is copied lane by lane sooner than coordinate by coordinate.
+const LONG_RIM: usize = 4;
+
+// Whether a rim of `count` cells is copied lane by lane: only where the cells of a lane stand side by side.
+fn lane_by_lane(s: usize, blocks: usize, count: usize) -> bool
+    ensures { λ r. ⌜ (r ≡ true → s ≡ 1) ⌝ }
+{
+    if s != 1 {
+        return false;
+    }
+    if blocks == 1 {
+        return true;
+    }
+    LONG_RIM <= count
+}
 
 // Fills `count` coordinates of the axis, those from `a` on, which are in one rim.
 fn copy_rim(
@@ -23,9 +41,8 @@ fn copy_rim(
     requires { ⌜ Runs mode p s blocks left n (length (now out)) × ((k : ℕ) → a ≤ k → k < a + count → InRim left n p k) ⌝ }
     ensures { λ _. ⌜ now (out .exit) ≡ rimSet mode p s left n a count (now (out .entry)) ⌝ }
 {
-    if out.len() == p {
-        // The grid is one lane.
-        copy_side(mode, p, left, n, a, count, out);
+    if lane_by_lane(s, blocks, count) {
+        copy_side(mode, p, blocks, left, n, a, count, out);
         return;
     }
     let mut j = 0;

@@ -13,18 +13,11 @@ use pad_rims::copy_rims;
 // About how many cells of the grid are filled together: 32 kB.
 const NEAR_CELLS: usize = 4096;
 
-// From so many coordinates on the rims are long.
-const MANY_RIMS: usize = 32;
-
-// How many blocks are filled together; `rims` coordinates of the axis are in its rims. One where these are many: the rims of a single lane are then copied in
-// one go each. Else as many as stay in the cache while one coordinate after the other is copied.
-fn few_blocks(block: usize, s: usize, rims: usize) -> usize
+// How many blocks are filled together: as many as stay in the cache while one coordinate after the other is copied.
+fn few_blocks(block: usize) -> usize
     requires { ⌜ 0 < block ⌝ }
     ensures { λ r. ⌜ 0 < r ⌝ }
 {
-    if s <= rims / MANY_RIMS {
-        return 1;
-    }
     NEAR_CELLS / block + 1
 }
 
@@ -79,7 +72,7 @@ fn copy_axis(
     let s = lanes::stride_of(padded, axis);
     let block = p * s;
     let blocks = out.len() / block;
-    let few = few_blocks(block, s, p - n);
+    let few = few_blocks(block);
     copy_blocks(mode, p, s, blocks, few, lefts[axis], n, out);
 }
 

@@ -118,7 +118,7 @@ module _ {m : Along} {p s blocks left n len : ℕ} (R : Runs m p s blocks left n
       read-own : (i : ℕ) → i < n → getD (ownOf (pos 0) p s (laneOf p s k) left n g) i (pos 0) ≡ getD g (cellAt (left + i)) (pos 0)
       read-own i h = getD-own (pos 0) p s (laneOf p s k) left n g (R .room) i h
 
-      extended-read : InRim left n p (k / s % p) → extendedAt m p s left n g k ≡ getD g (cellAt (readFrom m left n (k / s % p))) (pos 0)
+      pub extended-read : InRim left n p (k / s % p) → extendedAt m p s left n g k ≡ getD g (cellAt (readFrom m left n (k / s % p))) (pos 0)
       extended-read (inl a) =
           let c = k / s % p in
           let e = length-own (pos 0) p s (laneOf p s k) left n g (R .room) in

@@ -1,3 +1,5 @@
 -- Laws of the rims that are copied.
 pub mod CopiedRims
 pub mod Steps
+pub mod StepByStep
+pub mod LaneByLane

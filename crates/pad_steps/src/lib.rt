@@ -1,9 +1,10 @@
-// What a rim reads of its lane, and a rim of a single lane copied step by step: from one cell to the next the cell that is read moves by one step.
+// What a rim reads of its lane, and a rim of every lane of neighbouring cells copied lane by lane: from one cell of a rim to the next the cell that is read moves by
+// one step.
 ghost use mathlib.Core.Path.{_≡_};
 ghost use Prim.Native.Nat.{ℕ, _+_, _≤_, _<_};
 ghost use lib.ListN.{length};
 ghost use Rattle.pad_frame.specs.Runs.{Runs, InRim, readFrom, rimSet};
-ghost use Rattle.pad_steps.specs.Steps.{stepUp, stepDown};
+ghost use Rattle.pad_steps.specs.Steps.{StepsOf, Stepped, stepSet};
 use border::Along;
 
 // The coordinate that a coordinate in a rim reads.
@@ -24,62 +25,75 @@ pub fn read_from(mode: Along, left: usize, n: usize, p: usize, k: usize) -> usiz
     left + border::cell_after(mode, n, k + 1 - (left + n))
 }
 
-// How far on the cell is that is read for the next cell of a rim.
-fn step_up(mode: Along) -> usize
-    ensures { λ r. ⌜ r ≡ stepUp mode ⌝ }
+// Copies cells to the `count` places from `at` on. The first is the one at `from`; from one to the next the place that is read moves `up` places on and `down` back.
+fn copy_steps(up: usize, down: usize, from: usize, at: usize, count: usize, out: &mut [i64])
+    requires { ⌜ Stepped up down from at count (length (now out)) ⌝ }
+    ensures { λ _. ⌜ now (out .exit) ≡ stepSet up down from at count (now (out .entry)) ⌝ }
 {
-    match mode {
-        Along::Nearest => 0,
-        Along::Mirror => 0,
-        Along::Reflect => 0,
-        Along::Wrap => 1,
+    let mut j = 0;
+    while j < count {
+        let v = out[from + up * j - down * j];
+        let to = at + j;
+        out[to] = v;
+        j += 1;
     }
 }
 
-// How far back it is.
-fn step_down(mode: Along) -> usize
-    ensures { λ r. ⌜ r ≡ stepDown mode ⌝ }
+// Fills `count` cells of each lane, those from `a` on, by the steps of a mode. It is called with constants for these, of which the compiler makes a loop for each mode.
+fn copy_lanes(
+    mode: Along,
+    up: usize,
+    down: usize,
+    from: usize,
+    p: usize,
+    blocks: usize,
+    left: usize,
+    n: usize,
+    a: usize,
+    count: usize,
+    out: &mut [i64],
+)
+    requires { ⌜ Runs mode p 1 blocks left n (length (now out)) × ((k : ℕ) → a ≤ k → k < a + count → InRim left n p k) × (0 < count) × StepsOf mode left n a from up down ⌝ }
+    ensures { λ _. ⌜ now (out .exit) ≡ rimSet mode p 1 left n a count (now (out .entry)) ⌝ }
 {
-    match mode {
-        Along::Nearest => 0,
-        Along::Mirror => 1,
-        Along::Reflect => 1,
-        Along::Wrap => 0,
+    let mut lane = 0;
+    while lane < blocks {
+        let first = lane * p;
+        copy_steps(up, down, first + from, first + a, count, out);
+        lane += 1;
     }
 }
 
-// Fills cells of a lane that are in one rim.
+// Fills cells of one rim in every lane of a grid whose lanes stand one after the other.
 //
 // * `mode` - which cells of a lane it is extended by.
-// * `p` - the cells of the lane.
-// * `left`, `n` - where the lane's own cells start, and how many they are.
-// * `a`, `count` - the first cell that is filled, and how many are.
-// * `lane` - the lane.
+// * `p`, `blocks` - the cells of a lane, and how many lanes there are.
+// * `left`, `n` - where the lanes' own cells start, and how many they are.
+// * `a`, `count` - the first cell of a lane that is filled, and how many are.
+// * `out` - the grid.
 //
 // Supposes `Runs`, and refuses nothing. Of 9 1 2 3 9 with 3 own cells from 1 on, 1 cell from 4 on under Wrap: 9 1 2 3 1.
 pub fn copy_side(
     mode: Along,
     p: usize,
+    blocks: usize,
     left: usize,
     n: usize,
     a: usize,
     count: usize,
-    lane: &mut [i64],
+    out: &mut [i64],
 )
-    requires { ⌜ Runs mode p 1 1 left n (length (now lane)) × ((k : ℕ) → a ≤ k → k < a + count → InRim left n p k) ⌝ }
-    ensures { λ _. ⌜ now (lane .exit) ≡ rimSet mode p 1 left n a count (now (lane .entry)) ⌝ }
+    requires { ⌜ Runs mode p 1 blocks left n (length (now out)) × ((k : ℕ) → a ≤ k → k < a + count → InRim left n p k) ⌝ }
+    ensures { λ _. ⌜ now (out .exit) ≡ rimSet mode p 1 left n a count (now (out .entry)) ⌝ }
 {
     if count == 0 {
         return;
     }
-    let up = step_up(mode);
-    let down = step_down(mode);
     let from = read_from(mode, left, n, p, a);
-    let mut j = 0;
-    while j < count {
-        let v = lane[from + up * j - down * j];
-        let to = a + j;
-        lane[to] = v;
-        j += 1;
+    match mode {
+        Along::Nearest => copy_lanes(mode, 0, 0, from, p, blocks, left, n, a, count, out),
+        Along::Mirror => copy_lanes(mode, 0, 1, from, p, blocks, left, n, a, count, out),
+        Along::Reflect => copy_lanes(mode, 0, 1, from, p, blocks, left, n, a, count, out),
+        Along::Wrap => copy_lanes(mode, 1, 0, from, p, blocks, left, n, a, count, out),
     }
 }

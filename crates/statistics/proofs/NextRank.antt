@@ -1,5 +1,5 @@
--- The member after the one at place k of a sorted list, found without sorting: the same again where more than k + 1 members are at most it, else the first
--- of those that are not.
+-- A member of a sorted list by place, found without sorting: where k members are at most z, the one at place k is the first of those that are not. So the one after
+-- the member at place k is the same again where more than k + 1 members are at most it, else the first of those that are not.
 -- Assumes nothing.
 use mathlib.Core.Path.{_≡_, refl, sym, ap, subst, _∙_}
 use mathlib.Core.Bool.{Bool, true, false, not, cond}
@@ -76,7 +76,7 @@ module _ {A : Type 0} (le : A → A → Bool) (O : Total le) where
       go f (inl e) = here (le y z) (le y x) (subst (λ w. T (not (le w z))) e n) (subst (λ w. T (le w x)) e (O .itself x)) (count-mono z x ys h)
       go f (inr r) = rest (le y z) (le y x) (λ t. O .chain y z x t h) (f r)
 
-  -- ---- the member at place k + 1, from z, the one at place k
+  -- ---- the member at a place
   module _ (d : A) (l : List A) where
     ranked-within : (j : ℕ) → j < length l → (w : A) → j < atMost le w l → T (le (getD (sorted le l) j d) w)
     ranked-within j b w h = go (le (getD (sorted le l) j d) w) refl
@@ -88,6 +88,28 @@ module _ {A : Type 0} (le : A → A → Bool) (O : Total le) where
             past : atMost le w l ≤ j → ⊥
             past q = omega arith
 
+    -- the first above z, where j members are at most z, is the one at place j
+    module _ (j : ℕ) (b : j < length l) (z : A) (e : atMost le z l ≡ j) where
+      abbrev at : A
+      at = getD (sorted le l) j d
+
+      further : T (not (le at z))
+      further = go (le at z) refl
+        where
+          go : (t : Bool) → le at z ≡ t → T (not t)
+          go true q = absurd (past (rank-reached le O z d l j b (T-true q)))
+            where
+              past : j < atMost le z l → ⊥
+              past r = omega arith
+          go false q = tt
+
+      pub first-above : (top : A) → T (le at top) → leastAbove le z top l ≡ at
+      first-above top t = let m = leastAbove le z top l in
+          O .same m at
+          (every-at (λ x. T (not (le x z)) → T (le m x)) (sorted le l) d (every-sorted le (λ x. T (not (le x z)) → T (le m x)) l (above-bound z top l)) j (omega (arith, length-sorted le l)) further)
+          (above-every (λ y. T (le at y)) z top l t (every-mem _ l (λ x q n. ranked-within j b x (omega (arith, count-more z x l (O .other x z n) n q)))))
+
+    -- the member at place k + 1, from z, the one at place k
     module _ (k : ℕ) (b : k + 1 < length l) (z : A) (e : z ≡ getD (sorted le l) k d) where
       abbrev next : A
       next = getD (sorted le l) (k + 1) d
@@ -99,21 +121,7 @@ module _ {A : Type 0} (le : A → A → Bool) (O : Total le) where
       next-again h = O .same z next (subst (λ w. T (le w next)) (sym e) (ranked-within k (omega arith) next (omega (arith, rank-reached le O next d l (k + 1) b (O .itself next))))) (ranked-within (k + 1) b z h)
 
       pub next-above : (top : A) → T (le next top) → atMost le z l ≤ k + 1 → leastAbove le z top l ≡ next
-      next-above top t h = let m = leastAbove le z top l in
-          O .same m next
-          (every-at (λ x. T (not (le x z)) → T (le m x)) (sorted le l) d (every-sorted le (λ x. T (not (le x z)) → T (le m x)) l (above-bound z top l)) (k + 1) (omega (arith, length-sorted le l)) further)
-          (above-every (λ y. T (le next y)) z top l t
-          (every-mem _ l (λ x q n. ranked-within (k + 1) b x (omega (arith, reached, count-more z x l (O .other x z n) n q)))))
-        where
-          further : T (not (le next z))
-          further = go (le next z) refl
-            where
-              go : (t : Bool) → le next z ≡ t → T (not t)
-              go true q = absurd (past (rank-reached le O z d l (k + 1) b (T-true q)))
-                where
-                  past : k + 1 < atMost le z l → ⊥
-                  past r = omega arith
-              go false q = tt
+      next-above top t h = first-above (k + 1) b z (omega (arith, reached)) top t
 
 -- ---- as the machine takes the first above z at 32 bits, of a level that was read
 pub above-read : (z top : ℤ) (l : List ℤ) (i : ℕ) (m v : ℤ) {r : ℤ} → let f = past leZ z top in let x = getD l i (pos 0) in

@@ -40,9 +40,6 @@ runs c =
     let s = c .before .before .before .before .before .before in
     axis-runs (s .args .mode) (s .pre .0) (s .pre .1) (c .before .before .len-of .ensures) (c .before .len-of2 .ensures) (c .stride-of .ensures) (s .pre .2)
 
-sub-few-blocks : tie.Need-sub-few-blocks
-sub-few-blocks c = let R = runs c in omega (arith, R .room)
-
 few-blocks-requires : tie.Need-few-blocks-requires
 few-blocks-requires c κs = div-blocks c
 
@@ -73,7 +70,6 @@ copy-axis-spec =
     stride-of-requires
     mul-block
     div-blocks
-    sub-few-blocks
     few-blocks-requires
     mul-copy-blocks
     shared-slice-read-copy-blocks

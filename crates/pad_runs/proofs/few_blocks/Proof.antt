@@ -6,17 +6,14 @@ use borrow.Author.Needs.{needs}
 use Rattle.pad_runs.proofs.few_blocks.Statement.{statement}
 use Rattle.pad_runs.proofs.few_blocks.Tie as tie
 
-returns : tie.Need-returns
-returns c = search needs
-
 div-result : tie.Need-div-result
 div-result c = search needs
 
 add-result : tie.Need-add-result
-add-result c = omega (arith, div-le-self 4096 (c .before .args .block))
+add-result c = omega (arith, div-le-self 4096 (c .args .block))
 
-returns-2 : tie.Need-returns-2
-returns-2 c = search needs
+returns : tie.Need-returns
+returns c = search needs
 
 pub few-blocks-spec : {M : Type 1} → statement M
-few-blocks-spec = tie.close (tie.spec returns div-result add-result returns-2)
+few-blocks-spec = tie.close (tie.spec div-result add-result returns)

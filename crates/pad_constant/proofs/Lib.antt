@@ -1,0 +1,2 @@
+-- Laws of the gaps between the rows of a grid.
+pub mod Gaps

@@ -1,0 +1,2 @@
+-- A padded grid around its middle.
+pub mod Around
