@@ -15,7 +15,7 @@ use Rattle.numbers.proofs.Tests.{ltb-more, cond-yes}
 use Rattle.array.specs.Grid.{cellCount, coordinate}
 use Rattle.pad_levels.specs.Pads.{middleFrom}
 use Rattle.pad_frame.specs.Frame.{Framed, targetOf, rowLength}
-use Rattle.pad_frame.proofs.OneRow.{row-yes}
+use Rattle.lanes.proofs.Part.{row-yes}
 use Rattle.pad_middle.proofs.Copied.{row-middle}
 use Rattle.pad_constant.specs.Around.{gapSet, Around}
 

@@ -17,7 +17,8 @@ use Rattle.lanes.specs.Lanes.{laneOf, laneBase}
 use Rattle.lanes.proofs.Cells.{lane-of-cell, place-of-cell, base-neighbours, step-le}
 use Rattle.border.specs.declared.Along.{Along}
 use Rattle.pad_frame.specs.Runs.{Runs, InRim, readFrom, extendedAt, rimSet}
-use Rattle.pad_frame.proofs.OneRow.{onRow, row-yes, row-in, row-no, stored-over}
+use Rattle.lanes.proofs.Part.{onRow, row-yes, row-in, row-no}
+use Rattle.pad_frame.proofs.OneRow.{stored-over}
 use Rattle.pad_steps.specs.Steps.{StepsOf, Stepped, stepSet}
 use Rattle.pad_steps.proofs.CopiedRims.{some-cells, rim-off, extended-read}
 use Rattle.pad_steps.proofs.StepByStep.{steppedCell}

@@ -10,7 +10,8 @@ use lib.IntN.{ℤ, pos}
 use lib.ListN.{length, getD, set}
 use Rattle.numbers.proofs.Stored.{Stored, stored-none, stored-one, stored-then, stored-table}
 use Rattle.numbers.proofs.Tests.{cond-no}
-use Rattle.pad_frame.proofs.OneRow.{onRow, row-no, row-empty, row-longer}
+use Rattle.lanes.proofs.Part.{onRow, row-no}
+use Rattle.pad_frame.proofs.OneRow.{row-empty, row-longer}
 use Rattle.pad_steps.specs.Steps.{Stepped, stepSet}
 
 -- the cell that place k gets
