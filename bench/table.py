@@ -1,4 +1,4 @@
-"""table.py TIMES SCIPY: the table of bench/run, the slowest quotient first, and its last line."""
+"""table.py TIMES SCIPY: the table of bench/run, the slowest quotient first, and its last line. Of several times of SciPy for a case the best counts."""
 import math
 import sys
 
@@ -7,7 +7,7 @@ def main():
     scipy = {}
     for line in open(sys.argv[2]):
         name, nanoseconds = line.rstrip("\n").split("\t")
-        scipy[name] = float(nanoseconds)
+        scipy[name] = min(float(nanoseconds), scipy.get(name, math.inf))
     rows = []
     for line in open(sys.argv[1]):
         parts = line.rstrip("\n").split("\t")
