@@ -1,19 +1,19 @@
 -- Neighbouring places of a list, over any element: the n places from a place on, a part of as many cells put back there, and, where those places are a lane, the grid
 -- with that lane written. Assumes nothing.
 use mathlib.Core.Path.{_≡_, refl, sym, ap, _∙_}
-use mathlib.Core.Bool.{Bool, true, false, _&&_, cond}
+use mathlib.Core.Bool.{Bool, true, false, _&&_, _||_, cond}
 use mathlib.Core.List.{List, _++_}
 use Prim.Native.Nat.{ℕ, _+_, _-_, _*_, _/_, _%_, _≤_, _<_}
 use native.Mathlib.Nat.{le-refl, mod-lt}
 use native.Mathlib.Omega.{arith}
-use borrow.Author.Tests.{leb-true, le-leb, ltb-true, ltb-false, lt-ltb, eqb-true, eqb-false}
+use borrow.Author.Tests.{leb-true, leb-false, ne-eqb, le-leb, ltb-true, ltb-false, lt-ltb, eqb-true, eqb-false}
 use borrow.Rule.Slice.PartMut.{putMid, postOf, mid-len, same-len-mid}
 use lib.Dec.{leb, ltb, eqb}
 use lib.ListN.{length, getD, take, drop, List·getD-append}
 use lib.Seq.{getD-take, getD-drop, getD-append-add, length-take-le}
 use Rattle.numbers.proofs.Stored.{Stored, stored-table}
 use Rattle.numbers.proofs.Tabulate.{tabulate-agree}
-use Rattle.numbers.proofs.Tests.{and-true, cond-no}
+use Rattle.numbers.proofs.Tests.{and-true, cond-no, ltb-more}
 use Rattle.lanes.specs.Lanes.{laneOf, laneBase, withLane}
 use Rattle.lanes.proofs.Cells.{lane-of-cell, cell-of-lane, base-neighbours}
 
@@ -33,6 +33,20 @@ row-no at n k h = go (onRow at n k) refl
     go : (t : Bool) → onRow at n k ≡ t → t ≡ false
     go true e = absurd (h (row-in at n k e .0) (row-in at n k e .1))
     go false e = refl
+
+-- one place more
+pub row-empty : (at k : ℕ) → onRow at 0 k ≡ false
+row-empty at k = row-no at 0 k (λ h l. omega arith)
+
+pub row-longer : (at n k : ℕ) → onRow at (n + 1) k ≡ eqb k (at + n) || onRow at n k
+row-longer at n k = ap (λ x. leb at k && ltb k x) (one at n) ∙ ap (λ t. leb at k && t) (ltb-more k (at + n)) ∙ go (leb at k) refl
+  where
+    one : (at n : ℕ) → at + (n + 1) ≡ at + n + 1
+    one at n = omega arith
+
+    go : (t : Bool) → leb at k ≡ t → t && (eqb k (at + n) || ltb k (at + n)) ≡ eqb k (at + n) || (t && ltb k (at + n))
+    go true e = refl
+    go false e = ap (λ t. t || false) (sym (ne-eqb k (at + n) (λ z. omega (arith, leb-false at k e))))
 
 -- ---- a part put back: the places from a on hold it
 pub part-put : {A : Type 0} (d : A) (a n : ℕ) (g part : List A) → a + n ≤ length g → length part ≡ n → Stored d (onRow a n) (λ k. getD part (k - a) d) g (putMid a (a + n - a) g part)

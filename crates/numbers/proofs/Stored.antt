@@ -98,3 +98,15 @@ module _ {A : Type 0} (d : A) (f : ℕ → A) where
       at : (k : ℕ) (t : Bool) → ltb k n ≡ t → getD l k d ≡ cond t (f k) (getD l k d)
       at k true e = h k (ltb-true k n e)
       at k false e = refl
+
+-- ---- stores over stores: where the later ones agree with what belongs there, and elsewhere nothing new is stored
+pub stored-over : {A : Type 0} (d : A) (P Q R : ℕ → Bool) (f g : ℕ → A) {l₀ l₁ l₂ : List A} → Stored d P g l₀ l₁ → Stored d Q f l₁ l₂
+    → ((k : ℕ) → k < length l₀ → Q k ≡ true → (R k ≡ true) × (f k ≡ g k)) → ((k : ℕ) → k < length l₀ → Q k ≡ false → R k ≡ P k) → Stored d R g l₀ l₂
+stored-over d P Q R f g {l₀} {l₁} {l₂} S U on off = record {
+  kept = U .kept ∙ S .kept;
+  cells = λ k b. U .cells k (omega (arith, S .kept)) ∙ at k b (Q k) refl;
+}
+  where
+    at : (k : ℕ) → k < length l₀ → (t : Bool) → Q k ≡ t → cond t (f k) (getD l₁ k d) ≡ cond (R k) (g k) (getD l₀ k d)
+    at k b true e = on k b e .1 ∙ sym (ap (λ t. cond t (g k) (getD l₀ k d)) (on k b e .0))
+    at k b false e = S .cells k b ∙ sym (ap (λ t. cond t (g k) (getD l₀ k d)) (off k b e))

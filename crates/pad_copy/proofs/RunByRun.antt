@@ -12,7 +12,7 @@ use lib.Arith.{digits-div, digits-mod}
 use lib.Dec.{ltb, eqb}
 use lib.IntN.{ℤ, pos}
 use lib.ListN.{length, getD, set}
-use Rattle.numbers.proofs.Stored.{Stored, stored-none, stored-table, table-stored}
+use Rattle.numbers.proofs.Stored.{Stored, stored-none, stored-table, table-stored, stored-over}
 use Rattle.numbers.proofs.Tabulate.{tabulate-agree}
 use Rattle.numbers.proofs.Tests.{and-true, cond-no}
 use Rattle.lanes.specs.Lanes.{laneOf, laneBase}
@@ -20,7 +20,7 @@ use Rattle.lanes.proofs.Cells.{lane-of-cell, place-of-cell, cell-of-lane, base-
 use Rattle.lanes.proofs.Part.{onRow, row-yes, row-in, row-no}
 use Rattle.pad_frame.specs.Frame.{rowSet}
 use Rattle.pad_frame.specs.Runs.{coordinateSet}
-use Rattle.pad_frame.proofs.OneRow.{cellOn, RowStored, row-none, row-more, row-all, stored-over}
+use Rattle.pad_frame.proofs.OneRow.{cellOn, RowStored, row-none, row-more, row-all}
 
 -- ---- one run, cell by cell, within one grid: a cell that is read was not stored
 pub run-more : {from at count j : ℕ} {out₀ out : List ℤ} (v : ℤ) → j < count → from + count ≤ length out₀ → at + count ≤ length out₀ → (from + count ≤ at) ⊎ (at + count ≤ from)

@@ -2,6 +2,7 @@
 pub mod Padded
 pub mod Reach
 pub mod Rims
+pub mod RimSteps
 pub mod From
 pub mod Serves
 pub mod Sizes

@@ -42,32 +42,21 @@ filled-more : {A : Type 0} {d : A} {b : Border A} {left n : ℕ} {l₀ l : List 
     → k < length l₀ → Filled d b left n l₀ l k → v ≡ levelAt d b left n l₀ k → Filled d b left n l₀ (set l k v) (k + 1)
 filled-more {d = d} {b} {left} {n} {l₀} v h F e = record { stored = front-more d (levelAt d b left n l₀) v h (F .stored) e }
 
--- ---- the middle is never changed
-pub middle-kept : {A : Type 0} {d : A} {b : Border A} {left n : ℕ} {l₀ l : List A} {k : ℕ} → Filled d b left n l₀ l k → left + n ≤ length l₀
-    → (i : ℕ) → i < n → getD l (left + i) d ≡ getD (middle left n l₀) i d
-middle-kept {d = d} {b} {left} {n} {l₀} {l} {k} F room i h = F .stored .cells (left + i) (omega arith) ∙ go (ltb (left + i) k)
-  where
-    go : (t : Bool) → cond t (levelAt d b left n l₀ (left + i)) (getD l₀ (left + i) d) ≡ getD (middle left n l₀) i d
-    go true = padded-inside d left (middle left n l₀) b i (omega (arith, length-middle left n l₀ room))
-    go false = getD-middle d left n l₀ i h
+-- ---- the cell of the lane that belongs at a place of either rim
+module _ {A : Type 0} (d : A) (m : Along) (left n : ℕ) (l : List A) (room : left + n ≤ length l) (k : ℕ) where
+  pub level-before : k < left → cellBefore m n (left - k) < n → getD l (left + cellBefore m n (left - k)) d ≡ levelAt d (along m) left n l k
+  level-before b h =
+      getD-middle d left n l (cellBefore m n (left - k)) h
+      ∙ ap (λ (j : ℕ). getD (middle left n l) (cellBefore m j (left - k)) d) (sym (length-middle left n l room))
+      ∙ sym (padded-before d left (middle left n l) m k b)
 
--- ---- one place more, of either rim: cell r of the lane, or the constant
-module _ {A : Type 0} {d : A} {m : Along} {left n : ℕ} {l₀ l : List A} {k : ℕ} (F : Filled d (along m) left n l₀ l k) (room : left + n ≤ length l₀) where
-  pub before-more : {r : ℕ} (v : A) → k < left → r ≡ cellBefore m n (left - k) → r < n → v ≡ getD l (left + r) d → Filled d (along m) left n l₀ (set l k v) (k + 1)
-  before-more {r} v b e h q =
-      filled-more v (omega arith) F
-      (q ∙ middle-kept F room r h ∙ (λ j. getD (middle left n l₀) (e j) d)
-      ∙ ap (λ (j : ℕ). getD (middle left n l₀) (cellBefore m j (left - k)) d) (sym (length-middle left n l₀ room))
-      ∙ sym (padded-before d left (middle left n l₀) m k b))
+  pub level-after : left + n ≤ k → cellAfter m n (k + 1 - (left + n)) < n → getD l (left + cellAfter m n (k + 1 - (left + n))) d ≡ levelAt d (along m) left n l k
+  level-after b h =
+      getD-middle d left n l (cellAfter m n (k + 1 - (left + n))) h
+      ∙ ap (λ (j : ℕ). getD (middle left n l) (cellAfter m j (k + 1 - (left + j))) d) (sym (length-middle left n l room))
+      ∙ sym (padded-after d left (middle left n l) m k (omega (arith, length-middle left n l room)))
 
-  pub after-more : {r : ℕ} (v : A) → left + n ≤ k → k < length l₀ → r ≡ cellAfter m n (k + 1 - (left + n)) → r < n → v ≡ getD l (left + r) d
-      → Filled d (along m) left n l₀ (set l k v) (k + 1)
-  after-more {r} v b f e h q =
-      filled-more v f F
-      (q ∙ middle-kept F room r h ∙ (λ j. getD (middle left n l₀) (e j) d)
-      ∙ ap (λ (j : ℕ). getD (middle left n l₀) (cellAfter m j (k + 1 - (left + j))) d) (sym (length-middle left n l₀ room))
-      ∙ sym (padded-after d left (middle left n l₀) m k (omega (arith, length-middle left n l₀ room))))
-
+-- ---- one place more of either rim, under a constant
 module _ {A : Type 0} {d c : A} {left n : ℕ} {l₀ l : List A} {k : ℕ} (F : Filled d (constant c) left n l₀ l k) (room : left + n ≤ length l₀) where
   pub before-constant : (v : A) → k < left → v ≡ c → Filled d (constant c) left n l₀ (set l k v) (k + 1)
   before-constant v b q = filled-more v (omega arith) F (q ∙ constant-before d left (middle left n l₀) c k b)

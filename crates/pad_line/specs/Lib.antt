@@ -1,3 +1,4 @@
 -- The padded line of a lane.
 pub mod Line
+pub mod Rims
 pub mod Rows

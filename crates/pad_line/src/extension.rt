@@ -6,9 +6,11 @@ ghost use lib.IntN.{pos};
 ghost use lib.ListN.{length};
 ghost use Rattle.border.specs.Border.{constant, along};
 ghost use Rattle.border.specs.Modes.{borderOf};
-ghost use Rattle.pad_line.specs.Line.{badAlong, badPad, padMiddle};
+ghost use Rattle.pad_line.specs.Line.{badPad, padMiddle};
+ghost use Rattle.pad_line.specs.Rims.{Rimmed};
 use border::Along;
 use border::BorderMode;
+use steps::copy_steps;
 
 // Extends the n cells of the line from place left on by a constant level.
 fn extend_constant(c: i64, left: usize, n: usize, right: usize, line: &mut [i64])
@@ -28,27 +30,24 @@ fn extend_constant(c: i64, left: usize, n: usize, right: usize, line: &mut [i64]
     }
 }
 
-// Extends the n cells of the line from place left on by cells among them.
-fn extend_along(mode: Along, left: usize, n: usize, right: usize, line: &mut [i64])
-    requires { ⌜ (0 < n) × (left + n + right ≤ length (now line)) × (badAlong mode n left ≡ false) × (badAlong mode n right ≡ false) ⌝ }
+// Extends the n cells of the line from place left on by cells among them: each rim is copied by the steps of the border. It is called with constants for these, of which
+// the compiler makes a loop for each border.
+fn extend_along(
+    mode: Along,
+    up: usize,
+    down: usize,
+    left: usize,
+    n: usize,
+    right: usize,
+    line: &mut [i64],
+)
+    requires { ⌜ Rimmed mode up down left n right (length (now line)) ⌝ }
     ensures { λ _. ⌜ now (line .exit) ≡ padMiddle (pos 0) (along mode) left n right (now (line .entry)) ⌝ }
 {
-    let mut k = 0;
-    while k < left {
-        let at = left + border::cell_before(mode, n, left - k);
-        let v = line[at];
-        line[k] = v;
-        k += 1;
-    }
-    let e = left + n;
-    let end = e + right;
-    let mut j = e;
-    while j < end {
-        let at = left + border::cell_after(mode, n, j + 1 - e);
-        let v = line[at];
-        line[j] = v;
-        j += 1;
-    }
+    let before = left + border::cell_before(mode, n, left);
+    copy_steps(up, down, before, 0, left, line);
+    let after = left + border::cell_after(mode, n, 1);
+    copy_steps(up, down, after, left + n, right, line);
 }
 
 // Extends the n cells of the line from place left on by the border.
@@ -58,9 +57,9 @@ pub(crate) fn extend(mode: BorderMode, left: usize, n: usize, right: usize, line
 {
     match mode {
         BorderMode::Constant(c) => extend_constant(c, left, n, right, line),
-        BorderMode::Mirror => extend_along(Along::Mirror, left, n, right, line),
-        BorderMode::Nearest => extend_along(Along::Nearest, left, n, right, line),
-        BorderMode::Reflect => extend_along(Along::Reflect, left, n, right, line),
-        BorderMode::Wrap => extend_along(Along::Wrap, left, n, right, line),
+        BorderMode::Mirror => extend_along(Along::Mirror, 0, 1, left, n, right, line),
+        BorderMode::Nearest => extend_along(Along::Nearest, 0, 0, left, n, right, line),
+        BorderMode::Reflect => extend_along(Along::Reflect, 0, 1, left, n, right, line),
+        BorderMode::Wrap => extend_along(Along::Wrap, 1, 0, left, n, right, line),
     }
 }

@@ -6,9 +6,11 @@ ghost use lib.Ieee.{nan};
 ghost use lib.ListN.{length};
 ghost use Rattle.border.specs.Border.{constant, along};
 ghost use Rattle.border.specs.Modes.{borderOfF64};
-ghost use Rattle.pad_line.specs.Line.{badAlong, badPad, padMiddle};
+ghost use Rattle.pad_line.specs.Line.{badPad, padMiddle};
+ghost use Rattle.pad_line.specs.Rims.{Rimmed};
 use border::Along;
 use border::BorderModeF64;
+use steps::copy_steps_f64;
 
 fn extend_constant_f64(c: f64, left: usize, n: usize, right: usize, line: &mut [f64])
     requires { ⌜ left + n + right ≤ length (now line) ⌝ }
@@ -27,26 +29,22 @@ fn extend_constant_f64(c: f64, left: usize, n: usize, right: usize, line: &mut [
     }
 }
 
-fn extend_along_f64(mode: Along, left: usize, n: usize, right: usize, line: &mut [f64])
-    requires { ⌜ (0 < n) × (left + n + right ≤ length (now line)) × (badAlong mode n left ≡ false) × (badAlong mode n right ≡ false) ⌝ }
+fn extend_along_f64(
+    mode: Along,
+    up: usize,
+    down: usize,
+    left: usize,
+    n: usize,
+    right: usize,
+    line: &mut [f64],
+)
+    requires { ⌜ Rimmed mode up down left n right (length (now line)) ⌝ }
     ensures { λ _. ⌜ now (line .exit) ≡ padMiddle nan (along mode) left n right (now (line .entry)) ⌝ }
 {
-    let mut k = 0;
-    while k < left {
-        let at = left + border::cell_before(mode, n, left - k);
-        let v = line[at];
-        line[k] = v;
-        k += 1;
-    }
-    let e = left + n;
-    let end = e + right;
-    let mut j = e;
-    while j < end {
-        let at = left + border::cell_after(mode, n, j + 1 - e);
-        let v = line[at];
-        line[j] = v;
-        j += 1;
-    }
+    let before = left + border::cell_before(mode, n, left);
+    copy_steps_f64(up, down, before, 0, left, line);
+    let after = left + border::cell_after(mode, n, 1);
+    copy_steps_f64(up, down, after, left + n, right, line);
 }
 
 pub(crate) fn extend_f64(mode: BorderModeF64, left: usize, n: usize, right: usize, line: &mut [f64])
@@ -55,9 +53,9 @@ pub(crate) fn extend_f64(mode: BorderModeF64, left: usize, n: usize, right: usiz
 {
     match mode {
         BorderModeF64::Constant(c) => extend_constant_f64(c, left, n, right, line),
-        BorderModeF64::Mirror => extend_along_f64(Along::Mirror, left, n, right, line),
-        BorderModeF64::Nearest => extend_along_f64(Along::Nearest, left, n, right, line),
-        BorderModeF64::Reflect => extend_along_f64(Along::Reflect, left, n, right, line),
-        BorderModeF64::Wrap => extend_along_f64(Along::Wrap, left, n, right, line),
+        BorderModeF64::Mirror => extend_along_f64(Along::Mirror, 0, 1, left, n, right, line),
+        BorderModeF64::Nearest => extend_along_f64(Along::Nearest, 0, 0, left, n, right, line),
+        BorderModeF64::Reflect => extend_along_f64(Along::Reflect, 0, 1, left, n, right, line),
+        BorderModeF64::Wrap => extend_along_f64(Along::Wrap, 1, 0, left, n, right, line),
     }
 }

@@ -10,7 +10,7 @@ use borrow.Author.Tests.{ltb-true, ltb-false, lt-ltb, le-ltb}
 use lib.Dec.{ltb}
 use lib.IntN.{ℤ, pos}
 use lib.ListN.{length, getD}
-use Rattle.numbers.proofs.Stored.{Stored, stored-none, stored-table, table-stored}
+use Rattle.numbers.proofs.Stored.{Stored, stored-none, stored-table, table-stored, stored-over}
 use Rattle.numbers.proofs.Tabulate.{tabulate-agree}
 use Rattle.array.specs.Grid.{cellCount, coordinate}
 use Rattle.array.proofs.Places.{length-pos}
@@ -21,7 +21,7 @@ use Rattle.lanes.proofs.Part.{onRow, row-yes, row-in}
 use Rattle.pad_levels.specs.Pads.{middleFrom}
 use Rattle.pad_frame.specs.Frame.{Framed, targetOf, rowLength, rowSet, middleSet}
 use Rattle.pad_frame.proofs.Room.{grid-accepted}
-use Rattle.pad_frame.proofs.OneRow.{cellOn, stored-over}
+use Rattle.pad_frame.proofs.OneRow.{cellOn}
 use Rattle.pad_middle.proofs.Targets.{sourceOf, target-lt, target-middle, source-target, source-lt, target-source}
 use Rattle.pad_middle.proofs.Row.{target-row}
 

@@ -12,7 +12,7 @@ use lib.Dec.{ltb}
 use lib.IntN.{ℤ, pos}
 use lib.ListN.{length, getD, drop}
 use lib.Seq.{getD-take, getD-drop, ext-getD}
-use Rattle.numbers.proofs.Stored.{Stored, stored-none, stored-all}
+use Rattle.numbers.proofs.Stored.{Stored, stored-none, stored-all, stored-over}
 use Rattle.numbers.proofs.Tabulate.{length-tabulate, getD-tabulate}
 use Rattle.numbers.proofs.Tests.{cond-no}
 use Rattle.lanes.specs.Lanes.{laneOf, laneBase}
@@ -23,7 +23,6 @@ use Rattle.border.specs.declared.Along.{Along}
 use Rattle.pad_line.specs.Line.{paddedAt}
 use Rattle.pad_axis.proofs.Rims.{ownOf, length-own, getD-own}
 use Rattle.pad_frame.specs.Runs.{Runs, extendedAt, axisSet}
-use Rattle.pad_frame.proofs.OneRow.{stored-over}
 use Rattle.pad_steps.proofs.CopiedRims.{some-cells, cell-in}
 
 -- ---- places of a part that starts after i blocks

@@ -13,12 +13,12 @@ use lib.Dec.{ltb, eqb}
 use lib.IntN.{ℤ, pos}
 use lib.ListN.{length, getD}
 use lib.Seq.{ext-getD}
-use Rattle.numbers.proofs.Stored.{Stored, stored-none, stored-table, table-stored}
+use Rattle.numbers.proofs.Stored.{Stored, stored-none, stored-table, table-stored, stored-over}
 use Rattle.numbers.proofs.Tabulate.{tabulate-unique}
 use Rattle.numbers.proofs.Tests.{cond-yes, cond-no}
 use Rattle.lanes.specs.Lanes.{laneOf, laneBase}
 use Rattle.lanes.proofs.Cells.{lane-of-cell, place-of-cell, cell-of-lane, base-of, step-le}
-use Rattle.lanes.proofs.Part.{onRow, row-yes, row-no}
+use Rattle.lanes.proofs.Part.{onRow, row-yes, row-no, row-empty, row-longer}
 use Rattle.border.specs.Border.{along, cellBefore, cellAfter}
 use Rattle.border.specs.declared.Along.{Along}
 use Rattle.border.specs.declared.Along.the-variants.{Nearest, Mirror, Reflect, Wrap}
@@ -27,7 +27,6 @@ use Rattle.pad_line.proofs.Padded.{padded-inside, padded-before, padded-after}
 use Rattle.pad_line.proofs.Reach.{cell-before-in, cell-after-in}
 use Rattle.pad_axis.proofs.Rims.{ownOf, length-own, getD-own}
 use Rattle.pad_frame.specs.Runs.{Runs, InRim, readFrom, coordinateSet, extendedAt, rimSet, axisSet}
-use Rattle.pad_frame.proofs.OneRow.{row-empty, row-longer, stored-over}
 use Rattle.pad_copy.proofs.RunByRun.{cellFrom}
 
 -- ---- a coordinate in a rim

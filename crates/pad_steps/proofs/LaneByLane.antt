@@ -10,7 +10,7 @@ use borrow.Author.Tests.{ltb-true, ltb-false, lt-ltb, le-ltb}
 use lib.Dec.{ltb}
 use lib.IntN.{ℤ, pos}
 use lib.ListN.{length, getD}
-use Rattle.numbers.proofs.Stored.{Stored, stored-none, stored-table, table-stored}
+use Rattle.numbers.proofs.Stored.{Stored, stored-none, stored-table, stored-over}
 use Rattle.numbers.proofs.Tabulate.{tabulate-agree}
 use Rattle.numbers.proofs.Tests.{cond-no}
 use Rattle.lanes.specs.Lanes.{laneOf, laneBase}
@@ -18,11 +18,11 @@ use Rattle.lanes.proofs.Cells.{lane-of-cell, place-of-cell, base-neighbours, st
 use Rattle.border.specs.declared.Along.{Along}
 use Rattle.pad_frame.specs.Runs.{Runs, InRim, readFrom, extendedAt, rimSet}
 use Rattle.lanes.proofs.Part.{onRow, row-yes, row-in, row-no}
-use Rattle.pad_frame.proofs.OneRow.{stored-over}
-use Rattle.pad_steps.specs.Steps.{StepsOf, Stepped, stepSet}
+use Rattle.steps.specs.Steps.{Stepped, stepSet}
+use Rattle.steps.proofs.StepByStep.{steppedCell, set-stored}
+use Rattle.pad_steps.specs.Steps.{StepsOf}
 use Rattle.pad_steps.proofs.CopiedRims.{some-cells, rim-off, extended-read}
-use Rattle.pad_steps.proofs.StepByStep.{steppedCell}
-use Rattle.pad_steps.proofs.Steps.{on-one, back-one, step-at, step-in, side-below}
+use Rattle.pad_steps.proofs.Steps.{step-at, step-in, step-ahead, side-below}
 
 -- whether place k is in the first i lanes, at one of the count coordinates from a on
 abbrev inLanes : ℕ → ℕ → ℕ → ℕ → ℕ → Bool
@@ -74,13 +74,10 @@ module _ {m : Along} {p blocks left n a : ℕ} (count : ℕ) (g₀ : List ℤ) (
 
     pub lane-stepped : {g : List ℤ} → LanesStored m p left n a count g₀ g i → Stepped up down (i * p + from) (i * p + a) count (length g)
     lane-stepped S = record {
-      one-on = on-one W;
-      one-back = back-one W;
+      ahead = λ j l. omega (arith, step-ahead W R rims j l, R .room, lane-in, S .stored .kept);
       behind = λ j l. omega (arith, step-at W R rims j l);
-      reads = λ j l. omega (arith, read-place j l, step-in W R rims j l .1, R .room, lane-in, S .stored .kept);
       kept = λ j l lo hi. rim-off n (rims (readFrom m left n (a + j)) (omega (arith, read-place j l)) (omega (arith, read-place j l))) (step-in W R rims j l .0) (step-in W R rims j l .1);
       stores = λ j l. omega (arith, side-below W R rims j l, lane-in, S .stored .kept);
-      small = omega (arith, S .stored .kept, R .small);
     }
 
     -- one lane more
@@ -111,7 +108,7 @@ module _ {m : Along} {p blocks left n a : ℕ} (count : ℕ) (g₀ : List ℤ) (
             on : onRow a count (k / 1 % p) ≡ true
             on = ap (onRow a count) (cell-coordinate p i at below place) ∙ row-yes a count at (omega arith) (omega (arith, turn))
 
-        same : steppedCell up down (i * p + from) to g k ≡ extendedAt m p 1 left n g₀ k
+        same : steppedCell (pos 0) up down (i * p + from) to g k ≡ extendedAt m p 1 left n g₀ k
         same = let r = readFrom m left n at in
             let M = step-in W R rims (k - to) turn in
             let b : k < length g₀ = omega (arith, place, below, lane-in) in
@@ -138,11 +135,10 @@ module _ {m : Along} {p blocks left n a : ℕ} (count : ℕ) (g₀ : List ℤ) (
               let w = row-in a count (k / 1 % p) z in
               absurd (true≢false (sym (row-yes to count k (omega (arith, c, w .0)) (omega (arith, c, w .1))) ∙ q))
 
-      pub lanes-more : {new : List ℤ} → new ≡ stepSet up down (i * p + from) (i * p + a) count g → LanesStored m p left n a count g₀ new (i + 1)
-      unfolding stepSet
+      pub lanes-more : {new : List ℤ} → new ≡ stepSet (pos 0) up down (i * p + from) (i * p + a) count g → LanesStored m p left n a count g₀ new (i + 1)
       lanes-more {new} r = record {
         stored =
-            stored-over (pos 0) (inLanes p a count i) (onRow to count) (inLanes p a count (i + 1)) (steppedCell up down (i * p + from) to g) (extendedAt m p 1 left n g₀) (S .stored)
-            (table-stored (pos 0) (steppedCell up down (i * p + from) to g) (onRow to count) g new r)
+            stored-over (pos 0) (inLanes p a count i) (onRow to count) (inLanes p a count (i + 1)) (steppedCell (pos 0) up down (i * p + from) to g) (extendedAt m p 1 left n g₀) (S .stored)
+            (set-stored (pos 0) up down (i * p + from) to count g new r)
             (λ k b q. (hit k q, same k q)) (λ k b q. miss k q);
       }

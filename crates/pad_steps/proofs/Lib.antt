@@ -1,5 +1,4 @@
 -- Laws of the rims that are copied.
 pub mod CopiedRims
 pub mod Steps
-pub mod StepByStep
 pub mod LaneByLane

@@ -14,33 +14,10 @@ use Rattle.border.specs.declared.Along.{Along}
 use Rattle.border.specs.declared.Along.the-variants.{Nearest, Mirror, Reflect, Wrap}
 use Rattle.pad_line.specs.Line.{badAlong}
 use Rattle.pad_frame.specs.Runs.{Runs, InRim, readFrom}
-use Rattle.pad_steps.specs.Steps.{stepUp, stepDown, StepsOf}
+use Rattle.steps.specs.Steps.{stepUp, stepDown}
+use Rattle.pad_line.proofs.RimSteps.{before-steps, after-steps, one-way}
+use Rattle.pad_steps.specs.Steps.{StepsOf}
 use Rattle.pad_steps.proofs.CopiedRims.{rim-below, rim-off, read-middle}
-
-up-one : (m : Along) → stepUp m ≤ 1
-up-one Nearest = omega arith
-up-one Mirror = omega arith
-up-one Reflect = omega arith
-up-one Wrap = omega arith
-
-down-one : (m : Along) → stepDown m ≤ 1
-down-one Nearest = omega arith
-down-one Mirror = omega arith
-down-one Reflect = omega arith
-down-one Wrap = omega arith
-
-before-steps : (m : Along) (left n a j : ℕ) → a + j < left → badAlong m n left ≡ false → left + cellBefore m n (left - a) + stepUp m * j ≡ left + cellBefore m n (left - (a + j)) + stepDown m * j
-before-steps Nearest left n a j h b = omega arith
-before-steps Mirror left n a j h b = omega arith
-before-steps Reflect left n a j h b = omega arith
-before-steps Wrap left n a j h b = omega (arith, ltb-false n left b)
-
-after-steps : (m : Along) (left n right a j : ℕ) → 0 < n → left + n ≤ a → a + j + 1 - (left + n) ≤ right → badAlong m n right ≡ false
-    → left + cellAfter m n (a + 1 - (left + n)) + stepUp m * j ≡ left + cellAfter m n (a + j + 1 - (left + n)) + stepDown m * j
-after-steps Nearest left n right a j z h l b = omega arith
-after-steps Mirror left n right a j z h l b = omega (arith, ltb-false (n - 1) right b)
-after-steps Reflect left n right a j z h l b = omega (arith, ltb-false n right b)
-after-steps Wrap left n right a j z h l b = omega arith
 
 module _ {m : Along} {p s blocks left n len : ℕ} (R : Runs m p s blocks left n len) where
   at-before : {k : ℕ} → k < left → readFrom m left n k ≡ left + cellBefore m n (left - k)
@@ -63,18 +40,19 @@ module _ {m : Along} {p s blocks left n len : ℕ} (R : Runs m p s blocks left n
 
 -- ---- the place that is read is up and down steps from the first one
 module _ {m : Along} {left n a from up down : ℕ} (S : StepsOf m left n a from up down) where
-  pub on-one : up ≤ 1
-  on-one = omega (arith, S .on, up-one m)
-
-  pub back-one : down ≤ 1
-  back-one = omega (arith, S .back, down-one m)
-
   module _ {p s blocks len count : ℕ} (R : Runs m p s blocks left n len) (rims : (k : ℕ) → a ≤ k → k < a + count → InRim left n p k) (j : ℕ) (h : j < count) where
     pub step-at : from + up * j ≡ readFrom m left n (a + j) + down * j
     step-at = (λ i. S .first i + S .on i * j) ∙ read-steps R a j (λ k lo hi. rims k lo (omega arith)) ∙ (λ i. readFrom m left n (a + j) + sym (S .back) i * j)
 
     pub step-in : (left ≤ readFrom m left n (a + j)) × (readFrom m left n (a + j) < left + n)
     step-in = read-middle R (rims (a + j) (omega arith) (omega arith))
+
+    pub step-ahead : from + up * j < left + n
+    step-ahead =
+        omega (arith, ap (λ x. x * j) (S .on), one-way m from (readFrom m left n (a + j)) j (left + n) (ap (λ x. from + x * j) (sym (S .on)) ∙ step-at ∙ ap (λ x. readFrom m left n (a + j) + x * j) (S .back)) start (step-in .1))
+      where
+        start : from < left + n
+        start = omega (arith, S .first, read-middle R (rims a (omega arith) (omega arith)) .1)
 
     pub side-below : a + j < p
     side-below = rim-below n (rims (a + j) (omega arith) (omega arith)) (R .room)

@@ -4,8 +4,9 @@ ghost use mathlib.Core.Path.{_≡_};
 ghost use Prim.Native.Nat.{ℕ, _+_, _≤_, _<_};
 ghost use lib.ListN.{length};
 ghost use Rattle.pad_frame.specs.Runs.{Runs, InRim, readFrom, rimSet};
-ghost use Rattle.pad_steps.specs.Steps.{StepsOf, Stepped, stepSet};
+ghost use Rattle.pad_steps.specs.Steps.{StepsOf};
 use border::Along;
+use steps::copy_steps;
 
 // The coordinate that a coordinate in a rim reads.
 //
@@ -23,20 +24,6 @@ pub fn read_from(mode: Along, left: usize, n: usize, p: usize, k: usize) -> usiz
         return left + border::cell_before(mode, n, left - k);
     }
     left + border::cell_after(mode, n, k + 1 - (left + n))
-}
-
-// Copies cells to the `count` places from `at` on. The first is the one at `from`; from one to the next the place that is read moves `up` places on and `down` back.
-fn copy_steps(up: usize, down: usize, from: usize, at: usize, count: usize, out: &mut [i64])
-    requires { ⌜ Stepped up down from at count (length (now out)) ⌝ }
-    ensures { λ _. ⌜ now (out .exit) ≡ stepSet up down from at count (now (out .entry)) ⌝ }
-{
-    let mut j = 0;
-    while j < count {
-        let v = out[from + up * j - down * j];
-        let to = at + j;
-        out[to] = v;
-        j += 1;
-    }
 }
 
 // Fills `count` cells of each lane, those from `a` on, by the steps of a mode. It is called with constants for these, of which the compiler makes a loop for each mode.

@@ -4,7 +4,8 @@ use mathlib.Core.Path.{_≡_, sym, ap}
 use Prim.Native.Nat.{_≤_, _<_}
 use native.Mathlib.Omega.{arith}
 use Rattle.border.specs.declared.Along.{Along}
-use Rattle.pad_steps.specs.Steps.{stepUp, stepDown, StepsOf}
+use Rattle.steps.specs.Steps.{stepUp, stepDown}
+use Rattle.pad_steps.specs.Steps.{StepsOf}
 use Rattle.pad_steps.proofs.CopiedRims.{rim-none, rim-all}
 use borrow.Author.Needs.{needs}
 use Rattle.pad_steps.proofs.copy_side.Statement.{statement}

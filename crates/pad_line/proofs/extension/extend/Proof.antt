@@ -7,7 +7,9 @@ use lib.IntN.{ℤ, pos}
 use mir.Syntax.{w64}
 use mir.Val.{toZ, ofZ}
 use Rattle.border.specs.Border.{constant}
+use Rattle.border.specs.declared.Along.the-variants.{Nearest, Mirror, Reflect, Wrap}
 use Rattle.pad_line.specs.Line.{padMiddle}
+use Rattle.pad_line.proofs.RimSteps.{rimmed}
 use Rattle.pad_line.proofs.extension.extend.Statement.{statement}
 use Rattle.pad_line.proofs.extension.extend.Tie as tie
 
@@ -21,25 +23,25 @@ enum-told : tie.Need-enum-told
 enum-told c = search needs
 
 extend-along-requires : tie.Need-extend-along-requires
-extend-along-requires c κs = rw (c .before .enum-told .given .1) at (c .before .before .before .pre)
+extend-along-requires c κs = rimmed Mirror (rw (c .before .enum-told .given .1) at (c .before .before .before .pre))
 
 enum-told-2 : tie.Need-enum-told-2
 enum-told-2 c = search needs
 
 extend-along-requires-2 : tie.Need-extend-along-requires-2
-extend-along-requires-2 c κs = search needs
+extend-along-requires-2 c κs = rimmed Nearest (rw (c .before .enum-told2 .given .1) at (c .before .before .before .pre))
 
 enum-told-3 : tie.Need-enum-told-3
 enum-told-3 c = search needs
 
 extend-along-requires-3 : tie.Need-extend-along-requires-3
-extend-along-requires-3 c κs = rw (c .before .enum-told3 .given .1) at (c .before .before .before .pre)
+extend-along-requires-3 c κs = rimmed Reflect (rw (c .before .enum-told3 .given .1) at (c .before .before .before .pre))
 
 enum-told-4 : tie.Need-enum-told-4
 enum-told-4 c = search needs
 
 extend-along-requires-4 : tie.Need-extend-along-requires-4
-extend-along-requires-4 c κs = rw (c .before .enum-told4 .given .1) at (c .before .before .before .pre)
+extend-along-requires-4 c κs = rimmed Wrap (rw (c .before .enum-told4 .given .1) at (c .before .before .before .pre))
 
 same-length : tie.Need-same-length
 same-length c = search needs

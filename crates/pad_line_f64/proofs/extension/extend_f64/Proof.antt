@@ -1,6 +1,8 @@
 -- `pad_line_f64::extension::extend_f64` meets its contract: each arm is what the constant's or the cells' extension ensures.
 -- Assumes nothing.
 use borrow.Author.Needs.{needs}
+use Rattle.border.specs.declared.Along.the-variants.{Nearest, Mirror, Reflect, Wrap}
+use Rattle.pad_line.proofs.RimSteps.{rimmed}
 use Rattle.pad_line_f64.proofs.extension.extend_f64.Statement.{statement}
 use Rattle.pad_line_f64.proofs.extension.extend_f64.Tie as tie
 
@@ -14,25 +16,25 @@ enum-told : tie.Need-enum-told
 enum-told c = search needs
 
 extend-along-f64-requires : tie.Need-extend-along-f64-requires
-extend-along-f64-requires c κs = rw (c .before .enum-told .given .1) at (c .before .before .before .before .pre)
+extend-along-f64-requires c κs = rimmed Mirror (rw (c .before .enum-told .given .1) at (c .before .before .before .before .pre))
 
 enum-told-2 : tie.Need-enum-told-2
 enum-told-2 c = search needs
 
 extend-along-f64-requires-2 : tie.Need-extend-along-f64-requires-2
-extend-along-f64-requires-2 c κs = search needs
+extend-along-f64-requires-2 c κs = rimmed Nearest (rw (c .before .enum-told2 .given .1) at (c .before .before .before .before .pre))
 
 enum-told-3 : tie.Need-enum-told-3
 enum-told-3 c = search needs
 
 extend-along-f64-requires-3 : tie.Need-extend-along-f64-requires-3
-extend-along-f64-requires-3 c κs = rw (c .before .enum-told3 .given .1) at (c .before .before .before .before .pre)
+extend-along-f64-requires-3 c κs = rimmed Reflect (rw (c .before .enum-told3 .given .1) at (c .before .before .before .before .pre))
 
 enum-told-4 : tie.Need-enum-told-4
 enum-told-4 c = search needs
 
 extend-along-f64-requires-4 : tie.Need-extend-along-f64-requires-4
-extend-along-f64-requires-4 c κs = rw (c .before .enum-told4 .given .1) at (c .before .before .before .before .pre)
+extend-along-f64-requires-4 c κs = rimmed Wrap (rw (c .before .enum-told4 .given .1) at (c .before .before .before .before .pre))
 
 same-length : tie.Need-same-length
 same-length c = search needs

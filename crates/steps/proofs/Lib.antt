@@ -1,0 +1,2 @@
+-- Laws of cells copied by steps.
+pub mod StepByStep

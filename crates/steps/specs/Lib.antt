@@ -1,0 +1,3 @@
+-- Cells copied by steps.
+pub mod Steps
+pub mod Rows
