@@ -83,7 +83,7 @@ module _ {A : Type 0} (d : A) (f : List A → ℕ → List A) {b : Border A} {ns
     }
 
     -- one lane more: row is the filtered lane, and out′ is out with the row written to the lane
-    sweeping-more : {base m : ℕ} {line′ row out′ : List A} → l < count → base ≡ laneBase n stride l → m ≡ n → length line′ ≡ length line
+    pub sweeping-more : {base m : ℕ} {line′ row out′ : List A} → l < count → base ≡ laneBase n stride l → m ≡ n → length line′ ≡ length line
         → row ≡ filteredLane d f b left right (laneAt d cells base stride m) → out′ ≡ withLane d n stride l row out → Sweeping d f b ns a left right cells out₀ n stride count (l + 1) line′ out′
     sweeping-more h at q p r e = record {
       on = W .on;
@@ -103,10 +103,9 @@ module _ {A : Type 0} (d : A) (f : List A → ℕ → List A) {b : Border A} {ns
         last : l ≡ count
         last = omega (arith, W .below)
 
-    -- ---- written through a buffer: what writing it supposes, and the step to the next lane
-    pub write-room : {base : ℕ} (row : List A) → l < count → base ≡ laneBase n stride l → length row ≡ n
-        → (0 < length row) × (0 < stride) × (base ≡ laneBase (length row) stride l) × (base + length row * stride < length out + stride)
-    write-room {base} row h at e =
+    -- ---- what writing as many cells as the lane has supposes, and the step to the next lane
+    pub write-room : {base m : ℕ} → l < count → base ≡ laneBase n stride l → m ≡ n → (0 < m) × (0 < stride) × (base ≡ laneBase m stride l) × (base + m * stride < length out + stride)
+    write-room {base} h at e =
         subst (λ (k : ℕ). (0 < k) × (0 < stride) × (base ≡ laneBase k stride l) × (base + k * stride < length out + stride)) (sym e)
         (inside h .some, inside h .apart, at, omega (arith, inside-whole (inside h), as-long))
 
@@ -116,7 +115,7 @@ module _ {A : Type 0} (d : A) (f : List A → ℕ → List A) {b : Border A} {ns
         let e = T .place in
         (T, I .some, omega (arith, accepted .short a, W .on .cells), I .apart, omega (arith, I .short, I .small), omega (arith, I .last, I .small, e))
 
-    -- the row was read from the place where the lane starts, and is as long as the lane
+    -- written through a buffer: the row was read from the place where the lane starts, and is as long as the lane
     pub column-more : {t t′ : Start} {from m : ℕ} {line′ row out′ : List A} → l < count → Starts n stride l t → m ≡ n → from ≡ t .place → length line′ ≡ length line → length row ≡ m
         → row ≡ filteredLane d f b left right (laneAt d cells from stride m) → out′ ≡ withLane d (length row) stride l row out → Starts n stride (l + 1) t′
         → Sweeping d f b ns a left right cells out₀ n stride count (l + 1) line′ out′ × Starts n stride (l + 1) t′ × (length row ≡ n)

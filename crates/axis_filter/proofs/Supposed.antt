@@ -10,18 +10,16 @@ use lib.ListN.{length, getD}
 use Rattle.numbers.specs.Lists.{tabulate, anyOf}
 use Rattle.numbers.specs.Ranges.{outsideZ}
 use Rattle.numbers.proofs.Tests.{or-false, or-no}
-use Rattle.array.specs.Conditions.{badLevel}
 use Rattle.lanes.specs.Lanes.{laneAt}
 use Rattle.border.specs.Border.{Border, constant, along, cellFor, inside, extendedLane}
 use Rattle.border.specs.Modes.{badConstantBy}
 use Rattle.pad_line.specs.Line.{paddedAt, paddedLine}
 use Rattle.minlist.specs.Firsts.{Served}
 use Rattle.line_sums.specs.Sizes.{Weighable}
-use Rattle.uniform_line.specs.Mean.{Averaged}
 use Rattle.axis_filter.specs.Lane.{Room}
-use Rattle.axis_filter.specs.Filter.{ServedLine, Averaging, Supposed}
+use Rattle.axis_filter.specs.Filter.{ServedLine, Supposed}
 use Rattle.axis_filter.specs.declared.LineFilter.{LineFilter}
-use Rattle.axis_filter.specs.declared.LineFilter.the-variants.{Least, Greatest, Weighed, Mean}
+use Rattle.axis_filter.specs.declared.LineFilter.the-variants.{Least, Greatest, Weighed}
 use Rattle.axis_filter.proofs.OneLane.{length-line}
 
 -- ---- a test that fails of every cell of a list, and of what stands past its end, fails of the padded lane
@@ -73,13 +71,7 @@ module _ {b : Border ℤ} {n s base left right : ℕ} {g line₀ : List ℤ} (R 
     cells = any-padded (outsideZ (negℤ (pos (2 ^ 38))) (pos (2 ^ 38))) (pos 0) b left right n s base g refl c e;
   }
 
-  averaged : Averaging (left + right + 1) b g → Averaged (paddedLine (pos 0) b left right (laneAt (pos 0) g base s n)) (left + right + 1) n
-  unfolding badLevel
-  averaged S =
-      record { some = omega arith; few = S .few; long = omega (arith, long); levels = any-padded badLevel (pos 0) b left right n s base g refl (S .level) (S .levels) }
-
   pub line-served : (f : LineFilter) (w : List ℤ) → Supposed f w (left + right + 1) b g → ServedLine f w (left + right + 1) (paddedLine (pos 0) b left right (laneAt (pos 0) g base s n)) n
   line-served Least w S = served S
   line-served Greatest w S = served S
   line-served Weighed w S = weighable w (S .many) (S .weights) (S .level) (S .cells-in)
-  line-served Mean w S = averaged S

@@ -11,14 +11,13 @@ use Rattle.border.specs.declared.Along.the-variants.{Nearest}
 use Rattle.axis_filter.specs.Lane.{filteredLane}
 use Rattle.axis_filter.specs.Filter.{filtered}
 use Rattle.axis_filter.specs.declared.LineFilter.{LineFilter}
-use Rattle.axis_filter.specs.declared.LineFilter.the-variants.{Least, Greatest, Weighed, Mean}
+use Rattle.axis_filter.specs.declared.LineFilter.the-variants.{Least, Greatest, Weighed}
 
 abbrev pub onLane : LineFilter → List ℕ → List ℕ → List ℤ
 onLane f w s = filteredLane (pos 0) (filtered f (wholes w) 3) (along Nearest) 1 1 (wholes s)
 
 pub record AxisFilterRows : Type 0 where
-  -- 4 2 7 1 in windows of three: the least, the greatest, the sums with weights 1 2 3, and the means, cut toward zero
+  -- 4 2 7 1 in windows of three: the least, the greatest, and the sums with weights 1 2 3
   pub least : onLane Least [] (4 ∷ 2 ∷ 7 ∷ 1 ∷ []) ≡ wholes (2 ∷ 2 ∷ 1 ∷ 1 ∷ [])
   pub greatest : onLane Greatest [] (4 ∷ 2 ∷ 7 ∷ 1 ∷ []) ≡ wholes (4 ∷ 7 ∷ 7 ∷ 7 ∷ [])
   pub weighed : onLane Weighed (1 ∷ 2 ∷ 3 ∷ []) (4 ∷ 2 ∷ 7 ∷ 1 ∷ []) ≡ wholes (18 ∷ 29 ∷ 19 ∷ 12 ∷ [])
-  pub mean : onLane Mean [] (4 ∷ 2 ∷ 7 ∷ 1 ∷ []) ≡ wholes (3 ∷ 4 ∷ 3 ∷ 3 ∷ [])

@@ -11,12 +11,11 @@ ghost use Rattle.axis_filter.specs.Filter.{filtered, ServedLine, Suppose
 ghost use Rattle.axis_filter.specs.Rows.{AxisFilterRows};
 use border::BorderMode;
 
-// What is taken of each window: its least or its greatest level, its weighted sum, or its mean.
+// What is taken of each window: its least or its greatest level, or its weighted sum.
 pub enum LineFilter {
     Least,
     Greatest,
     Weighed,
-    Mean,
 }
 
 // The filter on a padded line. Only Weighed reads weights, and may change the line.
@@ -28,7 +27,6 @@ fn filter_line(filter: LineFilter, weights: &[i64], size: usize, line: &mut [i64
         LineFilter::Least => minimum_line::minimum_line(line, size, out),
         LineFilter::Greatest => maximum_line::maximum_line(line, size, out),
         LineFilter::Weighed => correlate_line::correlate_line(weights, line, out),
-        LineFilter::Mean => uniform_line::uniform_line(line, size, out),
     }
 }
 

@@ -21,6 +21,7 @@ fn rows() {
     gradient_judge::rows();
     gradient_passes::rows();
     uniform_line::rows();
+    uniform_axis::rows();
     uniform_judge::rows();
     uniform::rows();
     median_mask::rows();

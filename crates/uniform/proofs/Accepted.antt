@@ -26,15 +26,15 @@ use Rattle.border.specs.Modes.{badConstantBy}
 use Rattle.pad_line.specs.Line.{badPad}
 use Rattle.filter_judge.specs.Judge.{badReach}
 use Rattle.uniform_line.specs.Mean.{means}
-use Rattle.axis_filter.specs.Filter.{Averaging}
 use Rattle.axis_filter.specs.Lane.{Sweep}
+use Rattle.uniform_axis.specs.Averaging.{Averaging}
 use Rattle.uniform_judge.specs.Uniform.{paddedFor, uniform1d}
 use Rattle.uniform_judge.specs.Judge.{halfOver, badGridReach, uniform1dJudged, uniformJudged}
 use Rattle.uniform_judge.proofs.Sums.{levels-kept}
 use Rattle.uniform_judge.proofs.Window.{size-some, size-few}
 use Rattle.uniform.specs.Pass.{Pass}
 
--- ---- what the line filter supposes of a pass
+-- ---- what the means along an axis suppose of a pass
 module _ {b : Border ℤ} {size : ℕ} {ns : List ℕ} {a : ℕ} {cells out : List ℤ} (P : Pass b size ns a cells out) where
   -- the window is its pads and the cell itself
   pub pads-size : size / 2 + (size - size / 2 - 1) + 1 ≡ size
@@ -56,7 +56,7 @@ module _ {b : Border ℤ} {size : ℕ} {ns : List ℕ} {a : ℕ} {cells out : Li
   pub pass-averaging : Averaging (size / 2 + (size - size / 2 - 1) + 1) b cells
   pass-averaging = record { few = omega (arith, size-few size (P .window)); level = P .level; levels = P .levels }
 
-  -- the answer, by the length of the window as the filter has it
+  -- the answer, by the length of the window as the worker has it
   abbrev filled : ℕ → List ℤ
   filled m = alongAxis (pos 0) (λ s. means (paddedFor b size s) m (length s)) ns a cells
 

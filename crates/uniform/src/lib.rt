@@ -9,7 +9,6 @@ ghost use Rattle.uniform_judge.specs.Judge.{uniform1dJudged, uniformJudged};
 ghost use Rattle.uniform.specs.Pass.{Pass};
 ghost use Rattle.uniform.specs.Answers.{UniformAnswers};
 ghost use Rattle.uniform.specs.Rows.{UniformRows};
-use axis_filter::LineFilter;
 use border::BorderMode;
 
 // Fills out with the means along the axis.
@@ -19,17 +18,7 @@ fn pass(data: &[i64], shape: &[usize], size: usize, axis: usize, mode: BorderMod
 {
     let left = size / 2;
     let right = size - left - 1;
-    axis_filter::filter_axis(
-        LineFilter::Mean,
-        &data[..0],
-        mode,
-        data,
-        shape,
-        axis,
-        left,
-        right,
-        out,
-    );
+    uniform_axis::uniform_axis(mode, data, shape, axis, left, right, out);
 }
 
 // Fills out with the answer of an accepted grid call; second holds what a pass between leaves.

@@ -1,11 +1,12 @@
 // The means of the windows of a line, by a running sum: the cell that enters is added, the cell that leaves is taken away, so that a cell costs the same
-// however long the window is.
+// however long the window is. They are written straight to the cells of a lane.
 ghost use mathlib.Core.Path.{_≡_};
 ghost use mathlib.Core.Bool.{false};
-ghost use Prim.Native.Nat.{_≤_, _<_};
+ghost use Prim.Native.Nat.{_+_, _*_, _≤_, _<_};
 ghost use lib.IntN.{pos, negℤ};
 ghost use lib.ListN.{length};
 ghost use Rattle.numbers.specs.Ranges.{outsideZ};
+ghost use Rattle.lanes.specs.Lanes.{laneBase, withLane};
 ghost use Rattle.uniform_line.specs.Mean.{cut, means, Averaged};
 ghost use Rattle.uniform_line.specs.Rows.{UniformLineRows};
 use line_sums::first_sum;
@@ -41,18 +42,27 @@ fn cut_mean(total: i64, size: usize) -> i64
     cut_narrow(total, size)
 }
 
-// Sets each cell of out to the mean of its window of the padded line, cut toward zero.
-pub fn uniform_line(line: &[i64], size: usize, out: &mut [i64])
-    requires { ⌜ Averaged (now line) size (length (now out)) ⌝ }
-    ensures { λ _. ⌜ now (out .exit) ≡ means (now (line .entry)) size (length (now (out .entry))) ⌝ }
+// Sets the cells of a lane of out, the one that starts at place base, to the means of their windows of the padded line, cut toward zero.
+pub fn uniform_lane(
+    line: &[i64],
+    size: usize,
+    n: usize,
+    stride: usize,
+    lane: usize,
+    base: usize,
+    out: &mut [i64],
+)
+    requires { ⌜ Averaged (now line) size n × (0 < n) × (0 < stride) × (base ≡ laneBase n stride lane) × (base + n * stride < length (now out) + stride) ⌝ }
+    ensures { λ _. ⌜ now (out .exit) ≡ withLane (pos 0) n stride lane (means (now (line .entry)) size n) (now (out .entry)) ⌝ }
 {
     let before = size - 1;
     let mut sum = first_sum(line, before);
-    let n = out.len();
     let mut i = 0;
     while i < n {
         let total = sum + line[i + before];
-        out[i] = cut_mean(total, size);
+        let mean = cut_mean(total, size);
+        let at = base + i * stride;
+        out[at] = mean;
         sum = total - line[i];
         i += 1;
     }

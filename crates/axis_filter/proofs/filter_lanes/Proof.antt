@@ -41,7 +41,7 @@ write-from-requires c κs = let s = c .before .before .before .before .before .b
     let a = s .args in
     let l = c .before .before .before .before .before .before .before .before .loop in
     let k = c .before .before .before .before .filter-lane in
-    write-room (pos 0) (filtered (a .filter) (now (a .weights)) (a .left + a .right + 1)) (s .pre .0) (l .inv .0) (k .last .1 .1 .1 .1 .1 .1 .1 .1 .1 .0) (search needs) (l .inv .1 .place) (k .kept .1 .1 .1 .1 .1 .1 .1 .1 .1 .0 ∙ l .inv .2)
+    write-room (pos 0) (filtered (a .filter) (now (a .weights)) (a .left + a .right + 1)) (s .pre .0) (l .inv .0) (search needs) (l .inv .1 .place) (k .kept .1 .1 .1 .1 .1 .1 .1 .1 .1 .0 ∙ l .inv .2)
 
 next-start-requires : tie.Need-next-start-requires Inv-loop μ-loop
 next-start-requires c κs = let s = c .before .before .before .before .before .before .before .before .before .before .before .before .before in

@@ -27,12 +27,6 @@ enum-told-3 c = search needs
 correlate-line-requires : tie.Need-correlate-line-requires
 correlate-line-requires c κs = rw (c .before .before .enum-told3 .given .1) at (c .before .before .before .before .pre)
 
-enum-told-4 : tie.Need-enum-told-4
-enum-told-4 c = search needs
-
-uniform-line-requires : tie.Need-uniform-line-requires
-uniform-line-requires c κs = rw (c .before .before .enum-told4 .given .1) at (c .before .before .before .before .pre)
-
 same-length : tie.Need-same-length
 same-length c = search needs
 
@@ -66,15 +60,6 @@ same-length-6 c = search needs
 returns-3 : tie.Need-returns-3
 returns-3 c = rw (c .before .before .before .before .before .enum-told3 .given .1) (c .before .before .correlate-line .ensures)
 
-same-length-7 : tie.Need-same-length-7
-same-length-7 c = search needs
-
-same-length-8 : tie.Need-same-length-8
-same-length-8 c = search needs
-
-returns-4 : tie.Need-returns-4
-returns-4 c = rw (c .before .before .before .before .enum-told4 .given .1) (c .before .uniform-line .ensures)
-
 pub filter-line-spec : {M : Type 1} → statement M
 filter-line-spec =
     tie.close
@@ -85,8 +70,6 @@ filter-line-spec =
     maximum-line-requires
     enum-told-3
     correlate-line-requires
-    enum-told-4
-    uniform-line-requires
     same-length
     same-length-2
     returns
@@ -95,7 +78,4 @@ filter-line-spec =
     returns-2
     same-length-5
     same-length-6
-    returns-3
-    same-length-7
-    same-length-8
-    returns-4)
+    returns-3)

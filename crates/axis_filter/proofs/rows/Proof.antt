@@ -12,7 +12,7 @@ use Rattle.axis_filter.proofs.rows.Tie as tie
 
 returns : tie.Need-returns
 unfolding tabulate cellFor extendedLane paddedAt paddedLine firsts summed windowOf
-returns c = record { least = refl; greatest = refl; weighed = refl; mean = refl }
+returns c = record { least = refl; greatest = refl; weighed = refl }
 
 pub rows-spec : {M : Type 1} → statement M
 rows-spec = tie.close (tie.spec returns)

@@ -41,7 +41,7 @@ write-from-f64-requires c κs = let s = c .before .before .before .before .befor
     let a = s .args in
     let l = c .before .before .before .before .before .before .before .before .before .before .loop in
     let k = c .before .before .before .before .before .before .correlate-lane in
-    write-room nan (weighedLine floatOps (a .class) (now (a .weights))) (s .pre .0) (l .inv .0) (k .last .1 .1 .1 .1 .1 .1 .1 .1 .1 .0) (c .before .before .before .before .before .before .before .before .before .loop-test .taken) (l .inv .1 .place) (k .kept .1 .1 .1 .1 .1 .1 .1 .1 .1 .0 ∙ l .inv .2)
+    write-room nan (weighedLine floatOps (a .class) (now (a .weights))) (s .pre .0) (l .inv .0) (c .before .before .before .before .before .before .before .before .before .loop-test .taken) (l .inv .1 .place) (k .kept .1 .1 .1 .1 .1 .1 .1 .1 .1 .0 ∙ l .inv .2)
 
 next-start-requires : tie.Need-next-start-requires Inv-loop μ-loop
 next-start-requires c κs = let s = c .before .before .before .before .before .before .before .before .before .before .before .before .before .before .before .before .before .before .before .before .before in

@@ -13,17 +13,14 @@ sub-right c = search needs
 sub-right-2 : tie.Need-sub-right-2
 sub-right-2 c = omega (arith, size-some (c .before .args .size) (c .before .pre .window))
 
-slice-aggregate-filter-axis : tie.Need-slice-aggregate-filter-axis
-slice-aggregate-filter-axis c = search needs
-
-filter-axis-requires : tie.Need-filter-axis-requires
-filter-axis-requires c κs = (pass-sweep (c .before .before .before .pre), pass-averaging (c .before .before .before .pre))
+uniform-axis-requires : tie.Need-uniform-axis-requires
+uniform-axis-requires c κs = (pass-sweep (c .before .before .pre), pass-averaging (c .before .before .pre))
 
 same-length : tie.Need-same-length
 same-length c = search needs
 
 returns : tie.Need-returns
-returns c = pass-filled (c .before .before .before .before .before .pre) (c .before .filter-axis .ensures)
+returns c = pass-filled (c .before .before .before .before .pre) (c .before .uniform-axis .ensures)
 
 pub pass-spec : {M : Type 1} → statement M
 pass-spec =
@@ -31,7 +28,6 @@ pass-spec =
     (tie.spec
     sub-right
     sub-right-2
-    slice-aggregate-filter-axis
-    filter-axis-requires
+    uniform-axis-requires
     same-length
     returns)

@@ -1,0 +1,2 @@
+-- Laws of lanes whose means are taken.
+pub mod Averaged

@@ -1,0 +1,3 @@
+-- The means on every lane of an axis.
+pub mod Averaging
+pub mod Rows
