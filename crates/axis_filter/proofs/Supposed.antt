@@ -10,12 +10,15 @@ use lib.ListN.{length, getD}
 use Rattle.numbers.specs.Lists.{tabulate, anyOf}
 use Rattle.numbers.specs.Ranges.{outsideZ}
 use Rattle.numbers.proofs.Tests.{or-false, or-no}
+use Rattle.array.specs.Conditions.{badLevel}
 use Rattle.lanes.specs.Lanes.{laneAt}
 use Rattle.border.specs.Border.{Border, constant, along, cellFor, inside, extendedLane}
 use Rattle.border.specs.Modes.{badConstantBy}
 use Rattle.pad_line.specs.Line.{paddedAt, paddedLine}
 use Rattle.minlist.specs.Firsts.{Served}
 use Rattle.line_sums.specs.Sizes.{Weighable}
+use Rattle.narrow.specs.Narrow.{Narrow}
+use Rattle.narrow.proofs.RaisedLists.{levels-narrow}
 use Rattle.axis_filter.specs.Lane.{Room}
 use Rattle.axis_filter.specs.Filter.{ServedLine, Supposed}
 use Rattle.axis_filter.specs.declared.LineFilter.{LineFilter}
@@ -71,7 +74,11 @@ module _ {b : Border ℤ} {n s base left right : ℕ} {g line₀ : List ℤ} (R 
     cells = any-padded (outsideZ (negℤ (pos (2 ^ 38))) (pos (2 ^ 38))) (pos 0) b left right n s base g refl c e;
   }
 
+  narrow : badConstantBy badLevel b ≡ false → anyOf badLevel g ≡ false → Narrow (paddedLine (pos 0) b left right (laneAt (pos 0) g base s n))
+  unfolding badLevel
+  narrow c e = levels-narrow (paddedLine (pos 0) b left right (laneAt (pos 0) g base s n)) (any-padded badLevel (pos 0) b left right n s base g refl c e)
+
   pub line-served : (f : LineFilter) (w : List ℤ) → Supposed f w (left + right + 1) b g → ServedLine f w (left + right + 1) (paddedLine (pos 0) b left right (laneAt (pos 0) g base s n)) n
   line-served Least w S = served S
   line-served Greatest w S = served S
-  line-served Weighed w S = weighable w (S .many) (S .weights) (S .level) (S .cells-in)
+  line-served Weighed w S = (weighable w (S .many) (S .weights) (S .level) (S .cells-in), λ h. narrow (S .narrow h .0) (S .narrow h .1))

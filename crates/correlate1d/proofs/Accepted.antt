@@ -56,4 +56,5 @@ module _ {turned : Bool} {b : Border ℤ} {o : ℤ} {w : List ℤ} {ns : List �
       weights = applied-weights badWeight turned w (P .weights);
       level = small-constant b (P .level);
       levels = small-sized cells (levels-sized cells (P .levels)) (omega arith);
+      narrow = λ h. (P .level, P .levels);
     }

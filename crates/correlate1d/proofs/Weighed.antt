@@ -63,4 +63,4 @@ module _ {A : Type 0} {b : Border A} {ns : List ℕ} {a : ℕ} {o : ℤ} {w cell
 -- the weights and levels of a whole call
 pub weighing : {b : Border ℤ} {ns : List ℕ} {a : ℕ} {o : ℤ} {w cells out : List ℤ} (W : Weighs b ns a o w cells out) {l g : ℕ} → l ≡ leftOf (length w) o → g ≡ rightOf (length w) o → Weighing w (l + g + 1) b cells
 unfolding badWeight
-weighing W L G = record { many = sym (pads-total (W .placed) L G); weights = W .weights; level = W .level; cells-in = W .levels }
+weighing W L G = record { many = sym (pads-total (W .placed) L G); weights = W .weights; level = W .level; cells-in = W .levels; narrow = W .narrow }

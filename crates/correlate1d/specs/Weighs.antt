@@ -2,7 +2,7 @@
 --   tooLarge z                  a level that a sum of a pass might leave 64 bits with: outside −2^38..2^38
 --   Scales cells w out          every cell and the weight w are within their limits, and the output is as long
 --   Placed b ns a o w cells out two weights or more, of any element, applied with the origin o along axis a, whose border fills both pads
---   Weighs b ns a o w cells out the same of whole weights and levels within their limits
+--   Weighs b ns a o w cells out the same of whole weights and levels within their limits; of five weights or more, within condition 3
 use Prim.Native.Nat.{ℕ, _^_, _≤_, _<_}
 use mathlib.Core.Path.{_≡_}
 use mathlib.Core.Bool.{Bool, false}
@@ -42,3 +42,4 @@ pub record Weighs (b : Border ℤ) (ns : List ℕ) (a : ℕ) (o : ℤ) (w cells 
   pub weights : anyOf badWeight w ≡ false
   pub level : badConstantBy tooLarge b ≡ false
   pub levels : anyOf tooLarge cells ≡ false
+  pub narrow : 5 ≤ length w → (badConstantBy badLevel b ≡ false) × (anyOf badLevel cells ≡ false)

@@ -1,24 +1,23 @@
-// The weighted sums of a whole line: four weights a pass where they are many and the cells fit 32 bits (raised_line), else added to a row of 0, three a pass (plain_line).
+// The weighted sums of a whole line: four weights a pass where they are five or more (raised_line), else added to a row of 0, three a pass (plain_line).
 ghost use mathlib.Core.Path.{_≡_};
+ghost use Prim.Native.Nat.{_≤_};
 ghost use lib.ListN.{length};
 ghost use Rattle.symmetry.specs.declared.SymmetryState.the-variants.{NonSymmetric};
 ghost use Rattle.correlation.specs.Weighed.{wholeOps, weighedLine};
 ghost use Rattle.line_sums.specs.Sizes.{Weighable};
+ghost use Rattle.narrow.specs.Narrow.{Narrow};
 use assign::fill;
-use narrow::is_narrow;
 use plain_line::add_line;
 use raised_line::raised_line;
 
 // Sets each cell of out to the weighted sum of its window of the padded line. From five weights on, raising them and the line pays; what the line then holds is of no use.
 pub fn correlate_line(weights: &[i64], line: &mut [i64], out: &mut [i64])
-    requires { ⌜ Weighable (now weights) (now line) (length (now out)) ⌝ }
+    requires { ⌜ Weighable (now weights) (now line) (length (now out)) × (5 ≤ length (now weights) → Narrow (now line)) ⌝ }
     ensures { λ _. ⌜ now (out .exit) ≡ weighedLine wholeOps NonSymmetric (now (weights .entry)) (now (line .entry)) (length (now (out .entry))) ⌝ }
 {
     if weights.len() >= 5 {
-        if is_narrow(line) {
-            raised_line(weights, line, out);
-            return;
-        }
+        raised_line(weights, line, out);
+        return;
     }
     fill(out, 0);
     add_line(weights, line, out);

@@ -101,6 +101,7 @@ module _ {b : Border ℤ} {ns : List ℕ} {axis : ℕ} {cells : List ℤ} {out s
       weights = small-weights w S;
       level = small-constant b (A .level);
       levels = small-sized g (B .sizes) l;
+      narrow = λ h. absurd (omega (arith, S .three));
     }
 
     pub between-pass : (a : ℕ) {new : List ℤ} → new ≡ correlate1dZ b (pos 0) w ns a g → Between b ns (6 * p) new

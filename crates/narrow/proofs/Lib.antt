@@ -1,3 +1,2 @@
 -- Laws of numbers that may be raised, leaves first.
-pub mod LowBits
 pub mod RaisedLists

@@ -5,11 +5,8 @@ use borrow.Author.Needs.{needs}
 use Rattle.correlate_line.proofs.correlate_line.Statement.{statement}
 use Rattle.correlate_line.proofs.correlate_line.Tie as tie
 
-is-narrow-requires : tie.Need-is-narrow-requires
-is-narrow-requires c κs = search needs
-
 raised-line-requires : tie.Need-raised-line-requires
-raised-line-requires c κs = (c .before .before .before .before .before .before .pre, c .before .before .before .is-narrow .ensures (c .before .before .if2 .taken))
+raised-line-requires c κs = let s = c .before .before .before in (s .pre .0, s .pre .1 (search needs))
 
 same-length : tie.Need-same-length
 same-length c = search needs
@@ -24,7 +21,7 @@ fill-requires : tie.Need-fill-requires
 fill-requires c κs = search needs
 
 add-line-requires : tie.Need-add-line-requires
-add-line-requires c κs = zero-addable (c .before .before .before .before .before .before .pre) (c .before .before .before .fill .ensures)
+add-line-requires c κs = zero-addable (c .before .before .before .before .before .before .pre .0) (c .before .before .before .fill .ensures)
 
 same-length-3 : tie.Need-same-length-3
 same-length-3 c = search needs
@@ -33,13 +30,12 @@ same-length-4 : tie.Need-same-length-4
 same-length-4 c = search needs
 
 returns-2 : tie.Need-returns-2
-returns-2 c = zero-added (c .before .before .before .before .before .before .before .before .pre) (c .before .before .before .before .before .fill .ensures) (c .before .add-line .ensures)
+returns-2 c = zero-added (c .before .before .before .before .before .before .before .before .pre .0) (c .before .before .before .before .before .fill .ensures) (c .before .add-line .ensures)
 
 pub correlate-line-spec : {M : Type 1} → statement M
 correlate-line-spec =
     tie.close
     (tie.spec
-    is-narrow-requires
     raised-line-requires
     same-length
     same-length-2
