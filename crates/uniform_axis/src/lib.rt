@@ -23,7 +23,7 @@ fn average_lane(
     line: &mut [i64],
     out: &mut [i64],
 )
-    requires { ⌜ Room (borderOf mode) n stride base left right (now «data») (now line) × Averaging (left + right + 1) (borderOf mode) (now «data») × (0 < n) × (0 < stride) × (base ≡ laneBase n stride lane) × (base + n * stride < length (now out) + stride) ⌝ }
+    requires { ⌜ Room (borderOf mode) n stride base left right (now «data») (now line) × Averaging (left + right + 1) (borderOf mode) (now «data») × (0 < stride) × (base ≡ laneBase n stride lane) × (base + n * stride < length (now out) + stride) ⌝ }
     ensures { λ _. ⌜ now (out .exit) ≡ withLane (pos 0) n stride lane (filteredLane (pos 0) (meansBy (left + right + 1)) (borderOf mode) left right (laneAt (pos 0) (now («data» .entry)) base stride n)) (now (out .entry)) ⌝ }
 {
     pad_line::pad_from(data, base, stride, n, mode, left, right, line);

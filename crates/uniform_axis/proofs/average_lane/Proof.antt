@@ -40,7 +40,7 @@ uniform-lane-requires : tie.Need-uniform-lane-requires
 uniform-lane-requires c κs =
     let s = c .before .before .before .before .before in
     let a = s .args in
-    (subst (λ (p : List ℤ). Averaged p (a .left + a .right + 1) (a .n)) (sym (front-is (pos 0) (s .pre .0) (c .before .before .before .pad-from .ensures))) (lane-averaged (s .pre .0) (s .pre .1)), s .pre .2, s .pre .3, s .pre .4, s .pre .5)
+    (subst (λ (p : List ℤ). Averaged p (a .left + a .right + 1) (a .n)) (sym (front-is (pos 0) (s .pre .0) (c .before .before .before .pad-from .ensures))) (lane-averaged (s .pre .0) (s .pre .1)), s .pre .0 .padding .some, s .pre .2, s .pre .3, s .pre .4)
 
 same-length : tie.Need-same-length
 same-length c = search needs

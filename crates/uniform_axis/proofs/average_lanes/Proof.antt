@@ -38,7 +38,7 @@ average-lane-requires c κs =
     let f = meansBy (a .left + a .right + 1) in
     let h = c .before .before .loop-test .taken in
     let w = write-room (pos 0) f (s .pre .0) (l .inv .0) h (l .inv .1 .place) refl in
-    (lane-room (pos 0) f (s .pre .0) (l .inv .0) h (omega (arith, l .inv .1 .place)) refl, s .pre .1, w .0, w .1, w .2, w .3)
+    (lane-room (pos 0) f (s .pre .0) (l .inv .0) h (omega (arith, l .inv .1 .place)) refl, s .pre .1, w .1, w .2, w .3)
 
 next-start-requires : tie.Need-next-start-requires Inv-loop μ-loop
 next-start-requires c κs =
