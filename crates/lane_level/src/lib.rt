@@ -45,7 +45,7 @@ fn level_by(
 // * `p`, `s` - the cells of the lane with both rims, and how many places apart they stand.
 // * `l` - the number of the lane, which is inside the grid.
 // * `left`, `n` - the place in the lane where its own cells start, and how many they are.
-// * `line` - a buffer no shorter than the lane.
+// * `line` - a buffer no shorter than the lane, where its cells stand apart; else of any length.
 //
 // Refuses nothing. Of the cells 9 1 2 3 9, a lane of 5 cells with 3 of its own from place 1 on, the maximum is 3.
 pub fn level_in(
@@ -59,7 +59,7 @@ pub fn level_in(
     grid: &[i64],
     line: &mut [i64],
 ) -> i64
-    requires { ⌜ (laneInside p s l (length (now grid)) ≡ true) × (base ≡ laneBase p s l) × (left + n ≤ p) × (p ≤ length (now line)) ⌝ }
+    requires { ⌜ (laneInside p s l (length (now grid)) ≡ true) × (base ≡ laneBase p s l) × (left + n ≤ p) × ((s ≡ 1 → ⊥) → p ≤ length (now line)) ⌝ }
     ensures { λ r. ⌜ r ≡ statisticOf statistic (take n (drop left (lane (pos 0) p s l (now (grid .entry))))) ⌝ }
 {
     if s == 1 {

@@ -75,7 +75,7 @@ fn fill_along(
     }
 }
 
-// Fills both rims of lane `l` with the level of its own cells; the arguments are those of `fill_level`, and a buffer no shorter than the lane.
+// Fills both rims of lane `l` with the level of its own cells; the arguments are those of `fill_level`, and the buffer of `level_in`.
 fn fill_statistic(
     statistic: Statistic,
     base: usize,
@@ -87,7 +87,7 @@ fn fill_statistic(
     line: &mut [i64],
     out: &mut [i64],
 )
-    requires { ⌜ (laneInside p s l (length (now out)) ≡ true) × (base ≡ laneBase p s l) × (left + n ≤ p) × (p ≤ length (now line)) ⌝ }
+    requires { ⌜ (laneInside p s l (length (now out)) ≡ true) × (base ≡ laneBase p s l) × (left + n ≤ p) × ((s ≡ 1 → ⊥) → p ≤ length (now line)) ⌝ }
     ensures { λ _. ⌜ now (out .exit) ≡ withLane (pos 0) p s l (paddedLine (pos 0) (constant (statisticOf statistic (take n (drop left (lane (pos 0) p s l (now (out .entry))))))) left (p - (left + n)) (take n (drop left (lane (pos 0) p s l (now (out .entry)))))) (now (out .entry)) ⌝ }
 {
     let c = lane_level::level_in(statistic, base, p, s, l, left, n, out, line);
@@ -135,7 +135,7 @@ fn serves(
 // * `p`, `s` - the cells of the lane with both rims, and how many places apart they stand.
 // * `l` - the number of the lane, counted from 0 in stored order of the lanes' first cells.
 // * `left`, `n` - the place in the lane where its own cells start, and how many they are.
-// * `line` - a buffer of 1,152 cells; what it holds affects nothing.
+// * `line` - a buffer of 1,152 cells, where the lane's cells stand apart, else of any length; what it holds affects nothing.
 // * `out` - the cells of the grid.
 //
 // Where the lane is not inside the grid or over 1,152 cells, or the mode cannot fill a rim, the grid stays as it was.
@@ -150,7 +150,7 @@ pub fn fill_lane(
     line: &mut [i64],
     out: &mut [i64],
 )
-    requires { ⌜ length (now line) ≡ 1152 ⌝ }
+    requires { ⌜ ((s ≡ 1 → ⊥) → length (now line) ≡ 1152) ⌝ }
     ensures { λ _. ⌜ now (out .exit) ≡ filledLane mode p s l left n (now (out .entry)) ⌝ }
 {
     let base = lanes::first_place(out.len(), p, s, l);

@@ -13,29 +13,30 @@ use Rattle.lanes.proofs.Cells.{base-first}
 pub starts-none : (n s : ℕ) → 0 < s → Starts n s 0 (record { place = 0; offset = 0 })
 starts-none n s ps = record { place = sym (base-first n ps); offset = sym (mod-eq-of-lt ps) }
 
-module _ (n s l : ℕ) (ps : 0 < s) where
-  -- l + 1 by the digits of l
-  within : l % s + 1 < s → ((l + 1) / s ≡ l / s) × ((l + 1) % s ≡ l % s + 1)
-  within h =
+-- l + 1 by the digits of l
+module _ (s l : ℕ) (ps : 0 < s) where
+  pub digits-within : l % s + 1 < s → ((l + 1) / s ≡ l / s) × ((l + 1) % s ≡ l % s + 1)
+  digits-within h =
       let e : l + 1 ≡ l / s * s + (l % s + 1) = omega (arith, div-add-mod' l s) in
       (ap (λ x. x / s) e ∙ digits-div (l / s) h, ap (λ x. x % s) e ∙ digits-mod (l / s) h)
 
-  past : l % s + 1 ≡ s → ((l + 1) / s ≡ l / s + 1) × ((l + 1) % s ≡ 0)
-  past h =
+  pub digits-past : l % s + 1 ≡ s → ((l + 1) / s ≡ l / s + 1) × ((l + 1) % s ≡ 0)
+  digits-past h =
       let e : l + 1 ≡ (l / s + 1) * s + 0 = omega (arith, div-add-mod' l s, suc-mul (l / s) s) in
       (ap (λ x. x / s) e ∙ digits-div (l / s + 1) ps, ap (λ x. x % s) e ∙ digits-mod (l / s + 1) ps)
 
+module _ (n s l : ℕ) (ps : 0 < s) where
   pub starts-within : {t : Start} → Starts n s l t → (t .offset + 1 ≡ s → ⊥) → Starts n s (l + 1) (record { place = t .place + 1; offset = t .offset + 1 })
   starts-within {t} T h =
       let b : l % s + 1 < s = omega (arith, mod-lt l ps, T .offset) in
-      let e = within b in
+      let e = digits-within s l ps b in
       let f : (l + 1) / s * (n * s) ≡ l / s * (n * s) = ap (λ q. q * (n * s)) (e .0) in
       record { place = omega (arith, f, e .1, T .place); offset = omega (arith, e .1, T .offset) }
 
   pub starts-past : {t : Start} → 0 < n → Starts n s l t → t .offset + 1 ≡ s → Starts n s (l + 1) (record { place = t .place + (n - 1) * s + 1; offset = 0 })
   starts-past {t} pn T h =
       let b : l % s + 1 ≡ s = omega (arith, T .offset) in
-      let e = past b in
+      let e = digits-past s l ps b in
       let f : (l + 1) / s * (n * s) ≡ (l / s + 1) * (n * s) = ap (λ q. q * (n * s)) (e .0) in
       let g : n * s ≡ (n - 1) * s + s = ap (λ m. m * s) (more n pn) ∙ suc-mul (n - 1) s in
       record { place = omega (arith, f, g, suc-mul (l / s) (n * s), e .1, T .place); offset = sym (e .1) }

@@ -8,13 +8,14 @@ use mathlib.Core.Bool.{Bool, true, false}
 use mathlib.Core.List.{List}
 use borrow.Author.Tests.{ltb-true, ltb-false, lt-ltb, le-ltb}
 use lib.Dec.{T, ltb}
-use lib.IntN.{ℤ, pos, negsuc, negℤ, natAbs, subℕ, _+ℤ_, +ℤ-assoc}
+use lib.IntN.{ℤ, pos, negsuc, negℤ, natAbs, _+ℤ_, +ℤ-assoc}
 use lib.Signed.{ltZ, mag, nonNeg}
 use mir.Syntax.{w64}
 use mir.Val.{toZ, ofZ, SFits, Fits}
 use mir.ValLaws.{toZ-ofZ}
 use mir.Facts.{fits-natAbs}
 use Rattle.numbers.specs.Ranges.{outsideZ}
+use Rattle.level_range.specs.Near.{isFar, Lift}
 use Rattle.numbers.proofs.Sign.{below-is, on-read, on-is}
 use Rattle.numbers.specs.Lists.{anyOf}
 use Rattle.numbers.proofs.Any.{none-any, any-none, every-imp}
@@ -23,9 +24,9 @@ use Rattle.numbers.proofs.Tests.{cond-ind, cond-no, or-none, or-no, or-false}
 abbrev read : ℤ → ℤ
 read z = toZ w64 (ofZ w64 z)
 
--- 2^63 less a size that is at most that
-from-below : (k : ℕ) → k < 2 ^ 63 → negsuc k +ℤ pos (2 ^ 63) ≡ pos (2 ^ 63 - suc k)
-from-below k h = cond-no (ltb (2 ^ 63) (suc k)) (negsuc (suc k - suc (2 ^ 63))) (pos (2 ^ 63 - suc k)) (le-ltb (2 ^ 63) (suc k) h)
+-- a number less a size that is at most that
+from-below : (p k : ℕ) → k < p → negsuc k +ℤ pos p ≡ pos (p - suc k)
+from-below p k h = cond-no (ltb p (suc k)) (negsuc (suc k - suc p)) (pos (p - suc k)) (le-ltb p (suc k) h)
 
 -- ---- of a level below 0
 module _ (z : ℤ) (f : SFits w64 z) (t : ltZ (read z) (pos 0) ≡ true) where
@@ -43,7 +44,7 @@ module _ (z : ℤ) (f : SFits w64 z) (t : ltZ (read z) (pos 0) ≡ true) where
       ap (λ (y : ℤ). y +ℤ pos 1) (toZ-ofZ w64 _ near-fits)
       ∙ +ℤ-assoc (read z) (pos 9223372036854775807) (pos 1)
       ∙ ap (λ (y : ℤ). y +ℤ pos (2 ^ 63)) read-is
-      ∙ from-below (mag z) (f .sfits)
+      ∙ from-below (2 ^ 63) (mag z) (f .sfits)
 
   pub sum-fits : SFits w64 (read (read z +ℤ pos 9223372036854775807) +ℤ pos 1)
   sum-fits = subst⁻¹ (SFits w64) sum-is (record { sfits = omega arith })
@@ -55,7 +56,7 @@ module _ (z : ℤ) (f : SFits w64 z) (t : ltZ (read z) (pos 0) ≡ true) where
   sum-casts = subst⁻¹ (λ (y : ℤ). T (nonNeg y) × Fits w64 (natAbs y)) whole (tt, fits-natAbs {w = w64} {z = pos (2 ^ 63 - suc (mag z))} tt (record { sfits = omega arith }))
 
   pub below-raised : pos (natAbs (read (read (read z +ℤ pos 9223372036854775807) +ℤ pos 1))) ≡ z +ℤ pos (2 ^ 63)
-  below-raised = ap (λ (y : ℤ). pos (natAbs y)) whole ∙ sym (ap (λ (y : ℤ). y +ℤ pos (2 ^ 63)) (below-is z f t) ∙ from-below (mag z) (f .sfits))
+  below-raised = ap (λ (y : ℤ). pos (natAbs y)) whole ∙ sym (ap (λ (y : ℤ). y +ℤ pos (2 ^ 63)) (below-is z f t) ∙ from-below (2 ^ 63) (mag z) (f .sfits))
 
 -- ---- of any other
 module _ (z : ℤ) (f : SFits w64 z) (t : ltZ (read z) (pos 0) ≡ false) where
@@ -74,23 +75,33 @@ agree true b f g = sym (f refl)
 agree false true f g = g refl
 agree false false f g = refl
 
-far-raised : (z : ℤ) {r m : ℕ} → mag z < 2 ^ 63 → pos r ≡ z +ℤ pos (2 ^ 63) → m ≡ (r + 9223372037928517632) % 2 ^ 64 → ltb 2147483647 m ≡ outsideZ (negℤ (pos (2 ^ 30))) (pos (2 ^ 30 - 1)) z
+far-raised : (z : ℤ) {r m : ℕ} → mag z < 2 ^ 63 → pos r ≡ z +ℤ pos (2 ^ 63) → m ≡ (r + 9223372037928517632) % 2 ^ 64 → ltb 2147483647 m ≡ isFar z
 far-raised (pos n) {r} {m} h e q =
     let s : r ≡ n + 2 ^ 63 = pos-inj e in
     agree _ _ (λ t. lt-ltb (2 ^ 30 - 1) n (omega (arith, ltb-true 2147483647 m t))) (λ t. lt-ltb 2147483647 m (omega (arith, ltb-true (2 ^ 30 - 1) n t)))
 far-raised (negsuc k) {r} {m} h e q =
-    let s : r ≡ 2 ^ 63 - suc k = pos-inj (e ∙ from-below k h) in
+    let s : r ≡ 2 ^ 63 - suc k = pos-inj (e ∙ from-below (2 ^ 63) k h) in
     agree _ _ (λ t. lt-ltb (2 ^ 30 - 1) k (omega (arith, ltb-true 2147483647 m t))) (λ t. lt-ltb 2147483647 m (omega (arith, ltb-true (2 ^ 30 - 1) k t)))
     ∙ sym (or-none (ltb (2 ^ 30 - 1) k))
 
+near-raised : (z : ℤ) {r m : ℕ} → mag z < 2 ^ 63 → pos r ≡ z +ℤ pos (2 ^ 63) → m ≡ (r + 9223372037928517632) % 2 ^ 64 → m ≤ 2147483647 → pos m ≡ z +ℤ pos (2 ^ 30)
+near-raised (pos n) {r} {m} h e q b = let s : r ≡ n + 2 ^ 63 = pos-inj e in ap pos (omega arith)
+near-raised (negsuc k) {r} {m} h e q b =
+    let s : r ≡ 2 ^ 63 - suc k = pos-inj (e ∙ from-below (2 ^ 63) k h) in
+    let m-is : m ≡ 2 ^ 30 - suc k = omega arith in
+    ap pos m-is ∙ sym (from-below (2 ^ 30) k (omega arith))
+
 -- of a level that was stored and read again
-pub far-read : (z : ℤ) {r m : ℕ} → mag z < 2 ^ 63 → pos r ≡ read z +ℤ pos (2 ^ 63) → m ≡ (r + 9223372037928517632) % 2 ^ 64 → ltb 2147483647 m ≡ outsideZ (negℤ (pos (2 ^ 30))) (pos (2 ^ 30 - 1)) z
-far-read z h e q = far-raised z h (e ∙ ap (λ (y : ℤ). y +ℤ pos (2 ^ 63)) (toZ-ofZ w64 z (record { sfits = h }))) q
+pub lift-raised : (z : ℤ) {r m : ℕ} → mag z < 2 ^ 63 → pos r ≡ read z +ℤ pos (2 ^ 63) → m ≡ (r + 9223372037928517632) % 2 ^ 64 → Lift z m
+lift-raised z h e q = let e′ = e ∙ ap (λ (y : ℤ). y +ℤ pos (2 ^ 63)) (toZ-ofZ w64 z (record { sfits = h })) in record { far = far-raised z h e′ q; near = near-raised z h e′ q }
+
+pub lift-read : (z : ℤ) {m : ℕ} → mag z < 2 ^ 63 → Lift (read z) m → Lift z m
+lift-read z {m} h L = subst (λ (y : ℤ). Lift y m) (toZ-ofZ w64 z (record { sfits = h })) L
 
 -- ---- no level outside −2^30..2^30 − 1: none outside −(2^31 − 1)..2^31 − 1
-near-inside : (z : ℤ) → outsideZ (negℤ (pos (2 ^ 30))) (pos (2 ^ 30 - 1)) z ≡ false → outsideZ (negℤ (pos (2 ^ 31 - 1))) (pos (2 ^ 31 - 1)) z ≡ false
+near-inside : (z : ℤ) → isFar z ≡ false → outsideZ (negℤ (pos (2 ^ 31 - 1))) (pos (2 ^ 31 - 1)) z ≡ false
 near-inside (pos n) e = le-ltb (2 ^ 31 - 1) n (omega (arith, ltb-false (2 ^ 30 - 1) n e))
 near-inside (negsuc k) e = or-no (ltb (2 ^ 31 - 2) k) false (le-ltb (2 ^ 31 - 2) k (omega (arith, ltb-false (2 ^ 30 - 1) k (or-false (ltb (2 ^ 30 - 1) k) false e .0)))) refl
 
-pub none-outside : (s : List ℤ) → anyOf (outsideZ (negℤ (pos (2 ^ 30))) (pos (2 ^ 30 - 1))) s ≡ false → anyOf (outsideZ (negℤ (pos (2 ^ 31 - 1))) (pos (2 ^ 31 - 1))) s ≡ false
+pub none-outside : (s : List ℤ) → anyOf isFar s ≡ false → anyOf (outsideZ (negℤ (pos (2 ^ 31 - 1))) (pos (2 ^ 31 - 1))) s ≡ false
 none-outside s e = none-any _ s (every-imp _ _ s near-inside (any-none _ s e))

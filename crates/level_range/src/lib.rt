@@ -7,6 +7,7 @@ ghost use Prim.Native.Nat.{_-_, _^_};
 ghost use lib.IntN.{pos, negℤ, _+ℤ_};
 ghost use Rattle.numbers.specs.Lists.{anyOf};
 ghost use Rattle.numbers.specs.Ranges.{outsideZ};
+ghost use Rattle.level_range.specs.Near.{isFar, Lift};
 
 // A level as a number above zero: 2^63 is added.
 fn raised(z: i64) -> u64
@@ -18,22 +19,38 @@ fn raised(z: i64) -> u64
     z as u64 + 9223372036854775808
 }
 
-// Whether some level is outside -2^30..2^30 - 1. With 2^30 added, modulo 2^64, those inside are below 2^31, and so are their bits joined.
+// A level with 2^30 added, modulo 2^64.
+//
+// * `z` - the level.
+//
+// Refuses nothing. A level in -2^30..2^30 - 1 becomes a number below 2^31, any other a greater one. Of -1 it is 1073741823, of -2^30 - 1 it is 2^64 - 1.
+pub fn lifted(z: i64) -> u64
+    ensures { λ r. ⌜ Lift z r ⌝ }
+{
+    std::num::wrapping_add_u64(raised(z), 9223372037928517632)
+}
+
+// Whether some level is outside -2^30..2^30 - 1: those inside are lifted to numbers below 2^31, and so are their bits joined.
 fn any_far(line: &[i64]) -> bool
-    ensures { λ r. ⌜ r ≡ anyOf (outsideZ (negℤ (pos (2 ^ 30))) (pos (2 ^ 30 - 1))) (now (line .entry)) ⌝ }
+    ensures { λ r. ⌜ r ≡ anyOf isFar (now (line .entry)) ⌝ }
 {
     let mut bits = 0;
     let mut i = 0;
     while i < line.len() {
         let z = line[i];
-        bits = bits | std::num::wrapping_add_u64(raised(z), 9223372037928517632);
+        bits = bits | lifted(z);
         i += 1;
     }
     2147483647 < bits
 }
 
-// Whether some level is outside -(2^31 - 1)..2^31 - 1: the sizes' bits joined pass the limit where one size does.
-fn any_over(line: &[i64]) -> bool
+// Whether some level is outside -(2^31 - 1)..2^31 - 1: the sizes' bits joined pass the limit where one size does. For a line that is known to have a level of 2^30 or
+// more in size; of any other `any_outside` is quicker.
+//
+// * `line` - the levels, any number of them.
+//
+// Refuses nothing. Of 2147483648 alone it is true, of 2147483647 false, of no level false.
+pub fn any_over(line: &[i64]) -> bool
     ensures { λ r. ⌜ r ≡ anyOf (outsideZ (negℤ (pos (2 ^ 31 - 1))) (pos (2 ^ 31 - 1))) (now (line .entry)) ⌝ }
 {
     let mut sizes = 0;

@@ -1,8 +1,11 @@
 // The mean of a line's levels, and which lines it and the median serve.
 ghost use mathlib.Core.Path.{_≡_};
 ghost use mathlib.Core.Bool.{false};
+ghost use Prim.Native.Nat.{_≤_};
+ghost use lib.ListN.{length};
 ghost use Rattle.numbers.specs.Sums.{sumOf};
 ghost use Rattle.statistics.specs.Statistics.{meanOf, unserved, answered};
+ghost use Rattle.line_mean.specs.NearSum.{NearSum};
 
 // How many cells a line may have that mean and median serve.
 const MOST_CELLS: usize = 1024;
@@ -36,6 +39,47 @@ fn sum(line: &[i64]) -> i64
     sum
 }
 
+// The levels of a line, each with 2^30 added: their bits joined, and their sum modulo 2^64.
+struct Lifts {
+    bits: u64,
+    sum: u64,
+}
+
+// Lifts the levels, in one pass with no early return, of which the compiler makes vector code.
+fn lift_all(line: &[i64]) -> Lifts
+    requires { ⌜ length (now line) ≤ 1024 ⌝ }
+    ensures { λ r. ⌜ (r .bits ≤ 2147483647 → NearSum (now (line .entry)) (r .sum)) ⌝ }
+{
+    let mut bits = 0;
+    let mut sum = 0;
+    let mut i = 0;
+    while i < line.len() {
+        let z = line[i];
+        let w = level_range::lifted(z);
+        bits = bits | w;
+        sum = std::num::wrapping_add_u64(sum, w);
+        i += 1;
+    }
+    Lifts { bits, sum }
+}
+
+// The sum of the levels, 0 of a line that is not served. Most lines have no level of 2^30 or more in size: there the lifted sum less what was added is the sum.
+fn total(line: &[i64]) -> i64
+    requires { ⌜ length (now line) ≤ 1024 ⌝ }
+    ensures { λ r. ⌜ r ≡ answered sumOf (now (line .entry)) ⌝ }
+{
+    let lifts = lift_all(line);
+    let bits = lifts.bits;
+    if bits <= 2147483647 {
+        let lifted = lifts.sum;
+        return lifted as i64 - (line.len() * 1073741824) as i64;
+    }
+    if level_range::any_over(line) {
+        return 0;
+    }
+    sum(line)
+}
+
 // The sum of the levels over their number, cut toward zero.
 //
 // * `line` - up to 1,024 levels in -(2^31 - 1)..2^31 - 1.
@@ -48,8 +92,8 @@ pub fn mean(line: &[i64]) -> i64
     if n == 0 {
         return 0;
     }
-    if not_served(line) {
+    if MOST_CELLS < n {
         return 0;
     }
-    sum(line) / (n as i64)
+    total(line) / (n as i64)
 }

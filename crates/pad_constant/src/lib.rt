@@ -5,7 +5,8 @@ ghost use lib.ListN.{length};
 ghost use Rattle.array.specs.Grid.{cellCount};
 ghost use Rattle.pad_frame.specs.Frame.{Framed};
 ghost use Rattle.pad_constant.specs.Around.{gapSet, Around};
-use pad_middle::row_place;
+use pad_middle::first_row;
+use pad_middle::next_row;
 
 // Sets the places from `from` on, up to `to`, to a level.
 fn fill_gap(level: i64, from: usize, to: usize, out: &mut [i64])
@@ -41,12 +42,14 @@ pub fn fill_around(
     let last = shape.len() - 1;
     let n = shape[last];
     let rows = cells / n;
+    let mut start = first_row(shape, lefts, padded);
     let mut done = 0;
     let mut row = 0;
     while row < rows {
-        let at = row_place(shape, lefts, padded, row);
+        let at = start.place;
         fill_gap(level, done, at, out);
         done = at + n;
+        start = next_row(shape, lefts, padded, row, start);
         row += 1;
     }
     let end = out.len();

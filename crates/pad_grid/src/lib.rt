@@ -26,8 +26,8 @@ fn fill_in(
     }
 }
 
-// Fills every axis under a mode that takes one level for a lane.
-fn fill_levels(
+// Fills every axis of any grid; the line that lanes are read into is set to 0 once.
+fn fill_by_line(
     mode: border::PadMode,
     shape: &[usize],
     lefts: &[usize],
@@ -39,6 +39,25 @@ fn fill_levels(
 {
     let mut line = [0; 1152];
     fill_in(mode, shape, lefts, padded, &mut line, out);
+}
+
+// Fills every axis under a mode that takes one level for a lane. The cells of a grid of one axis stand side by side, and no lane is read into the line.
+fn fill_levels(
+    mode: border::PadMode,
+    shape: &[usize],
+    lefts: &[usize],
+    padded: &[usize],
+    out: &mut [i64],
+)
+    requires { ⌜ Filling mode (now shape) (now lefts) (now padded) × (length (now out) ≡ cellCount (now padded)) ⌝ }
+    ensures { λ _. ⌜ Fills mode (now (shape .entry)) (now (lefts .entry)) (now (padded .entry)) 0 (length (now (shape .entry))) (now (out .entry)) (now (out .exit)) ⌝ }
+{
+    if shape.len() == 1 {
+        let mut none = [0; 0];
+        fill_axis(mode, shape, lefts, padded, 0, &mut none, out);
+        return;
+    }
+    fill_by_line(mode, shape, lefts, padded, out);
 }
 
 // Fills every axis: where the middle held its levels, every place then does.

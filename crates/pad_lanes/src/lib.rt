@@ -25,7 +25,7 @@ fn fill_lane(
     line: &mut [i64],
     out: &mut [i64],
 )
-    requires { ⌜ Filling mode (now shape) (now lefts) (now padded) × (axis < length (now shape)) × (length (now line) ≡ 1152) × (length (now out) ≡ cellCount (now padded)) × (p ≡ lengthOf (now padded) axis) × (s ≡ strideOf (now padded) axis) × (lane < cellCount (now padded) / p) ⌝ }
+    requires { ⌜ Filling mode (now shape) (now lefts) (now padded) × (axis < length (now shape)) × ((s ≡ 1 → ⊥) → length (now line) ≡ 1152) × (length (now out) ≡ cellCount (now padded)) × (p ≡ lengthOf (now padded) axis) × (s ≡ strideOf (now padded) axis) × (lane < cellCount (now padded) / p) ⌝ }
     ensures { λ _. ⌜ now (out .exit) ≡ cond (middleFrom (now (shape .entry)) (now (lefts .entry)) (suc axis) (coordinate (now (padded .entry)) (laneBase p s lane))) (filledLane mode p s lane (getD (now (lefts .entry)) axis 0) (lengthOf (now (shape .entry)) axis) (now (out .entry))) (now (out .entry)) ⌝ }
 {
     let first = lanes::first_place(out.len(), p, s, lane);
@@ -50,7 +50,7 @@ fn fill_lane(
 // * `shape` - the length of each axis of the grid in the middle.
 // * `lefts`, `padded` - the pad before each axis, and its padded length.
 // * `axis` - the axis that is filled.
-// * `line` - a buffer of 1,152 cells.
+// * `line` - a buffer of 1,152 cells, where the cells of a lane stand apart; else of any length.
 // * `out` - the padded grid.
 //
 // Supposes `Filling`, and refuses nothing. Of 9 1 2 8 with 1 2 in the middle, axis 0 under Maximum: 2 1 2 2.
@@ -63,7 +63,7 @@ pub fn fill_axis(
     line: &mut [i64],
     out: &mut [i64],
 )
-    requires { ⌜ Filling mode (now shape) (now lefts) (now padded) × (axis < length (now shape)) × (length (now line) ≡ 1152) × (length (now out) ≡ cellCount (now padded)) ⌝ }
+    requires { ⌜ Filling mode (now shape) (now lefts) (now padded) × (axis < length (now shape)) × ((strideOf (now padded) axis ≡ 1 → ⊥) → length (now line) ≡ 1152) × (length (now out) ≡ cellCount (now padded)) ⌝ }
     ensures { λ _. ⌜ Fills mode (now (shape .entry)) (now (lefts .entry)) (now (padded .entry)) axis (suc axis) (now (out .entry)) (now (out .exit)) ⌝ }
 {
     let p = shapes::len_of(padded, axis);

@@ -2,4 +2,5 @@
 pub mod Targets
 pub mod Row
 pub mod RowPlace
+pub mod RowSteps
 pub mod Copied

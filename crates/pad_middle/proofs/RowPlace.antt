@@ -1,4 +1,4 @@
--- Where a row starts in the padded grid, on one, two and three axes, as the code computes it; every step of it is small.
+-- Where a row starts in the padded grid, on one, two and three axes; the numbers on the way from row to row are small.
 -- Assumes nothing.
 use mathlib.Core.Path.{_≡_, sym, ap, _∙_}
 use mathlib.Core.List.{List, [], _∷_}
@@ -44,7 +44,7 @@ module _ (n m l row : ℕ) where
   two-place = omega arith ∙ place-two row 0 m
 
 -- ---- a list of one, two or three members
-with-one : (P : List ℕ → Type 0) → ((n : ℕ) → P (n ∷ [])) → (ns : List ℕ) → length ns ≡ 1 → P ns
+pub with-one : (P : List ℕ → Type 0) → ((n : ℕ) → P (n ∷ [])) → (ns : List ℕ) → length ns ≡ 1 → P ns
 with-one P h [] e = absurd (omega arith)
 with-one P h (n ∷ []) e = h n
 with-one P h (n ∷ m ∷ ns) e = absurd (omega arith)
@@ -116,16 +116,21 @@ module _ (ns lefts ps : List ℕ) (F : Framed ns lefts ps) where
   pub padded-small : (a : ℕ) → a < length ns → getD ps a 0 ≤ 1152
   padded-small a l = omega (arith, getD-default ps a 0 1 (omega (arith, F .axes)), F .short a)
 
-  module _ (row : ℕ) (h : row * rowLength ns < cellCount ns) where
-    pub row-small : row ≤ 8192
-    row-small =
-        let p = length-pos ns (length ns - 1) (grid-accepted F .full) in
-        omega (arith, mul-le-mul (le-refl row) p, grid-accepted F .small)
+  pub axis-room : (a : ℕ) → a < length ns → getD ns a 0 ≤ getD ps a 0
+  axis-room a l = omega (arith, F .room a l, getD-default ns a 0 1 l, getD-default ps a 0 1 (omega (arith, F .axes)))
 
-    -- a coordinate on the first axis that is not over the row's number, and a place on the first two
-    pub start-first : (x : ℕ) → x ≤ row → 1 < length ns → (getD lefts 0 0 + x) * getD ps 1 0 ≤ 9344 * 1152
-    start-first x b l = mul-le-mul {n₂ = 9344} (omega (arith, left-small 0 (omega arith), row-small)) (padded-small 1 l)
+  pub row-small : (row : ℕ) → row * rowLength ns < cellCount ns → row ≤ 8192
+  row-small row h =
+      let p = length-pos ns (length ns - 1) (grid-accepted F .full) in
+      omega (arith, mul-le-mul (le-refl row) p, grid-accepted F .small)
 
-    pub start-second : (x y : ℕ) → x ≤ row → y ≤ row → 2 < length ns → ((getD lefts 0 0 + x) * getD ps 1 0 + (getD lefts 1 0 + y)) * getD ps 2 0 ≤ 10773632 * 1152
-    start-second x y b c l =
-        mul-le-mul {n₂ = 10773632} (omega (arith, start-first x b (omega arith), left-small 1 (omega arith), row-small)) (padded-small 2 l)
+  -- the place of the first row on the first two axes, and on all three without the last pad
+  pub first-second : 1 < length ns → getD lefts 0 0 * getD ps 1 0 ≤ 1152 * 1152
+  first-second l = mul-le-mul {n₂ = 1152} (left-small 0 (omega arith)) (padded-small 1 l)
+
+  pub first-third : 2 < length ns → (getD lefts 0 0 * getD ps 1 0 + getD lefts 1 0) * getD ps 2 0 ≤ 1328256 * 1152
+  first-third l = mul-le-mul {n₂ = 1328256} (omega (arith, first-second (omega arith), left-small 1 (omega arith))) (padded-small 2 l)
+
+  -- what lies between the last row of a plane and the first of the next
+  pub step-small : 2 < length ns → (getD ps 1 0 - getD ns 1 0 + 1) * getD ps 2 0 ≤ 1153 * 1152
+  step-small l = mul-le-mul {n₂ = 1153} (omega (arith, padded-small 1 (omega arith))) (padded-small 2 l)

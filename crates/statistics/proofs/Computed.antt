@@ -1,9 +1,10 @@
 -- Mean and median as they are computed: of no level, by the quotient of the sum, and by the levels of one rank or two.
 -- Assumes nothing.
 use mathlib.Core.Path.{_≡_, refl, sym, ap, _∙_}
+use mathlib.Core.Bool.{Bool, true, false, cond}
 use mathlib.Core.List.{List, [], _∷_}
 use Prim.Native.Nat.{ℕ, _+_, _-_, _/_, _%_}
-use native.Mathlib.Nat.{suc-ne-zero}
+use native.Mathlib.Nat.{suc-ne-zero, zero-div}
 use native.Mathlib.Numerals.{add-one}
 use borrow.Author.Tests.{eq-eqb, ne-eqb}
 use lib.Dec.{eqb}
@@ -31,6 +32,15 @@ module _ (l : List ℤ) where
   pub mean-quotient : quotZ (sumOf l) (pos (length l)) ≡ meanOf l
   unfolding meanOf
   mean-quotient = refl
+
+  -- of the sum that is answered: the mean that is answered
+  pub mean-answered : quotZ (answered sumOf l) (pos (length l)) ≡ answered meanOf l
+  unfolding meanOf
+  mean-answered = go (unserved l)
+    where
+      go : (t : Bool) → quotZ (cond t (pos 0) (sumOf l)) (pos (length l)) ≡ cond t (pos 0) (meanOf l)
+      go true = ap pos (zero-div (length l))
+      go false = refl
 
   pub median-odd : length l % 2 ≡ 1 → ranked l ((length l - 1) / 2) ≡ medianOf l
   unfolding medianOf

@@ -48,14 +48,18 @@ returns c =
     (c .level-of .ensures
     ∙ ap (statisticOf (a .statistic)) (own-beside (a .p) (a .s) (a .l) (a .left) (a .n) (now (a .grid)) (c .before .before .if1 .taken) (s .pre .1) (s .pre .0) (s .pre .2)))
 
+-- where its cells stand apart, the lane is no longer than the line
+lent : (c : tie.Else1) → let a = c .before .args in a .p ≤ length (now (a .line))
+lent c = c .before .pre .3 (c .if1 .left)
+
 slice-relend-prefix-level-by : tie.Need-slice-relend-prefix-level-by
-slice-relend-prefix-level-by c = search needs
+slice-relend-prefix-level-by c = lent c
 
 slice-aggregate-level-by : tie.Need-slice-aggregate-level-by
-slice-aggregate-level-by c = let s = c .before .before in sym (length-take-le (s .args .p) (now (s .args .line)) (s .pre .3))
+slice-aggregate-level-by c = let s = c .before .before in sym (length-take-le (s .args .p) (now (s .args .line)) (lent (c .before)))
 
 level-by-requires : tie.Need-level-by-requires
-level-by-requires c κs = let s = c .before .before in rw (length-take-le (s .args .p) (now (s .args .line)) (s .pre .3)) (s .pre .0, s .pre .2)
+level-by-requires c κs = let s = c .before .before in rw (length-take-le (s .args .p) (now (s .args .line)) (lent (c .before))) (s .pre .0, s .pre .2)
 
 same-length : tie.Need-same-length
 same-length c = search needs
@@ -66,7 +70,7 @@ returns-2 c =
     let a = s .args in
     read (c .before .level-by .ok)
     (c .before .level-by .ensures
-    ∙ ap (λ (m : ℕ). statisticOf (a .statistic) (ownOf (pos 0) m (a .s) (a .l) (a .left) (a .n) (now (a .grid)))) (length-take-le (a .p) (now (a .line)) (s .pre .3)))
+    ∙ ap (λ (m : ℕ). statisticOf (a .statistic) (ownOf (pos 0) m (a .s) (a .l) (a .left) (a .n) (now (a .grid)))) (length-take-le (a .p) (now (a .line)) (lent (c .before .before .before))))
 
 pub level-in-spec : {M : Type 1} → statement M
 level-in-spec =

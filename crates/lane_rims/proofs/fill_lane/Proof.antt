@@ -40,9 +40,9 @@ based c =
     let a = c .before .before .before .args in
     c .before .before .first-place .ensures ∙ cond-yes (laneInside (a .p) (a .s) (a .l) (length (now (a .out)))) (laneBase (a .p) (a .s) (a .l)) (length (now (a .out))) (served c .inside)
 
--- the lane is no longer than the buffer
-lent : (c : tie.Else1) → let a = c .before .before .before .args in a .p ≤ length (now (a .line))
-lent c = omega (arith, served c .short, c .before .before .before .pre)
+-- where its cells stand apart, the lane is no longer than the buffer
+lent : (c : tie.Else1) → let a = c .before .before .before .args in (a .s ≡ 1 → ⊥) → a .p ≤ length (now (a .line))
+lent c apart = omega (arith, served c .short, c .before .before .before .pre apart)
 
 -- the grid with the lane's own cells extended by a border
 abbrev extended : tie.Else1 → Border ℤ → List ℤ

@@ -2,18 +2,18 @@
 -- outside. The measure is what is left of the line.
 -- Assumes nothing.
 use borrow.Author.Needs.{needs}
-use Prim.Native.Nat.{_≤_, _-_, _^_}
-use lib.IntN.{pos, negℤ}
+use Prim.Native.Nat.{_≤_, _-_}
+use lib.IntN.{pos}
 use lib.ListN.{length, getD}
 use denote.Ref.{now}
-use Rattle.numbers.specs.Ranges.{outsideZ}
 use Rattle.numbers.proofs.Seen.{Seen, seen-none, seen-joined, seen-all}
-use Rattle.level_range.proofs.Raising.{far-read}
+use Rattle.level_range.specs.Near.{isFar}
+use Rattle.level_range.proofs.Raising.{lift-read}
 use Rattle.level_range.proofs.any_far.Statement.{statement}
 use Rattle.level_range.proofs.any_far.Tie as tie
 
 abbrev Inv-loop : tie.InvT-loop
-Inv-loop line bits₀ i₀ bits i = (i ≤ length line) × Seen (outsideZ (negℤ (pos (2 ^ 30))) (pos (2 ^ 30 - 1))) 2147483647 line i bits
+Inv-loop line bits₀ i₀ bits i = (i ≤ length line) × Seen isFar 2147483647 line i bits
 
 abbrev μ-loop : tie.MeasureT-loop
 μ-loop line bits₀ i₀ bits i = length line - i
@@ -27,11 +27,8 @@ mul-z c = search needs
 shared-slice-copy-out-z : tie.Need-shared-slice-copy-out-z Inv-loop μ-loop
 shared-slice-copy-out-z c = search needs
 
-raised-requires : tie.Need-raised-requires Inv-loop μ-loop
-raised-requires c κs = search needs
-
-wrapping-add-u64-requires : tie.Need-wrapping-add-u64-requires Inv-loop μ-loop
-wrapping-add-u64-requires c κs = search needs
+lifted-requires : tie.Need-lifted-requires Inv-loop μ-loop
+lifted-requires c κs = search needs
 
 add-i : tie.Need-add-i Inv-loop μ-loop
 add-i c = search needs
@@ -41,9 +38,9 @@ loop-less c = search needs
 
 loop-again : tie.Need-loop-again Inv-loop μ-loop
 loop-again c =
-    let l = c .before .before .before .before .loop in
-    let line = now (c .before .before .before .before .before .args .line) in
-    (search needs, seen-joined 31 _ (pos 0) (l .inv .1) (search needs) (far-read (getD line (l .i) (pos 0)) (c .before .before .z .given) (c .before .raised .ensures) (c .wrapping-add-u64 .ensures)))
+    let l = c .before .before .before .loop in
+    let line = now (c .before .before .before .before .args .line) in
+    (search needs, seen-joined 31 _ (pos 0) (l .inv .1) (search needs) (lift-read (getD line (l .i) (pos 0)) (c .before .z .given) (c .lifted .ensures) .far))
 
 returns : tie.Need-returns Inv-loop μ-loop
 returns c = seen-all (c .before .loop .inv .1) (search needs)
@@ -57,8 +54,7 @@ any-far-spec =
     loop-holds
     mul-z
     shared-slice-copy-out-z
-    raised-requires
-    wrapping-add-u64-requires
+    lifted-requires
     add-i
     loop-less
     loop-again

@@ -14,6 +14,7 @@ use Rattle.array.specs.Grid.{cellCount}
 use Rattle.array.proofs.Places.{length-pos}
 use Rattle.pad_frame.specs.Frame.{rowLength}
 use Rattle.pad_frame.proofs.Room.{grid-accepted}
+use Rattle.pad_middle.specs.RowStarts.{RowStarts}
 use Rattle.pad_middle.proofs.Copied.{rows-in, row-start, row-fits}
 use Rattle.pad_middle.proofs.RowPlace.{row-small}
 use Rattle.pad_constant.proofs.Gaps.{Beside, beside-none, beside-row, beside-end}
@@ -21,11 +22,11 @@ use Rattle.pad_constant.proofs.fill_around.Statement.{statement}
 use Rattle.pad_constant.proofs.fill_around.Tie as tie
 
 abbrev Inv-loop : tie.InvT-loop
-Inv-loop level cells shape lefts padded out₀ last n rows done₀ row₀ out done row =
-    (row ≤ rows) × (n ≡ rowLength shape) × (rows ≡ cellCount shape / rowLength shape) × Beside (toZ w64 level) shape lefts padded done out
+Inv-loop level cells shape lefts padded out₀ last n rows start₀ done₀ row₀ out start done row =
+    (row ≤ rows) × (n ≡ rowLength shape) × (rows ≡ cellCount shape / rowLength shape) × Beside (toZ w64 level) shape lefts padded done out × RowStarts shape lefts padded row start
 
 abbrev μ-loop : tie.MeasureT-loop
-μ-loop level cells shape lefts padded out₀ last n rows done₀ row₀ out done row = rows - row
+μ-loop level cells shape lefts padded out₀ last n rows start₀ done₀ row₀ out start done row = rows - row
 
 -- the last axis is there, and its length is the row's
 last-in : (s : tie.Start Inv-loop μ-loop) → length (now (s .args .shape)) - 1 < length (now (s .args .shape))
@@ -46,46 +47,50 @@ shared-slice-read-n c = last-in (c .before .before .before .before)
 div-rows : tie.Need-div-rows Inv-loop μ-loop
 div-rows c = let s = c .before .before .before .before in omega (arith, width s, length-pos (now (s .args .shape)) (length (now (s .args .shape)) - 1) (grid-accepted (s .pre .0) .full))
 
+first-row-requires : tie.Need-first-row-requires Inv-loop μ-loop
+first-row-requires c κs = search needs
+
 loop-holds : tie.Need-loop-holds Inv-loop μ-loop
-loop-holds c = let s = c .before .before .before .before in (search needs, width s, (λ i. s .pre .1 i / width s i), beside-none _ _ _ _ (s .pre .2))
+loop-holds c = let s = c .before .before .before .before .before in (search needs, width s, (λ i. s .pre .1 i / width s i), beside-none _ _ _ _ (s .pre .2), c .first-row .ensures)
 
 -- the row of a turn is in the grid, and its target in the padded one
-whole-row : (c : tie.In-loop Inv-loop μ-loop) → let ns = now (c .before .before .before .before .before .before .args .shape) in c .before .loop .row * rowLength ns + rowLength ns ≤ cellCount ns
-whole-row c = let s = c .before .before .before .before .before .before in rows-in _ _ _ (s .pre .0) (omega (arith, c .loop-test .taken, c .before .loop .inv .2))
+whole-row : (c : tie.In-loop Inv-loop μ-loop) → let ns = now (c .before .before .before .before .before .before .before .args .shape) in c .before .loop .row * rowLength ns + rowLength ns ≤ cellCount ns
+whole-row c = let s = c .before .before .before .before .before .before .before in rows-in _ _ _ (s .pre .0) (omega (arith, c .loop-test .taken, c .before .loop .inv .2))
 
-target-in : (c : tie.After-row-place Inv-loop μ-loop) → let a = c .before .before .before .before .before .before .before .args in c .row-place .result + rowLength (now (a .shape)) ≤ cellCount (now (a .padded))
+row-there : (c : tie.In-loop Inv-loop μ-loop) → let ns = now (c .before .before .before .before .before .before .before .args .shape) in c .before .loop .row * rowLength ns < cellCount ns
+row-there c = let s = c .before .before .before .before .before .before .before in row-start _ _ _ (s .pre .0) (c .before .loop .row) (whole-row c)
+
+target-in : (c : tie.In-loop Inv-loop μ-loop) → let a = c .before .before .before .before .before .before .before .args in c .before .loop .start .place + rowLength (now (a .shape)) ≤ cellCount (now (a .padded))
 target-in c =
     let s = c .before .before .before .before .before .before .before in
-    omega (arith, c .row-place .ensures, row-fits _ _ _ (s .pre .0) (c .before .before .loop .row) (whole-row (c .before)))
-
-row-place-requires : tie.Need-row-place-requires Inv-loop μ-loop
-row-place-requires c κs = let s = c .before .before .before .before .before .before in (s .pre .0, row-start _ _ _ (s .pre .0) (c .before .loop .row) (whole-row c))
+    let l = c .before .loop in
+    omega (arith, l .inv .4 .place (row-there c), row-fits _ _ _ (s .pre .0) (l .row) (whole-row c))
 
 fill-gap-requires : tie.Need-fill-gap-requires Inv-loop μ-loop
-fill-gap-requires c κs = omega (arith, target-in (c .before), c .before .before .before .loop .inv .3 .count)
+fill-gap-requires c κs = omega (arith, target-in (c .before), c .before .before .loop .inv .3 .count)
 
 add-done : tie.Need-add-done Inv-loop μ-loop
 add-done c =
-    let r = c .before .before .before in
-    let s = r .before .before .before .before .before .before .before in
-    omega (arith, target-in r, r .before .before .loop .inv .1, s .pre .0 .small)
+    let i = c .before .before .before in
+    omega (arith, target-in i, i .before .loop .inv .1, i .before .before .before .before .before .before .before .pre .0 .small)
+
+next-row-requires : tie.Need-next-row-requires Inv-loop μ-loop
+next-row-requires c κs = let i = c .before .before .before in (i .before .before .before .before .before .before .before .pre .0, i .before .loop .inv .4, row-there i)
 
 add-row : tie.Need-add-row Inv-loop μ-loop
 add-row c =
     let i = c .before .before .before .before in
-    let s = i .before .before .before .before .before .before in
-    omega (arith, row-small _ _ _ (s .pre .0) (i .before .loop .row) (row-start _ _ _ (s .pre .0) (i .before .loop .row) (whole-row i)))
+    omega (arith, row-small _ _ _ (i .before .before .before .before .before .before .before .pre .0) (i .before .loop .row) (row-there i))
 
 loop-less : tie.Need-loop-less Inv-loop μ-loop
 loop-less c = search needs
 
 loop-again : tie.Need-loop-again Inv-loop μ-loop
 loop-again c =
-    let r = c .before .before .before in
-    let i = r .before in
-    let s = i .before .before .before .before .before .before in
+    let i = c .before .before .before .before in
+    let s = i .before .before .before .before .before .before .before in
     let l = i .before .loop in
-    (search needs, l .inv .1, l .inv .2, beside-row _ _ _ _ (l .inv .3) _ (c .before .fill-gap .ensures) (l .inv .1) (s .pre .0) (l .row) (whole-row i) (r .row-place .ensures))
+    (search needs, l .inv .1, l .inv .2, beside-row _ _ _ _ (l .inv .3) _ (c .before .before .fill-gap .ensures) (l .inv .1) (s .pre .0) (l .row) (whole-row i) (l .inv .4 .place (row-there i)), c .next-row .ensures)
 
 fill-gap-requires-2 : tie.Need-fill-gap-requires-2 Inv-loop μ-loop
 fill-gap-requires-2 c κs = search needs
@@ -96,7 +101,7 @@ same-length c = search needs
 returns : tie.Need-returns Inv-loop μ-loop
 returns c =
     let l = c .before .before .before .before .loop in
-    let s = c .before .before .before .before .before .before .before .before .before in
+    let s = c .before .before .before .before .before .before .before .before .before .before in
     beside-end _ _ _ _ (l .inv .3) _ (c .before .fill-gap2 .ensures) (toZ-ofZ {w = w64} (s .fits .level)) refl
 
 pub fill-around-spec : {M : Type 1} → statement M
@@ -109,10 +114,11 @@ fill-around-spec =
     mul-n
     shared-slice-read-n
     div-rows
+    first-row-requires
     loop-holds
-    row-place-requires
     fill-gap-requires
     add-done
+    next-row-requires
     add-row
     loop-less
     loop-again

@@ -1,6 +1,6 @@
 -- `pad_lanes::fill_axis` meets its contract: lane by lane, more places hold their levels.
 -- Assumes nothing.
-use mathlib.Core.Path.{_≡_, sym, subst, _∙_}
+use mathlib.Core.Path.{_≡_, refl, sym, subst, _∙_}
 use Prim.Native.Nat.{ℕ, _-_, _<_}
 use native.Mathlib.Omega.{arith}
 use lib.ListN.{length}
@@ -11,7 +11,7 @@ use Rattle.pad_lanes.proofs.fill_axis.Statement.{statement}
 use Rattle.pad_lanes.proofs.fill_axis.Tie as tie
 
 abbrev Inv-loop : tie.InvT-loop
-Inv-loop mode shape lefts padded axis line₀ out₀ p s count lane₀ line out lane = OnAxis padded axis p s count × Along mode shape lefts padded axis out₀ lane out × (length line ≡ 1152)
+Inv-loop mode shape lefts padded axis line₀ out₀ p s count lane₀ line out lane = OnAxis padded axis p s count × Along mode shape lefts padded axis out₀ lane out × (length line ≡ length line₀)
 
 abbrev μ-loop : tie.MeasureT-loop
 μ-loop mode shape lefts padded axis line₀ out₀ p s count lane₀ line out lane = count - lane
@@ -38,14 +38,14 @@ div-count c =
 loop-holds : tie.Need-loop-holds Inv-loop μ-loop
 loop-holds c =
     let s = c .before .before .before .before .before .before .before in
-    (on-axis (s .pre .0 .framed) (c .before .before .before .len-of .ensures) (c .stride-of .ensures) (s .pre .3), along-none (s .pre .3), s .pre .2)
+    (on-axis (s .pre .0 .framed) (c .before .before .before .len-of .ensures) (c .stride-of .ensures) (s .pre .3), along-none (s .pre .3), refl)
 
 fill-lane-requires : tie.Need-fill-lane-requires Inv-loop μ-loop
 fill-lane-requires c κs =
     let s = c .before .before .before .before .before .before .before .before .before .before .before in
     let L = c .before .before .before .loop in
     let O = L .inv .0 in
-    (s .pre .0, s .pre .1, L .inv .2, L .inv .1 .count, O .long, O .apart, omega (arith, O .split))
+    (s .pre .0, s .pre .1, λ apart. L .inv .2 ∙ s .pre .2 (λ e. apart (O .apart ∙ e)), L .inv .1 .count, O .long, O .apart, omega (arith, O .split))
 
 add-lane : tie.Need-add-lane Inv-loop μ-loop
 add-lane c = let O = c .before .before .before .before .before .before .loop .inv .0 in record { fits = omega (arith, O .few) }

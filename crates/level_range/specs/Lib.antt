@@ -1,0 +1,2 @@
+-- Levels near 0.
+pub mod Near

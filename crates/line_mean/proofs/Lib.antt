@@ -1,0 +1,2 @@
+-- Laws of the lifted sum of a line.
+pub mod Lifting

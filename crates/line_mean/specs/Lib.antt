@@ -1,0 +1,2 @@
+-- The sum of a line of levels near 0.
+pub mod NearSum
