@@ -51,6 +51,15 @@ pub fn level_conditions() {
     test(conditions::bad_levels_f64(&[1.0, 0.0 / 0.0]));
 }
 
+pub fn levels_outside() {
+    test(level_range::any_outside(&[2147483648]));
+    test(level_range::any_outside(&[2147483647]));
+    test(level_range::any_over(&[2147483648]));
+    test(level_range::any_over(&[2147483647]));
+    line(level_range::lifted(-1) as usize);
+    line(level_range::lifted(-1073741825) as usize);
+}
+
 pub fn judges() {
     line(conditions::judge_grid(&[1, 2, 3], &[2, 2], 4, 4) as usize);
     line(conditions::judge_grid_f64(&[0.0 / 0.0], &[1], 1, 1) as usize);

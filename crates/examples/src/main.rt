@@ -11,6 +11,7 @@ fn rows() {
     numbers::rows();
     array::rows();
     lanes::rows();
+    level_range::rows();
     border::rows();
     origin::rows();
     minlist::rows();
@@ -30,6 +31,7 @@ fn main() {
     arrays::limits();
     arrays::large_shapes();
     arrays::level_conditions();
+    arrays::levels_outside();
     arrays::judges();
     arrays::copies();
     arrays::read_lanes();

@@ -10,6 +10,7 @@ fn rows() {
     worked_examples::worked_examples();
     kernel3d::rows();
     symmetry::rows();
+    steps::rows();
     pad_line::rows();
     pad_line_f64::rows();
     axis_filter::rows();

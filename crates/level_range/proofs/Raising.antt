@@ -15,7 +15,7 @@ use mir.Val.{toZ, ofZ, SFits, Fits}
 use mir.ValLaws.{toZ-ofZ}
 use mir.Facts.{fits-natAbs}
 use Rattle.numbers.specs.Ranges.{outsideZ}
-use Rattle.level_range.specs.Near.{isFar, Lift}
+use Rattle.level_range.specs.Near.{isFar, liftOf}
 use Rattle.numbers.proofs.Sign.{below-is, on-read, on-is}
 use Rattle.numbers.specs.Lists.{anyOf}
 use Rattle.numbers.proofs.Any.{none-any, any-none, every-imp}
@@ -75,28 +75,34 @@ agree true b f g = sym (f refl)
 agree false true f g = g refl
 agree false false f g = refl
 
-far-raised : (z : ℤ) {r m : ℕ} → mag z < 2 ^ 63 → pos r ≡ z +ℤ pos (2 ^ 63) → m ≡ (r + 9223372037928517632) % 2 ^ 64 → ltb 2147483647 m ≡ isFar z
-far-raised (pos n) {r} {m} h e q =
-    let s : r ≡ n + 2 ^ 63 = pos-inj e in
-    agree _ _ (λ t. lt-ltb (2 ^ 30 - 1) n (omega (arith, ltb-true 2147483647 m t))) (λ t. lt-ltb 2147483647 m (omega (arith, ltb-true (2 ^ 30 - 1) n t)))
-far-raised (negsuc k) {r} {m} h e q =
-    let s : r ≡ 2 ^ 63 - suc k = pos-inj (e ∙ from-below (2 ^ 63) k h) in
+-- a raised level, with 2^63 + 2^30 added, is the lifted one
+pub lift-raised : (z : ℤ) {r m : ℕ} → mag z < 2 ^ 63 → pos r ≡ read z +ℤ pos (2 ^ 63) → m ≡ (r + 9223372037928517632) % 2 ^ 64 → m ≡ liftOf z
+lift-raised z {r} {m} h e q = go z h (e ∙ ap (λ (y : ℤ). y +ℤ pos (2 ^ 63)) (toZ-ofZ w64 z (record { sfits = h })))
+  where
+    go : (z : ℤ) → mag z < 2 ^ 63 → pos r ≡ z +ℤ pos (2 ^ 63) → m ≡ liftOf z
+    go (pos n) h e = let s : r ≡ n + 2 ^ 63 = pos-inj e in omega arith
+    go (negsuc k) h e = let s : r ≡ 2 ^ 63 - suc k = pos-inj (e ∙ from-below (2 ^ 63) k h) in omega arith
+
+-- ---- what a lifted level tells: whether the level is far, and of any other what it is
+pub record Lift (z : ℤ) (r : ℕ) : Type 0 where
+  pub far : ltb 2147483647 r ≡ isFar z
+  pub near : r ≤ 2147483647 → pos r ≡ z +ℤ pos (2 ^ 30)
+
+far-lifted : (z : ℤ) {m : ℕ} → mag z < 2 ^ 63 → m ≡ liftOf z → ltb 2147483647 m ≡ isFar z
+far-lifted (pos n) {m} h q = agree _ _ (λ t. lt-ltb (2 ^ 30 - 1) n (omega (arith, ltb-true 2147483647 m t))) (λ t. lt-ltb 2147483647 m (omega (arith, ltb-true (2 ^ 30 - 1) n t)))
+far-lifted (negsuc k) {m} h q =
     agree _ _ (λ t. lt-ltb (2 ^ 30 - 1) k (omega (arith, ltb-true 2147483647 m t))) (λ t. lt-ltb 2147483647 m (omega (arith, ltb-true (2 ^ 30 - 1) k t)))
     ∙ sym (or-none (ltb (2 ^ 30 - 1) k))
 
-near-raised : (z : ℤ) {r m : ℕ} → mag z < 2 ^ 63 → pos r ≡ z +ℤ pos (2 ^ 63) → m ≡ (r + 9223372037928517632) % 2 ^ 64 → m ≤ 2147483647 → pos m ≡ z +ℤ pos (2 ^ 30)
-near-raised (pos n) {r} {m} h e q b = let s : r ≡ n + 2 ^ 63 = pos-inj e in ap pos (omega arith)
-near-raised (negsuc k) {r} {m} h e q b =
-    let s : r ≡ 2 ^ 63 - suc k = pos-inj (e ∙ from-below (2 ^ 63) k h) in
+near-lifted : (z : ℤ) {m : ℕ} → mag z < 2 ^ 63 → m ≡ liftOf z → m ≤ 2147483647 → pos m ≡ z +ℤ pos (2 ^ 30)
+near-lifted (pos n) h q b = ap pos (omega arith)
+near-lifted (negsuc k) {m} h q b =
     let m-is : m ≡ 2 ^ 30 - suc k = omega arith in
     ap pos m-is ∙ sym (from-below (2 ^ 30) k (omega arith))
 
 -- of a level that was stored and read again
-pub lift-raised : (z : ℤ) {r m : ℕ} → mag z < 2 ^ 63 → pos r ≡ read z +ℤ pos (2 ^ 63) → m ≡ (r + 9223372037928517632) % 2 ^ 64 → Lift z m
-lift-raised z h e q = let e′ = e ∙ ap (λ (y : ℤ). y +ℤ pos (2 ^ 63)) (toZ-ofZ w64 z (record { sfits = h })) in record { far = far-raised z h e′ q; near = near-raised z h e′ q }
-
-pub lift-read : (z : ℤ) {m : ℕ} → mag z < 2 ^ 63 → Lift (read z) m → Lift z m
-lift-read z {m} h L = subst (λ (y : ℤ). Lift y m) (toZ-ofZ w64 z (record { sfits = h })) L
+pub lift-read : (z : ℤ) {m : ℕ} → mag z < 2 ^ 63 → m ≡ liftOf (read z) → Lift z m
+lift-read z h e = let q = e ∙ ap liftOf (toZ-ofZ w64 z (record { sfits = h })) in record { far = far-lifted z h q; near = near-lifted z h q }
 
 -- ---- no level outside −2^30..2^30 − 1: none outside −(2^31 − 1)..2^31 − 1
 near-inside : (z : ℤ) → isFar z ≡ false → outsideZ (negℤ (pos (2 ^ 31 - 1))) (pos (2 ^ 31 - 1)) z ≡ false

@@ -1,2 +1,3 @@
 -- Levels near 0.
 pub mod Near
+pub mod Rows

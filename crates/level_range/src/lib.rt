@@ -9,7 +9,8 @@ ghost use lib.IntN.{pos, negℤ, _+ℤ_};
 ghost use lib.ListN.{length};
 ghost use Rattle.numbers.specs.Lists.{anyOf};
 ghost use Rattle.numbers.specs.Ranges.{outsideZ};
-ghost use Rattle.level_range.specs.Near.{isFar, Lift};
+ghost use Rattle.level_range.specs.Near.{isFar, liftOf};
+ghost use Rattle.level_range.specs.Rows.{LevelRangeRows};
 
 // A level as a number above zero: 2^63 is added.
 fn raised(z: i64) -> u64
@@ -27,7 +28,7 @@ fn raised(z: i64) -> u64
 //
 // Refuses nothing. A level in -2^30..2^30 - 1 becomes a number below 2^31, any other a greater one. Of -1 it is 1073741823, of -2^30 - 1 it is 2^64 - 1.
 pub fn lifted(z: i64) -> u64
-    ensures { λ r. ⌜ Lift z r ⌝ }
+    ensures { λ r. ⌜ r ≡ liftOf z ⌝ }
 {
     std::num::wrapping_add_u64(raised(z), 9223372037928517632)
 }
@@ -111,3 +112,8 @@ pub fn any_outside(line: &[i64]) -> bool
     }
     any_over(line)
 }
+
+// Worked rows of this crate's definitions. Refuses nothing.
+pub fn rows()
+    ensures { λ _. ⌜ LevelRangeRows ⌝ }
+{}

@@ -16,8 +16,8 @@ use Rattle.numbers.specs.Sums.{sumOf}
 use Rattle.numbers.proofs.Any.{any-none, every-at}
 use Rattle.numbers.proofs.IntSum.{+ℤ-right-comm}
 use Rattle.numbers.proofs.Size.{size-sum, fits-size}
-use Rattle.level_range.specs.Near.{isFar, Lift}
-use Rattle.level_range.proofs.Raising.{none-outside}
+use Rattle.level_range.specs.Near.{isFar}
+use Rattle.level_range.proofs.Raising.{Lift, none-outside}
 use Rattle.statistics.specs.Statistics.{unserved, answered}
 use Rattle.statistics.proofs.Running.{sum-more, sum-last}
 use Rattle.statistics.proofs.Served.{served-sized, unserved-short, answered-served}

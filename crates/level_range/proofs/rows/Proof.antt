@@ -1,0 +1,11 @@
+-- `level_range::rows` meets its contract: every row holds by computing.
+-- Assumes nothing.
+use mathlib.Core.Path.{refl}
+use Rattle.level_range.proofs.rows.Statement.{statement}
+use Rattle.level_range.proofs.rows.Tie as tie
+
+returns : tie.Need-returns
+returns c = record { fars = refl; lifts = refl }
+
+pub rows-spec : {M : Type 1} → statement M
+rows-spec = tie.close (tie.spec returns)
