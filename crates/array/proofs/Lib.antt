@@ -1,5 +1,5 @@
--- Laws of arrays that belong to no one function, leaves first.
-pub mod Places
-pub mod Shapes
-pub mod Judged
-pub mod Strides
+-- Laws of the conditions.
+pub mod Finite
+pub mod Levels
+pub mod Raising
+pub mod Halves

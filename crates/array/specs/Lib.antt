@@ -1,5 +1,3 @@
--- Arrays of one to three axes, and the conditions on them.
-pub mod Grid
-pub mod Conditions
-pub mod Assign
+-- Levels near 0.
+pub mod Near
 pub mod Rows

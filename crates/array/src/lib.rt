@@ -1,9 +1,25 @@
-// Row-major arrays of one to three axes: what ndarray is to the Rust.
-// A shape is the length of each axis; the cells stand in one slice, the last axis fastest.
-// Here are the definitions and their laws; `shapes`, `conditions` and `cells` have the code.
-ghost use Rattle.array.specs.Rows.{ArrayRows};
+// Row-major arrays: the cell count of a shape, conditions 1, 2, 3 and 8 of a refusal with the judge of a grid, and copies.
 
-// Worked rows of this crate's definitions. Refuses nothing.
-pub fn rows()
-    ensures { λ _. ⌜ ArrayRows ⌝ }
-{}
+mod conditions;
+mod copies;
+mod level_range;
+mod shapes;
+
+pub use conditions::bad_axis;
+pub use conditions::bad_length;
+pub use conditions::bad_level;
+pub use conditions::bad_level_f64;
+pub use conditions::bad_levels;
+pub use conditions::bad_levels_f64;
+pub use conditions::bad_shape;
+pub use conditions::judge_grid;
+pub use conditions::judge_grid_f64;
+pub use copies::assign;
+pub use copies::copy;
+pub use copies::fill;
+pub use level_range::any_outside;
+pub use level_range::any_over;
+pub use level_range::lifted;
+pub use level_range::rows;
+pub use shapes::cell_count;
+pub use shapes::len_of;

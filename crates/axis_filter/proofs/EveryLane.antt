@@ -11,10 +11,10 @@ use lib.Dec.{ltb}
 use lib.ListN.{length}
 use Rattle.numbers.proofs.Tests.{cond-no}
 use Rattle.numbers.proofs.Stored.{Stored}
-use Rattle.array.specs.Conditions.{badShape}
-use Rattle.array.specs.Grid.{cellCount, lengthOf, strideOf}
-use Rattle.array.proofs.Shapes.{Accepted, shape-accepted}
-use Rattle.array.proofs.Strides.{stride-pos}
+use Rattle.array_spec.specs.Conditions.{badShape}
+use Rattle.array_spec.specs.Grid.{cellCount, lengthOf, strideOf}
+use Rattle.array_spec.proofs.Shapes.{Accepted, shape-accepted}
+use Rattle.array_spec.proofs.Strides.{stride-pos}
 use Rattle.lanes.specs.Starts.{Starts}
 use Rattle.lanes.specs.declared.Start.{Start}
 use Rattle.lanes.specs.Lanes.{laneBase, laneAt, lane, laneOf, laneInside, withLane, alongAxis, lanesOf}

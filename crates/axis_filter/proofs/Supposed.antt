@@ -10,15 +10,15 @@ use lib.ListN.{length, getD}
 use Rattle.numbers.specs.Lists.{tabulate, anyOf}
 use Rattle.numbers.specs.Ranges.{outsideZ}
 use Rattle.numbers.proofs.Tests.{or-false, or-no}
-use Rattle.array.specs.Conditions.{badLevel}
+use Rattle.array_spec.specs.Conditions.{badLevel}
 use Rattle.lanes.specs.Lanes.{laneAt}
 use Rattle.border.specs.Border.{Border, constant, along, cellFor, inside, extendedLane}
 use Rattle.border.specs.Modes.{badConstantBy}
 use Rattle.pad_line.specs.Line.{paddedAt, paddedLine}
-use Rattle.minlist.specs.Firsts.{Served}
-use Rattle.line_sums.specs.Sizes.{Weighable}
-use Rattle.narrow.specs.Narrow.{Narrow}
-use Rattle.narrow.proofs.RaisedLists.{levels-narrow}
+use Rattle.min_max_ring.specs.Firsts.{Served}
+use Rattle.correlate_spec.specs.Sizes.{Weighable}
+use Rattle.correlate_line.specs.Narrow.{Narrow}
+use Rattle.correlate_line.proofs.RaisedLists.{levels-narrow}
 use Rattle.axis_filter.specs.Lane.{Room}
 use Rattle.axis_filter.specs.Filter.{ServedLine, Supposed}
 use Rattle.axis_filter.specs.declared.LineFilter.{LineFilter}

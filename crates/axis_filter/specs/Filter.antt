@@ -14,14 +14,14 @@ use lib.Signed.{leZ}
 use Rattle.numbers.specs.Lists.{anyOf}
 use Rattle.numbers.specs.Order.{atLeast}
 use Rattle.numbers.specs.Ranges.{outsideZ}
-use Rattle.array.specs.Conditions.{badLevel}
+use Rattle.array_spec.specs.Conditions.{badLevel}
 use Rattle.border.specs.Border.{Border}
 use Rattle.border.specs.Modes.{badConstantBy}
-use Rattle.minlist.specs.Firsts.{firsts, Served}
-use Rattle.symmetry.specs.declared.SymmetryState.the-variants.{NonSymmetric}
-use Rattle.correlation.specs.Weighed.{wholeOps, weighedLine}
-use Rattle.line_sums.specs.Sizes.{Weighable}
-use Rattle.narrow.specs.Narrow.{Narrow}
+use Rattle.min_max_ring.specs.Firsts.{firsts, Served}
+use Rattle.symmetry_spec.specs.declared.SymmetryState.the-variants.{NonSymmetric}
+use Rattle.correlate_spec.specs.Weighed.{wholeOps, weighedLine}
+use Rattle.correlate_spec.specs.Sizes.{Weighable}
+use Rattle.correlate_line.specs.Narrow.{Narrow}
 use Rattle.axis_filter.specs.declared.LineFilter.{LineFilter}
 use Rattle.axis_filter.specs.declared.LineFilter.the-variants.{Least, Greatest, Weighed}
 

@@ -8,8 +8,8 @@ use mathlib.Core.Path.{_≡_}
 use mathlib.Core.Bool.{false}
 use mathlib.Core.List.{List}
 use lib.ListN.{length}
-use Rattle.array.specs.Conditions.{badShape}
-use Rattle.array.specs.Grid.{cellCount, lengthOf}
+use Rattle.array_spec.specs.Conditions.{badShape}
+use Rattle.array_spec.specs.Grid.{cellCount, lengthOf}
 use Rattle.border.specs.Border.{Border}
 use Rattle.pad_line.specs.Line.{badPad, paddedLine, Padding}
 

@@ -3,7 +3,7 @@ ghost use mathlib.Core.Path.{_≡_};
 ghost use Prim.Native.Nat.{_+_};
 ghost use lib.IntN.{pos};
 ghost use lib.ListN.{length};
-ghost use Rattle.array.specs.Grid.{lengthOf, strideOf};
+ghost use Rattle.array_spec.specs.Grid.{lengthOf, strideOf};
 ghost use Rattle.lanes.specs.Lanes.{laneAt, alongAxis};
 ghost use Rattle.border.specs.Modes.{borderOf};
 ghost use Rattle.axis_filter.specs.Lane.{filteredLane, Room, Sweep};
@@ -24,8 +24,8 @@ fn filter_line(filter: LineFilter, weights: &[i64], size: usize, line: &mut [i64
     ensures { λ _. ⌜ now (out .exit) ≡ filtered filter (now (weights .entry)) size (now (line .entry)) (length (now (out .entry))) ⌝ }
 {
     match filter {
-        LineFilter::Least => minimum_line::minimum_line(line, size, out),
-        LineFilter::Greatest => maximum_line::maximum_line(line, size, out),
+        LineFilter::Least => min_max_line::minimum_line(line, size, out),
+        LineFilter::Greatest => min_max_line::maximum_line(line, size, out),
         LineFilter::Weighed => correlate_line::correlate_line(weights, line, out),
     }
 }
@@ -153,7 +153,7 @@ fn filter_columns(
     requires { ⌜ Sweep (borderOf mode) (now shape) axis left right (now «data») (now out) × Supposed filter (now weights) (left + right + 1) (borderOf mode) (now «data») × (length (now line) ≡ 1088) ⌝ }
     ensures { λ _. ⌜ now (out .exit) ≡ alongAxis (pos 0) (filteredLane (pos 0) (filtered filter (now (weights .entry)) (left + right + 1)) (borderOf mode) left right) (now (shape .entry)) axis (now («data» .entry)) ⌝ }
 {
-    let n = shapes::len_of(shape, axis);
+    let n = array::len_of(shape, axis);
     let mut swept = [0; 1024];
     filter_lanes(
         filter,

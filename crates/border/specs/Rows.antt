@@ -13,7 +13,7 @@ use lib.Ieee.{Float, nan, inf, fin}
 use lib.IntN.{ℤ, pos, negℤ}
 use lib.ListN.{getD}
 use Rattle.numbers.specs.Lists.{upFrom}
-use Rattle.array.specs.Conditions.{badLevel, badFloat}
+use Rattle.array_spec.specs.Conditions.{badLevel, badFloat}
 use Rattle.border.specs.Border.{Border, constant, along, extendedLane, extendedGrid}
 use Rattle.border.specs.Modes.{borderOf, borderOfF64, padModeOf, badConstantBy}
 use Rattle.border.specs.declared.Along.the-variants as Along

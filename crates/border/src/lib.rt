@@ -6,6 +6,11 @@ ghost use Rattle.border.specs.Border.{cellBefore, cellAfter};
 ghost use Rattle.border.specs.Modes.{padModeOf};
 ghost use Rattle.border.specs.Rows.{BorderRows};
 
+mod constant;
+
+pub use constant::bad_constant;
+pub use constant::bad_constant_f64;
+
 // How a grid of whole levels is extended beyond its edges.
 pub enum BorderMode {
     // All levels beyond the edge are this one.

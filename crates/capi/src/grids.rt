@@ -5,13 +5,13 @@ ghost use lib.Signed.{leZ};
 ghost use Rattle.numbers.specs.Order.{atLeast};
 ghost use Rattle.numbers.specs.Refusal.{Answers};
 ghost use Rattle.border.specs.Modes.{borderOf};
-ghost use Rattle.filter_judge.specs.Judge.{callOf, filterJudged};
-ghost use Rattle.correlation.specs.Kernel.{correlateZ, convolveZ};
-ghost use Rattle.kernel_judge.specs.Judge.{kernelJudged};
-ghost use Rattle.gradient_judge.specs.Gradient.{prewittWeights, sobelWeights, gradient as gradientOf};
-ghost use Rattle.gradient_judge.specs.Judge.{gradientJudged};
-ghost use Rattle.uniform_judge.specs.Uniform.{uniform as uniformOf};
-ghost use Rattle.uniform_judge.specs.Judge.{uniformJudged};
+ghost use Rattle.min_max_judge.specs.Judge.{callOf, filterJudged};
+ghost use Rattle.correlate_spec.specs.Kernel.{correlateZ, convolveZ};
+ghost use Rattle.correlate_judge.specs.KernelJudge.{kernelJudged};
+ghost use Rattle.gradient_spec.specs.Gradient.{prewittWeights, sobelWeights, gradient as gradientOf};
+ghost use Rattle.gradient_spec.specs.Judge.{gradientJudged};
+ghost use Rattle.uniform_spec.specs.Uniform.{uniform as uniformOf};
+ghost use Rattle.uniform_spec.specs.Judge.{uniformJudged};
 ghost use Rattle.min_max.specs.Filters.{filterAnswer};
 ghost use Rattle.codes.specs.Codes.{modeOf, unknownBorder, coded, TwoAnswers};
 
@@ -42,7 +42,7 @@ pub extern "C" fn suvvokal_correlate(
 {
     let mode = codes::mode_of(code, constant);
     if 4 < code {
-        let refusal = kernel_judge::judge_kernel(
+        let refusal = correlate_judge::judge_kernel(
             data,
             shape,
             weights,
@@ -75,7 +75,7 @@ pub extern "C" fn suvvokal_convolve(
 {
     let mode = codes::mode_of(code, constant);
     if 4 < code {
-        let refusal = kernel_judge::judge_kernel(
+        let refusal = correlate_judge::judge_kernel(
             data,
             shape,
             weights,
@@ -115,14 +115,7 @@ pub extern "C" fn suvvokal_prewitt(
 {
     let mode = codes::mode_of(code, constant);
     if 4 < code {
-        let refusal = gradient_judge::judge_gradient(
-            data,
-            shape,
-            axis,
-            mode,
-            out.len(),
-            second.len(),
-        );
+        let refusal = gradient::judge_gradient(data, shape, axis, mode, out.len(), second.len());
         return codes::unknown_after(refusal);
     }
     gradient::prewitt(data, shape, axis, mode, second, out)
@@ -144,14 +137,7 @@ pub extern "C" fn suvvokal_sobel(
 {
     let mode = codes::mode_of(code, constant);
     if 4 < code {
-        let refusal = gradient_judge::judge_gradient(
-            data,
-            shape,
-            axis,
-            mode,
-            out.len(),
-            second.len(),
-        );
+        let refusal = gradient::judge_gradient(data, shape, axis, mode, out.len(), second.len());
         return codes::unknown_after(refusal);
     }
     gradient::sobel(data, shape, axis, mode, second, out)
@@ -182,14 +168,7 @@ pub extern "C" fn suvvokal_uniform_filter(
 {
     let mode = codes::mode_of(code, constant);
     if 4 < code {
-        let refusal = uniform_judge::judge_uniform(
-            data,
-            shape,
-            size,
-            mode,
-            out.len(),
-            second.len(),
-        );
+        let refusal = uniform::judge_uniform(data, shape, size, mode, out.len(), second.len());
         return codes::unknown_after(refusal);
     }
     uniform::uniform_filter(data, shape, size, mode, second, out)
@@ -222,7 +201,7 @@ pub extern "C" fn suvvokal_minimum_filter(
 {
     let mode = codes::mode_of(code, constant);
     if 4 < code {
-        let refusal = filter_judge::judge_filter(
+        let refusal = min_max_judge::judge_filter(
             data,
             shape,
             size,
@@ -253,7 +232,7 @@ pub extern "C" fn suvvokal_maximum_filter(
 {
     let mode = codes::mode_of(code, constant);
     if 4 < code {
-        let refusal = filter_judge::judge_filter(
+        let refusal = min_max_judge::judge_filter(
             data,
             shape,
             size,

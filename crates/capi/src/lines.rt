@@ -5,13 +5,13 @@ ghost use lib.Signed.{leZ};
 ghost use Rattle.numbers.specs.Order.{atLeast};
 ghost use Rattle.numbers.specs.Refusal.{Answers};
 ghost use Rattle.border.specs.Modes.{borderOf, borderOfF64};
-ghost use Rattle.sweeps.specs.Call.{callJudged};
-ghost use Rattle.sweeps.specs.Run.{answerOf};
-ghost use Rattle.filter_judge.specs.Judge.{callOf};
-ghost use Rattle.correlation.specs.Correlated.{correlate1dZ, convolve1dZ, correlate1dF, convolve1dF};
+ghost use Rattle.min_max_spec.specs.Call.{callJudged};
+ghost use Rattle.min_max_spec.specs.Run.{answerOf};
+ghost use Rattle.min_max_judge.specs.Judge.{callOf};
+ghost use Rattle.correlate_spec.specs.Correlated.{correlate1dZ, convolve1dZ, correlate1dF, convolve1dF};
 ghost use Rattle.correlate_judge.specs.Judge.{correlateJudged, correlateJudgedF};
-ghost use Rattle.uniform_judge.specs.Uniform.{uniform1d};
-ghost use Rattle.uniform_judge.specs.Judge.{uniform1dJudged};
+ghost use Rattle.uniform_spec.specs.Uniform.{uniform1d};
+ghost use Rattle.uniform_spec.specs.Judge.{uniform1dJudged};
 ghost use Rattle.codes.specs.Codes.{modeOf, modeOfF64, unknownBorder, coded};
 
 // The sums of each window times the weights, along an axis; the call `correlate1d`.
@@ -180,7 +180,7 @@ pub extern "C" fn suvvokal_uniform_filter1d(
 {
     let mode = codes::mode_of(code, constant);
     if 4 < code {
-        let refusal = uniform_judge::judge_uniform1d(data, shape, size, axis, mode, out.len());
+        let refusal = uniform::judge_uniform1d(data, shape, size, axis, mode, out.len());
         return codes::unknown_after(refusal);
     }
     uniform::uniform_filter1d(data, shape, size, axis, mode, out)
@@ -213,10 +213,10 @@ pub extern "C" fn suvvokal_minimum_filter1d(
 {
     let mode = codes::mode_of(code, constant);
     if 4 < code {
-        let refusal = filter_judge::judge_call(data, shape, size, axis, mode, origin, out);
+        let refusal = min_max_judge::judge_call(data, shape, size, axis, mode, origin, out);
         return codes::unknown_after(refusal);
     }
-    min_max1d::minimum_filter1d(data, shape, size, axis, mode, origin, out)
+    min_max::minimum_filter1d(data, shape, size, axis, mode, origin, out)
 }
 
 // As `suvvokal_minimum_filter1d`, with the greatest level; the call `maximum_filter1d`. Of 2 1 4 3 5 with size 3 under reflect: 2 4 4 5 5.
@@ -236,8 +236,8 @@ pub extern "C" fn suvvokal_maximum_filter1d(
 {
     let mode = codes::mode_of(code, constant);
     if 4 < code {
-        let refusal = filter_judge::judge_call(data, shape, size, axis, mode, origin, out);
+        let refusal = min_max_judge::judge_call(data, shape, size, axis, mode, origin, out);
         return codes::unknown_after(refusal);
     }
-    min_max1d::maximum_filter1d(data, shape, size, axis, mode, origin, out)
+    min_max::maximum_filter1d(data, shape, size, axis, mode, origin, out)
 }

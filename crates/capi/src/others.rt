@@ -2,9 +2,9 @@
 ghost use mathlib.Core.Path.{_≡_};
 ghost use lib.ListN.{length};
 ghost use Rattle.numbers.specs.Refusal.{Answers};
-ghost use Rattle.median_mask.specs.Around.{medianAnswer};
+ghost use Rattle.median_spec.specs.Around.{medianAnswer};
 ghost use Rattle.median.specs.Judge.{medianJudged};
-ghost use Rattle.symmetry.specs.Class.{classZ, classF};
+ghost use Rattle.symmetry_spec.specs.Class.{classZ, classF};
 ghost use Rattle.codes.specs.Codes.{kernelOf, unknownKernel, coded, codeOf};
 ghost use Rattle.codes.specs.Cells.{kernelCells, cellsJudged};
 use kernel3d::Kernel3d;
@@ -33,7 +33,7 @@ pub extern "C" fn suvvokal_median_filter(mask: &[bool], shape: &[usize], out: &m
 pub extern "C" fn suvvokal_symmetry_state_i64(weights: &[i64]) -> u8
     ensures { λ r. ⌜ r ≡ codeOf (classZ (now (weights .entry))) ⌝ }
 {
-    codes::code_of(symmetry_state::symmetry_state_i64(weights))
+    codes::code_of(symmetry::symmetry_state_i64(weights))
 }
 
 // As `suvvokal_symmetry_state_i64`, of float weights: a pair differs by more than 2^-52. Refuses nothing. Of 0, 1 and 2^-53 it is 1.
@@ -41,7 +41,7 @@ pub extern "C" fn suvvokal_symmetry_state_i64(weights: &[i64]) -> u8
 pub extern "C" fn suvvokal_symmetry_state_f64(weights: &[f64]) -> u8
     ensures { λ r. ⌜ r ≡ codeOf (classF (now (weights .entry))) ⌝ }
 {
-    codes::code_of(symmetry_state::symmetry_state_f64(weights))
+    codes::code_of(symmetry::symmetry_state_f64(weights))
 }
 
 // Fills 27 cells with a kernel, the last axis fastest.

@@ -2,12 +2,12 @@
 ghost use mathlib.Core.Path.{_≡_};
 ghost use lib.ListN.{length, getD};
 ghost use Rattle.numbers.specs.Refusal.{Answers};
-ghost use Rattle.pad_levels.specs.Conditions.{padJudged};
-ghost use Rattle.pad_levels.specs.Levels.{paddedGrid, paddedOver};
-ghost use Rattle.pad_levels.specs.Pads.{leftsOf, rightsOf};
+ghost use Rattle.pad_spec.specs.Conditions.{padJudged};
+ghost use Rattle.pad_spec.specs.Levels.{paddedGrid, paddedOver};
+ghost use Rattle.pad_spec.specs.Pads.{leftsOf, rightsOf};
 ghost use Rattle.codes.specs.Codes.{padModeOf, unknownPad, coded};
 ghost use Rattle.codes.specs.Cells.{pairAt, pairsOf};
-use pad_levels::Pair;
+use pad_spec::Pair;
 
 // The number at a place, and 0 past the end. Of 5 6 place 1 has 6 and place 2 has 0.
 fn at_or_zero(places: &[usize], i: usize) -> usize

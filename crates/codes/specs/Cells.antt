@@ -11,7 +11,7 @@ use lib.Dec.{eqb}
 use lib.ListN.{getD}
 use Rattle.numbers.specs.Lists.{tabulate}
 use Rattle.numbers.specs.Refusal.{Judged}
-use Rattle.pad_levels.specs.declared.Pair.{Pair}
+use Rattle.pad_spec.specs.declared.pairs.Pair.{Pair}
 use Rattle.kernel3d.specs.Shape.{shape}
 use Rattle.kernel3d.specs.declared.Kernel3d.{Kernel3d}
 

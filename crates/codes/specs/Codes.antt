@@ -26,8 +26,8 @@ use Rattle.border.specs.declared.PadMode.{PadMode}
 use Rattle.border.specs.declared.PadMode.the-variants as Pad
 use Rattle.kernel3d.specs.declared.Kernel3d.{Kernel3d}
 use Rattle.kernel3d.specs.declared.Kernel3d.the-variants as Kernel
-use Rattle.symmetry.specs.declared.SymmetryState.{SymmetryState}
-use Rattle.symmetry.specs.declared.SymmetryState.the-variants.{NonSymmetric, Symmetric, AntiSymmetric}
+use Rattle.symmetry_spec.specs.declared.SymmetryState.{SymmetryState}
+use Rattle.symmetry_spec.specs.declared.SymmetryState.the-variants.{NonSymmetric, Symmetric, AntiSymmetric}
 
 unfoldable pub modeOf : ℕ → ℤ → BorderMode
 modeOf code c =

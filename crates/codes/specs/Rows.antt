@@ -8,7 +8,7 @@ use Rattle.numbers.specs.Refusal.{refusalOf}
 use Rattle.border.specs.declared.BorderMode.the-variants as Whole
 use Rattle.border.specs.declared.BorderModeF64.the-variants as F64
 use Rattle.border.specs.declared.PadMode.the-variants as Pad
-use Rattle.symmetry.specs.Class.{classZ}
+use Rattle.symmetry_spec.specs.Class.{classZ}
 use Rattle.codes.specs.Codes.{modeOf, modeOfF64, padModeOf, kernelOf, unknownBorder, unknownPad, unknownKernel, coded, codeOf}
 use Rattle.codes.specs.Cells.{pairsOf, kernelCells}
 use lib.Ieee.{nan}

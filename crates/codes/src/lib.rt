@@ -8,7 +8,7 @@ use border::BorderMode;
 use border::BorderModeF64;
 use border::PadMode;
 use kernel3d::Kernel3d;
-use symmetry::SymmetryState;
+use symmetry_spec::SymmetryState;
 
 // A code that names no border, padding mode or kernel.
 pub const UNKNOWN: u8 = 100;

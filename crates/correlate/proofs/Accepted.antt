@@ -12,21 +12,21 @@ use Rattle.numbers.specs.Refusal.{refusalOf}
 use Rattle.numbers.proofs.Any.{any-none, every-at}
 use Rattle.numbers.proofs.Refusal.{judged-all}
 use Rattle.numbers.proofs.Tests.{or-false}
-use Rattle.array.specs.Conditions.{badShape, badLevel}
-use Rattle.array.specs.Grid.{cellCount, lengthOf}
-use Rattle.array.proofs.Judged.{Judged, grid-judged}
+use Rattle.array_spec.specs.Conditions.{badShape, badLevel}
+use Rattle.array_spec.specs.Grid.{cellCount, lengthOf}
+use Rattle.array_spec.proofs.Judged.{Judged, grid-judged}
 use Rattle.border.specs.Border.{Border}
 use Rattle.border.specs.Modes.{badConstantBy}
-use Rattle.origin.specs.Origin.{badOrigin}
-use Rattle.origin.proofs.Origins.{pads-sum, kernel-accepted}
+use Rattle.window.specs.Origin.{badOrigin}
+use Rattle.window.proofs.Origins.{pads-sum, kernel-accepted}
 use Rattle.pad_line.specs.Line.{badPad}
-use Rattle.correlation.specs.Kernel.{sidesOf, sideOf, kernelLeft, kernelRight, kernelAnswer}
+use Rattle.correlate_spec.specs.Kernel.{sidesOf, sideOf, kernelLeft, kernelRight, kernelAnswer}
 use Rattle.correlate_judge.specs.Judge.{badWeight, appliedOrigin, appliedWeights}
 use Rattle.correlate_judge.proofs.Applied.{applied-length, applied-weights}
 use Rattle.correlate_judge.proofs.Changed.{applied-range}
 use Rattle.correlate_grid.specs.Kernel.{Kernelled}
-use Rattle.kernel_judge.specs.Judge.{badPads, badKernelReach, kernelJudged}
-use Rattle.kernel_judge.proofs.Equal.{Equal, kernel-equal}
+use Rattle.correlate_judge.specs.KernelJudge.{badPads, badKernelReach, kernelJudged}
+use Rattle.correlate_judge.proofs.Equal.{Equal, kernel-equal}
 
 -- the two pads together
 kernel-pads : (side : ℕ) (o : ℤ) → badOrigin side o ≡ false → kernelLeft side o + kernelRight side o ≡ side / 2 + side / 2

@@ -4,12 +4,12 @@ ghost use mathlib.Core.Bool.{true, false};
 ghost use lib.ListN.{length};
 ghost use Rattle.numbers.specs.Refusal.{refusalOf, Answers};
 ghost use Rattle.border.specs.Modes.{borderOf};
-ghost use Rattle.origin.specs.Origin.{badOrigin};
-ghost use Rattle.correlation.specs.Kernel.{sidesOf, kernelLeft, kernelRight, kernelAnswer, correlateZ, convolveZ};
+ghost use Rattle.window.specs.Origin.{badOrigin};
+ghost use Rattle.correlate_spec.specs.Kernel.{sidesOf, kernelLeft, kernelRight, kernelAnswer, correlateZ, convolveZ};
 ghost use Rattle.correlate_grid.specs.Kernel.{Kernelled};
-ghost use Rattle.kernel_judge.specs.Judge.{kernelJudged};
+ghost use Rattle.correlate_judge.specs.KernelJudge.{kernelJudged};
 use border::BorderMode;
-use origin::Origin;
+use window::Origin;
 
 // Fills out with the sums of every window of a kernel of equal sides; weights and origin are as they are applied.
 fn sum_windows(
@@ -24,7 +24,7 @@ fn sum_windows(
     requires { ⌜ (badOrigin side origin ≡ false) × Kernelled (borderOf mode) (now shape) side (kernelLeft side origin) (kernelRight side origin) (now weights) (now «data») (now out) ⌝ }
     ensures { λ _. ⌜ now (out .exit) ≡ kernelAnswer (borderOf mode) (kernelLeft side origin) (sidesOf (now (shape .entry)) side) (now (weights .entry)) (now (shape .entry)) (now («data» .entry)) ⌝ }
 {
-    match origin::kernel_origin_check(side, origin) {
+    match window::kernel_origin_check(side, origin) {
         Origin::Refused => {}
         Origin::Pads(left, right) => {
             correlate_grid::correlate_cells(data, shape, weights, side, mode, left, right, out)
@@ -46,8 +46,8 @@ fn convolve_cells(
     requires { ⌜ (refusalOf (kernelJudged true (borderOf mode) origin (now sides) (now weights) (now shape) (now «data») (length (now out))) ≡ 0) × (length (now turned) ≡ length (now weights)) ⌝ }
     ensures { λ _. ⌜ now (out .exit) ≡ convolveZ (borderOf mode) origin (now (sides .entry)) (now (weights .entry)) (now (shape .entry)) (now («data» .entry)) ⌝ }
 {
-    reversal::reverse(weights, turned);
-    let side = shapes::len_of(sides, 0);
+    correlate1d::reverse(weights, turned);
+    let side = array::len_of(sides, 0);
     let applied = correlate_judge::applied_origin(side, origin, true);
     sum_windows(data, shape, turned, side, mode, applied, out);
 }
@@ -75,7 +75,7 @@ pub fn correlate(
     ensures { λ r. ⌜ Answers (kernelJudged false (borderOf mode) origin (now (sides .entry)) (now (weights .entry)) (now (shape .entry)) (now («data» .entry)) (length (now (out .entry))))
         (correlateZ (borderOf mode) origin (now (sides .entry)) (now (weights .entry)) (now (shape .entry)) (now («data» .entry))) (now (out .entry)) r (now (out .exit)) ⌝ }
 {
-    let refusal = kernel_judge::judge_kernel(
+    let refusal = correlate_judge::judge_kernel(
         data,
         shape,
         weights,
@@ -88,7 +88,7 @@ pub fn correlate(
     if refusal != 0 {
         return refusal;
     }
-    let side = shapes::len_of(sides, 0);
+    let side = array::len_of(sides, 0);
     sum_windows(data, shape, weights, side, mode, origin, out);
     numbers::ACCEPTED
 }
@@ -116,7 +116,7 @@ pub fn convolve(
     ensures { λ r. ⌜ Answers (kernelJudged true (borderOf mode) origin (now (sides .entry)) (now (weights .entry)) (now (shape .entry)) (now («data» .entry)) (length (now (out .entry))))
         (convolveZ (borderOf mode) origin (now (sides .entry)) (now (weights .entry)) (now (shape .entry)) (now («data» .entry))) (now (out .entry)) r (now (out .exit)) ⌝ }
 {
-    let refusal = kernel_judge::judge_kernel(
+    let refusal = correlate_judge::judge_kernel(
         data,
         shape,
         weights,

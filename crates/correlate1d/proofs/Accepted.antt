@@ -12,11 +12,11 @@ use lib.ListN.{length, getD}
 use Rattle.numbers.specs.Lists.{anyOf}
 use Rattle.numbers.proofs.Any.{any-none, none-any, every-at, every-imp}
 use Rattle.numbers.proofs.Size.{Size, Sized, size-inside, size-le, inside-sized, fits-size}
-use Rattle.array.specs.Conditions.{badLevel}
-use Rattle.array.proofs.Judged.{levels-sized}
+use Rattle.array_spec.specs.Conditions.{badLevel}
+use Rattle.array_spec.proofs.Judged.{levels-sized}
 use Rattle.border.specs.Border.{Border, constant, along}
 use Rattle.border.specs.Modes.{badConstantBy}
-use Rattle.line_sums.proofs.Computed.{read}
+use Rattle.correlate_spec.proofs.Computed.{read}
 use Rattle.correlate_judge.specs.Judge.{badWeight, appliedOrigin, appliedWeights}
 use Rattle.correlate_judge.proofs.Applied.{applied-weights}
 use Rattle.correlate1d.proofs.Passed.{Passed, placed-accepted}

@@ -15,14 +15,14 @@ use Rattle.numbers.specs.Ranges.{outside}
 use Rattle.numbers.specs.Refusal.{refusalOf}
 use Rattle.numbers.proofs.Refusal.{judged-all}
 use Rattle.numbers.proofs.Tests.{or-false}
-use Rattle.array.specs.Conditions.{badShape, badLength, badLevel, badFloat, badAxis}
-use Rattle.array.specs.Grid.{cellCount, lengthOf}
-use Rattle.array.proofs.Shapes.{count-accepted, length-judged}
+use Rattle.array_spec.specs.Conditions.{badShape, badLength, badLevel, badFloat, badAxis}
+use Rattle.array_spec.specs.Grid.{cellCount, lengthOf}
+use Rattle.array_spec.proofs.Shapes.{count-accepted, length-judged}
 use Rattle.border.specs.Border.{Border}
 use Rattle.border.specs.Modes.{badConstantBy}
-use Rattle.origin.specs.Origin.{badOrigin}
-use Rattle.filter_judge.specs.Judge.{windowOrigin, badReach}
-use Rattle.filter_judge.proofs.Reach.{more-cells}
+use Rattle.window.specs.Origin.{badOrigin}
+use Rattle.min_max_judge.specs.Judge.{windowOrigin, badReach}
+use Rattle.min_max_judge.proofs.Reach.{more-cells}
 use Rattle.correlate_judge.specs.Judge.{badWeight, appliedOrigin, appliedWeights, correlateJudged, correlateJudgedF}
 use Rattle.correlate_judge.proofs.Applied.{applied-length}
 use Rattle.correlate_judge.proofs.Changed.{applied-range}

@@ -10,13 +10,13 @@ use lib.IntN.{ℤ, pos, _*ℤ_}
 use lib.ListN.{length, getD}
 use Rattle.numbers.proofs.Size.{Size, size-inside, size-mul, member-sized, tested-sized}
 use Rattle.numbers.proofs.Tests.{cond-yes}
-use Rattle.array.specs.Conditions.{badLevel}
+use Rattle.array_spec.specs.Conditions.{badLevel}
 use Rattle.border.specs.Border.{Border}
-use Rattle.symmetry.specs.declared.SymmetryState.{SymmetryState}
-use Rattle.correlation.specs.Weighed.{Ops}
-use Rattle.correlation.specs.Correlated.{correlatedBy}
+use Rattle.symmetry_spec.specs.declared.SymmetryState.{SymmetryState}
+use Rattle.correlate_spec.specs.Weighed.{Ops}
+use Rattle.correlate_spec.specs.Correlated.{correlatedBy}
 use Rattle.correlate_judge.specs.Judge.{badWeight}
-use Rattle.line_sums.proofs.Computed.{Computed, read, computed, computed-level}
+use Rattle.correlate_spec.proofs.Computed.{Computed, read, computed, computed-level}
 use Rattle.correlate1d.specs.Weighs.{Scales}
 
 -- the product as the machine computes it

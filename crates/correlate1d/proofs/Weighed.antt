@@ -10,15 +10,15 @@ use lib.Dec.{eqb}
 use lib.IntN.{ℤ}
 use lib.ListN.{length}
 use Rattle.numbers.proofs.Tests.{or-false, cond-no}
-use Rattle.array.specs.Grid.{lengthOf}
+use Rattle.array_spec.specs.Grid.{lengthOf}
 use Rattle.lanes.specs.Lanes.{alongAxis}
 use Rattle.border.specs.Border.{Border}
 use Rattle.pad_line.specs.Line.{badPad}
-use Rattle.symmetry.specs.declared.SymmetryState.{SymmetryState}
-use Rattle.filter_judge.specs.Judge.{windowOrigin}
-use Rattle.filter_judge.proofs.Reach.{leftOf, rightOf, pads-size}
-use Rattle.correlation.specs.Weighed.{Ops}
-use Rattle.correlation.specs.Correlated.{correlatedLine, correlatedBy}
+use Rattle.symmetry_spec.specs.declared.SymmetryState.{SymmetryState}
+use Rattle.min_max_judge.specs.Judge.{windowOrigin}
+use Rattle.min_max_judge.proofs.Reach.{leftOf, rightOf, pads-size}
+use Rattle.correlate_spec.specs.Weighed.{Ops}
+use Rattle.correlate_spec.specs.Correlated.{correlatedLine, correlatedBy}
 use Rattle.correlate_judge.specs.Judge.{badWeight}
 use Rattle.axis_filter.specs.Lane.{Sweep}
 use Rattle.axis_filter.specs.Filter.{Weighing}

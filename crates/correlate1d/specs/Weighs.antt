@@ -11,12 +11,12 @@ use lib.IntN.{ℤ, pos, negℤ}
 use lib.ListN.{length}
 use Rattle.numbers.specs.Lists.{anyOf}
 use Rattle.numbers.specs.Ranges.{outsideZ}
-use Rattle.array.specs.Conditions.{badShape, badLevel}
-use Rattle.array.specs.Grid.{cellCount, lengthOf}
+use Rattle.array_spec.specs.Conditions.{badShape, badLevel}
+use Rattle.array_spec.specs.Grid.{cellCount, lengthOf}
 use Rattle.border.specs.Border.{Border}
 use Rattle.border.specs.Modes.{badConstantBy}
-use Rattle.origin.specs.Origin.{badOrigin}
-use Rattle.filter_judge.specs.Judge.{badReach}
+use Rattle.window.specs.Origin.{badOrigin}
+use Rattle.min_max_judge.specs.Judge.{badReach}
 use Rattle.correlate_judge.specs.Judge.{badWeight}
 
 abbrev pub tooLarge : ℤ → Bool

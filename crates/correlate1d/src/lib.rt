@@ -6,13 +6,17 @@ ghost use lib.IntN.{pos, _*ℤ_};
 ghost use lib.ListN.{length};
 ghost use Rattle.numbers.specs.Refusal.{refusalOf, Answers};
 ghost use Rattle.border.specs.Modes.{borderOf};
-ghost use Rattle.correlation.specs.Correlated.{correlate1dZ, convolve1dZ};
+ghost use Rattle.correlate_spec.specs.Correlated.{correlate1dZ, convolve1dZ};
 ghost use Rattle.correlate_judge.specs.Judge.{correlateJudged};
 ghost use Rattle.correlate1d.specs.Rows.{Correlate1dRows};
 ghost use Rattle.correlate1d.specs.Weighs.{Scales, Weighs};
 use axis_filter::LineFilter;
 use border::BorderMode;
-use origin::Origin;
+use window::Origin;
+
+mod reversal;
+
+pub use reversal::reverse;
 
 // Every cell times one weight.
 fn scale(data: &[i64], weight: i64, out: &mut [i64])
@@ -40,7 +44,7 @@ pub fn weigh(
     requires { ⌜ Weighs (borderOf mode) (now shape) axis origin (now weights) (now «data») (now out) ⌝ }
     ensures { λ _. ⌜ now (out .exit) ≡ correlate1dZ (borderOf mode) origin (now (weights .entry)) (now (shape .entry)) axis (now («data» .entry)) ⌝ }
 {
-    match origin::origin_check(weights.len(), origin) {
+    match window::origin_check(weights.len(), origin) {
         Origin::Refused => {}
         Origin::Pads(left, right) => axis_filter::filter_axis(
             LineFilter::Weighed,
@@ -94,7 +98,7 @@ fn convolve_cells(
         scale(data, weights[0], out);
         return;
     }
-    reversal::reverse(weights, turned);
+    crate::reversal::reverse(weights, turned);
     let applied = correlate_judge::applied_origin(weights.len(), origin, true);
     weigh(data, shape, turned, axis, mode, applied, out);
 }

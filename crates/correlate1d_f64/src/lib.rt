@@ -7,11 +7,13 @@ ghost use lib.Ieee.{binary64, mul};
 ghost use lib.ListN.{length};
 ghost use Rattle.numbers.specs.Refusal.{refusalOf, Answers};
 ghost use Rattle.border.specs.Modes.{borderOfF64};
-ghost use Rattle.correlation.specs.Correlated.{correlate1dF, convolve1dF};
+ghost use Rattle.correlate_spec.specs.Correlated.{correlate1dF, convolve1dF};
 ghost use Rattle.correlate_judge.specs.Judge.{correlateJudgedF};
 ghost use Rattle.correlate1d.specs.Weighs.{Placed};
 use border::BorderModeF64;
-use origin::Origin;
+use window::Origin;
+
+mod lane_loop;
 
 // Every cell times one weight.
 fn scale(data: &[f64], weight: f64, out: &mut [f64])
@@ -39,11 +41,11 @@ fn weigh(
     requires { ⌜ Placed (borderOfF64 mode) (now shape) axis origin (now weights) (now «data») (now out) ⌝ }
     ensures { λ _. ⌜ now (out .exit) ≡ correlate1dF (borderOfF64 mode) origin (now (weights .entry)) (now (shape .entry)) axis (now («data» .entry)) ⌝ }
 {
-    match origin::origin_check(weights.len(), origin) {
+    match window::origin_check(weights.len(), origin) {
         Origin::Refused => {}
-        Origin::Pads(left, right) => axis_filter_f64::correlate_axis_f64(
+        Origin::Pads(left, right) => crate::lane_loop::correlate_axis_f64(
             weights,
-            symmetry_state::symmetry_state_f64(weights),
+            symmetry::symmetry_state_f64(weights),
             mode,
             data,
             shape,

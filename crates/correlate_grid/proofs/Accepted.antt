@@ -12,13 +12,13 @@ use lib.IntN.{ℤ}
 use lib.ListN.{length}
 use Rattle.numbers.specs.Lists.{tabulate}
 use Rattle.numbers.proofs.Tabulate.{tabulate-agree}
-use Rattle.array.specs.Grid.{cellCount, lengthOf}
-use Rattle.array.proofs.Places.{length-pos}
-use Rattle.array.proofs.Shapes.{Accepted, shape-accepted}
+use Rattle.array_spec.specs.Grid.{cellCount, lengthOf}
+use Rattle.array_spec.proofs.Places.{length-pos}
+use Rattle.array_spec.proofs.Shapes.{Accepted, shape-accepted}
 use Rattle.border.specs.Border.{Border, constant, along}
 use Rattle.border.specs.declared.Along.the-variants.{Nearest, Mirror, Reflect, Wrap}
 use Rattle.pad_line.specs.Line.{badPad}
-use Rattle.correlation.specs.Kernel.{sidesOf, kernelSum, kernelAnswer}
+use Rattle.correlate_spec.specs.Kernel.{sidesOf, kernelSum, kernelAnswer}
 use Rattle.correlate_grid.specs.declared.axes.Axes.{Axes}
 use Rattle.correlate_grid.specs.declared.axes.Axis.{Axis}
 use Rattle.correlate_grid.specs.Kernel.{Kernelled}

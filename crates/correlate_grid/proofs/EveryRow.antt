@@ -19,7 +19,7 @@ use Rattle.numbers.proofs.Tests.{cond-yes, cond-no}
 use Rattle.lanes.proofs.Cells.{step-le}
 use Rattle.lanes.proofs.Part.{onRow, row-yes, row-no, part-put}
 use Rattle.border.specs.Border.{Border}
-use Rattle.correlation.specs.Weighed.{summed}
+use Rattle.correlate_spec.specs.Weighed.{summed}
 use Rattle.correlate_grid.specs.declared.axes.Axis.{Axis}
 use Rattle.correlate_grid.specs.Axes.{Laid}
 use Rattle.correlate_grid.specs.ByRows.{rowsTo, Summing}

@@ -14,9 +14,9 @@ use Rattle.numbers.proofs.Tests.{or-false, or-no}
 use Rattle.numbers.proofs.Tabulate.{tabulate-agree}
 use Rattle.lanes.proofs.Cells.{step-le}
 use Rattle.border.specs.Border.{Border}
-use Rattle.correlation.specs.Weighed.{summed}
-use Rattle.correlation.proofs.Summed.{summed-agree}
-use Rattle.plain_line.specs.Added.{addedTo, Addable}
+use Rattle.correlate_spec.specs.Weighed.{summed}
+use Rattle.correlate_spec.proofs.Summed.{summed-agree}
+use Rattle.correlate_line.specs.Added.{addedTo, Addable}
 use Rattle.correlate_grid.specs.declared.axes.Axis.{Axis}
 use Rattle.correlate_grid.specs.Axes.{Laid}
 use Rattle.correlate_grid.specs.ByRows.{rowLine, lineSum, Reading}

@@ -14,7 +14,7 @@ use lib.ListN.{length, getD, replicate, length-replicate, getD-replicate, drop, 
 use Rattle.numbers.specs.Lists.{anyOf}
 use Rattle.numbers.proofs.Tabulate.{tabulate-replicate}
 use Rattle.numbers.proofs.Tests.{cond-yes, cond-no, or-false, or-no}
-use Rattle.array.specs.Grid.{placeOf}
+use Rattle.array_spec.specs.Grid.{placeOf}
 use Rattle.lanes.specs.Lanes.{lane, laneBase, laneAt}
 use Rattle.lanes.proofs.Cells.{length-laneAt, base-neighbours}
 use Rattle.border.specs.Border.{Border, constant, along, cellFor, inside, allInside, extendedLane, extendedGrid}
@@ -29,8 +29,8 @@ use Rattle.correlate_grid.proofs.Lines.{lane-row}
 use Rattle.correlate_grid.proofs.Sources.{ReadsIn}
 use Rattle.numbers.specs.Ranges.{outsideZ}
 use Rattle.numbers.proofs.Size.{size-le, size-inside, inside-sized}
-use Rattle.array.specs.Conditions.{badLevel}
-use Rattle.line_sums.specs.Sizes.{Weighable}
+use Rattle.array_spec.specs.Conditions.{badLevel}
+use Rattle.correlate_spec.specs.Sizes.{Weighable}
 
 module _ (b : Border ℤ) (z : Axis) (none row : ℕ) (cells : List ℤ) where
   abbrev total : ℕ

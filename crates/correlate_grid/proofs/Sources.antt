@@ -19,7 +19,7 @@ use Rattle.border.specs.Border.{Border, constant, along, cellAfter, cellFor, in
 use Rattle.border.specs.declared.Along.{Along}
 use Rattle.pad_line.specs.Line.{badAlong, badPad, paddedAt, paddedLane}
 use Rattle.pad_line.proofs.Reach.{cell-before-in, cell-after-in}
-use Rattle.line_sums.proofs.Computed.{read}
+use Rattle.correlate_spec.proofs.Computed.{read}
 use Rattle.correlate_grid.specs.declared.axes.Axis.{Axis}
 use Rattle.correlate_grid.specs.Axes.{Serves, readAt, sourceFor, numbered, Found}
 use Rattle.correlate_grid.proofs.Lines.{lane-row, padded-cell}

@@ -10,11 +10,11 @@ use lib.IntN.{ℤ, pos, negℤ}
 use Rattle.numbers.specs.Lists.{tabulate, anyOf}
 use Rattle.numbers.specs.Ranges.{outsideZ}
 use Rattle.numbers.proofs.Size.{Size, size-zero, size-le, tested-sized, inside-sized}
-use Rattle.array.proofs.Judged.{levels-sized}
+use Rattle.array_spec.proofs.Judged.{levels-sized}
 use Rattle.border.specs.Border.{Border}
 use Rattle.pad_line.proofs.Sizes.{constant-sized}
-use Rattle.correlation.proofs.Sizes.{size-summed}
-use Rattle.correlation.proofs.KernelSizes.{term-sized}
+use Rattle.correlate_spec.proofs.Sizes.{size-summed}
+use Rattle.correlate_spec.proofs.KernelSizes.{term-sized}
 use Rattle.axis_filter.proofs.Supposed.{any-table}
 use Rattle.correlate_grid.specs.declared.axes.Axis.{Axis}
 use Rattle.correlate_grid.specs.Axes.{Laid}

@@ -9,12 +9,12 @@ use native.Mathlib.Omega.{arith}
 use lib.Arith.{digits-lt, digits-div, digits-mod}
 use lib.IntN.{ℤ, pos, natAbs, _+ℤ_, _-ℤ_, _*ℤ_, +ℤ-idr, +ℤ-assoc}
 use lib.ListN.{length, getD}
-use Rattle.array.specs.Grid.{cellCount, lengthOf, placeOf, coordinate}
-use Rattle.array.proofs.Places.{Positive}
-use Rattle.array.proofs.Strides.{coordinate-digit}
+use Rattle.array_spec.specs.Grid.{cellCount, lengthOf, placeOf, coordinate}
+use Rattle.array_spec.proofs.Places.{Positive}
+use Rattle.array_spec.proofs.Strides.{coordinate-digit}
 use Rattle.border.specs.Border.{Border, constant, along, cellFor, inside, allInside, extendedGrid}
-use Rattle.correlation.specs.Weighed.{summed}
-use Rattle.correlation.proofs.Summed.{summed-agree}
+use Rattle.correlate_spec.specs.Weighed.{summed}
+use Rattle.correlate_spec.proofs.Summed.{summed-agree}
 use Rattle.correlate_grid.specs.declared.axes.Axis.{Axis}
 use Rattle.correlate_grid.specs.Axes.{readAt, Laid}
 use Rattle.correlate_grid.specs.ByRows.{three, rowSum, rowsTo}

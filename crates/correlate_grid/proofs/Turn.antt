@@ -12,8 +12,8 @@ use Rattle.numbers.specs.Lists.{tabulate}
 use Rattle.numbers.proofs.Size.{Size}
 use Rattle.numbers.proofs.Tabulate.{length-tabulate, getD-tabulate, tabulate-agree}
 use Rattle.border.specs.Border.{Border, extendedGrid}
-use Rattle.correlation.proofs.Summed.{summed-agree, summed-more}
-use Rattle.line_sums.proofs.Computed.{read, computed-level, computed-read}
+use Rattle.correlate_spec.proofs.Summed.{summed-agree, summed-more}
+use Rattle.correlate_spec.proofs.Computed.{read, computed-level, computed-read}
 use Rattle.correlate_grid.specs.declared.axes.Axis.{Axis}
 use Rattle.correlate_grid.specs.Axes.{readAt, sourceFor, Laid}
 use Rattle.correlate_grid.specs.ByRows.{three, rowFor, rowLine, lineSum, rowSum, rowsTo, Mapped, Summing, Reading}

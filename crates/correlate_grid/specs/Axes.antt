@@ -16,8 +16,8 @@ use lib.IntN.{ℤ, pos, negsuc, negℤ, _+ℤ_, _-ℤ_}
 use lib.ListN.{length, getD}
 use Rattle.numbers.specs.Lists.{anyOf}
 use Rattle.numbers.specs.Ranges.{outsideZ}
-use Rattle.array.specs.Conditions.{badLevel}
-use Rattle.array.specs.Grid.{lengthOf}
+use Rattle.array_spec.specs.Conditions.{badLevel}
+use Rattle.array_spec.specs.Grid.{lengthOf}
 use Rattle.border.specs.Border.{Border, constant, along, inside, cellFor}
 use Rattle.border.specs.Modes.{badConstantBy}
 use Rattle.pad_line.specs.Line.{badPad}

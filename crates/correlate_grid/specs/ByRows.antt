@@ -22,7 +22,7 @@ use Rattle.numbers.specs.Ranges.{outsideZ}
 use Rattle.lanes.specs.Lanes.{lane}
 use Rattle.border.specs.Border.{Border, constant, along, extendedGrid}
 use Rattle.pad_line.specs.Line.{paddedLine}
-use Rattle.correlation.specs.Weighed.{summed}
+use Rattle.correlate_spec.specs.Weighed.{summed}
 use Rattle.correlate_grid.specs.declared.axes.Axis.{Axis}
 use Rattle.correlate_grid.specs.Axes.{readAt, Found, Laid}
 

@@ -9,12 +9,12 @@ use lib.IntN.{ℤ, pos, negℤ}
 use lib.ListN.{length}
 use Rattle.numbers.specs.Lists.{anyOf}
 use Rattle.numbers.specs.Ranges.{outsideZ}
-use Rattle.array.specs.Conditions.{badShape, badLevel}
-use Rattle.array.specs.Grid.{cellCount, lengthOf}
+use Rattle.array_spec.specs.Conditions.{badShape, badLevel}
+use Rattle.array_spec.specs.Grid.{cellCount, lengthOf}
 use Rattle.border.specs.Border.{Border}
 use Rattle.border.specs.Modes.{badConstantBy}
 use Rattle.pad_line.specs.Line.{badPad}
-use Rattle.correlation.specs.Kernel.{sidesOf}
+use Rattle.correlate_spec.specs.Kernel.{sidesOf}
 
 pub record Kernelled (b : Border ℤ) (ns : List ℕ) (side left right : ℕ) (w cells out : List ℤ) : Type 0 where
   pub shape : badShape ns ≡ false

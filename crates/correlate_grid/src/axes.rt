@@ -36,7 +36,7 @@ fn axis_from(shape: &[usize], back: usize, side: usize, left: usize, right: usiz
             side: 1,
         };
     }
-    let len = shapes::len_of(shape, axes - 1 - back);
+    let len = array::len_of(shape, axes - 1 - back);
     Axis {
         len,
         left,

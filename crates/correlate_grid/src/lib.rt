@@ -1,7 +1,7 @@
 // Correlation of a whole grid with a grid kernel, row by row: no padded copy of the grid.
 ghost use mathlib.Core.Path.{_≡_};
 ghost use Rattle.border.specs.Modes.{borderOf};
-ghost use Rattle.correlation.specs.Kernel.{sidesOf, kernelAnswer};
+ghost use Rattle.correlate_spec.specs.Kernel.{sidesOf, kernelAnswer};
 ghost use Rattle.correlate_grid.specs.Kernel.{Kernelled};
 ghost use Rattle.correlate_grid.specs.Rows.{CorrelateGridRows};
 use border::BorderMode;

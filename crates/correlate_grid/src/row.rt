@@ -46,7 +46,7 @@ fn load_row(data: &[i64], mode: BorderMode, axis: Axis, none: usize, row: usize,
     ensures { λ _. ⌜ now (line .exit) ≡ rowLine (borderOf mode) axis none row (now («data» .entry)) ⌝ }
 {
     if row == none {
-        assign::fill(line, constant_of(mode));
+        array::fill(line, constant_of(mode));
         return;
     }
     let n = axis.len;
@@ -79,5 +79,5 @@ pub(crate) fn add_kernel_row(
     let side = cells.side;
     let a = q * side;
     let e = a + side;
-    plain_line::add_line(&weights[a..e], line, out);
+    correlate_line::add_line(&weights[a..e], line, out);
 }

@@ -11,16 +11,16 @@ use Rattle.numbers.specs.Lists.{anyOf}
 use Rattle.numbers.specs.Ranges.{outside}
 use Rattle.numbers.specs.Refusal.{Judged, refusalOf}
 use Rattle.numbers.proofs.Refusal.{judged-all, chain-stops, chain-goes, chain-ends}
-use Rattle.array.specs.Conditions.{badLevel, badAxis, gridJudgedBy}
-use Rattle.array.specs.Grid.{lengthOf}
-use Rattle.array.proofs.Judged.{grid-judged, judged-twice}
+use Rattle.array_spec.specs.Conditions.{badLevel, badAxis, gridJudgedBy}
+use Rattle.array_spec.specs.Grid.{lengthOf}
+use Rattle.array_spec.proofs.Judged.{grid-judged, judged-twice}
 use Rattle.border.specs.Border.{Border}
 use Rattle.border.specs.Modes.{borderOf, borderOfF64, badConstantBy}
 use Rattle.border.specs.declared.BorderModeF64.{BorderModeF64}
 use Rattle.border.specs.declared.BorderModeF64.the-variants.{Constant, Mirror, Nearest, Reflect, Wrap}
 use Rattle.pad_line.specs.Line.{badPad}
-use Rattle.filter_judge.specs.Judge.{windowOrigin, badReach}
-use Rattle.filter_judge.proofs.Reach.{leftOf, rightOf}
+use Rattle.min_max_judge.specs.Judge.{windowOrigin, badReach}
+use Rattle.min_max_judge.proofs.Reach.{leftOf, rightOf}
 use Rattle.correlate_judge.specs.Judge.{badWeight, weightsJudged, appliedOrigin, placeJudged, badSums, kindOf}
 use Rattle.correlate_judge.proofs.Sums.{no-bad-sums}
 

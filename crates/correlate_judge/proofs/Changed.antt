@@ -13,9 +13,9 @@ use mir.ValLaws.{toZ-ofZ}
 use Rattle.numbers.proofs.IntSum.{minus-pos}
 use Rattle.numbers.proofs.Size.{Size, size-neg, fits-size}
 use Rattle.numbers.proofs.Tests.{leb-ltb}
-use Rattle.origin.specs.Origin.{badOrigin}
-use Rattle.origin.proofs.Origins.{origin-none, origin-on, origin-back, accepted-on, accepted-back}
-use Rattle.correlation.specs.Correlated.{changedOrigin}
+use Rattle.window.specs.Origin.{badOrigin}
+use Rattle.window.proofs.Origins.{origin-none, origin-on, origin-back, accepted-on, accepted-back}
+use Rattle.correlate_spec.specs.Correlated.{changedOrigin}
 use Rattle.correlate_judge.specs.Judge.{appliedOrigin}
 
 -- ---- the range

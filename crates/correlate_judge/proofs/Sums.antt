@@ -14,13 +14,13 @@ use Rattle.numbers.specs.Lists.{anyOf}
 use Rattle.numbers.specs.Ranges.{outside, beyond}
 use Rattle.numbers.proofs.Size.{Size, Sized, tested-sized}
 use Rattle.numbers.proofs.Tests.{or-false}
-use Rattle.array.specs.Conditions.{badLevel}
-use Rattle.array.proofs.Judged.{levels-sized}
+use Rattle.array_spec.specs.Conditions.{badLevel}
+use Rattle.array_spec.proofs.Judged.{levels-sized}
 use Rattle.border.specs.Border.{Border}
 use Rattle.border.specs.Modes.{badConstantBy}
 use Rattle.pad_line.proofs.Sizes.{SizedBorder, constant-sized}
-use Rattle.correlation.specs.Correlated.{correlate1dZ}
-use Rattle.correlation.proofs.Bounds.{answer-sized, within-sized}
+use Rattle.correlate_spec.specs.Correlated.{correlate1dZ}
+use Rattle.correlate_spec.proofs.Bounds.{answer-sized, within-sized}
 use Rattle.correlate_judge.specs.Judge.{badWeight, appliedWeights, badSums}
 use Rattle.correlate_judge.proofs.Applied.{applied-length, applied-weights}
 

@@ -19,16 +19,16 @@ use lib.ListN.{length}
 use Rattle.numbers.specs.Lists.{anyOf}
 use Rattle.numbers.specs.Ranges.{outside, outsideZ, beyond}
 use Rattle.numbers.specs.Refusal.{Judged}
-use Rattle.array.specs.Conditions.{badLevel, badFloat, badAxis, gridJudgedBy, gridJudged}
-use Rattle.array.specs.Grid.{lengthOf}
+use Rattle.array_spec.specs.Conditions.{badLevel, badFloat, badAxis, gridJudgedBy, gridJudged}
+use Rattle.array_spec.specs.Grid.{lengthOf}
 use Rattle.border.specs.Border.{Border}
 use Rattle.border.specs.Modes.{badConstantBy}
 use Rattle.border.specs.declared.BorderMode.{BorderMode}
 use Rattle.border.specs.declared.BorderMode.the-variants as Whole
 use Rattle.border.specs.declared.BorderModeF64.{BorderModeF64}
 use Rattle.border.specs.declared.BorderModeF64.the-variants as F64
-use Rattle.filter_judge.specs.Judge.{windowOrigin, badReach}
-use Rattle.correlation.specs.Correlated.{changedOrigin, correlate1dZ}
+use Rattle.min_max_judge.specs.Judge.{windowOrigin, badReach}
+use Rattle.correlate_spec.specs.Correlated.{changedOrigin, correlate1dZ}
 
 unfoldable pub badWeight : ℤ → Bool
 badWeight z = outsideZ (negℤ (pos 65535)) (pos 65535) z

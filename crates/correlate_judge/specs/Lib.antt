@@ -1,3 +1,6 @@
 -- The conditions of correlation and convolution along an axis.
 pub mod Judge
+pub mod WeightRows
+pub mod KernelJudge
+pub mod KernelRows
 pub mod Rows

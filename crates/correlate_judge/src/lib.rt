@@ -1,22 +1,26 @@
 // The judge of `correlate1d` and `convolve1d`, whole and float: the conditions in rising order, before anything is stored.
+ghost use Rattle.correlate_judge.specs.Rows.{CorrelateJudgeRows};
 ghost use mathlib.Core.Path.{_≡_};
 ghost use mathlib.Core.Bool.{not, _&&_};
 ghost use mathlib.Core.List.{[], _∷_};
 ghost use lib.Dec.{eqb};
 ghost use Rattle.numbers.specs.Ranges.{outside};
 ghost use Rattle.numbers.specs.Refusal.{refusalOf};
-ghost use Rattle.array.specs.Conditions.{badAxis};
-ghost use Rattle.array.specs.Grid.{lengthOf};
+ghost use Rattle.array_spec.specs.Conditions.{badAxis};
+ghost use Rattle.array_spec.specs.Grid.{lengthOf};
 ghost use Rattle.border.specs.Modes.{borderOf, borderOfF64};
-ghost use Rattle.filter_judge.specs.Judge.{windowOrigin, badReach};
+ghost use Rattle.min_max_judge.specs.Judge.{windowOrigin, badReach};
 ghost use Rattle.correlate_judge.specs.Judge.{appliedOrigin, correlateJudged, correlateJudgedF};
-ghost use Rattle.correlate_judge.specs.Rows.{CorrelateJudgeRows};
 use border::BorderMode;
 use border::BorderModeF64;
 
+mod kernel;
+mod kernel_pads;
+mod kernel_sides;
 mod origins;
 mod weights;
 
+pub use kernel::judge_kernel;
 pub use origins::applied_origin;
 pub use weights::bad_weight;
 pub use weights::bad_weights;
@@ -34,22 +38,22 @@ fn judge_weighing(
 ) -> u8
     ensures { λ r. ⌜ r ≡ refusalOf ((outside 1 65 len, 5) ∷ (six, 6) ∷ (windowOrigin len origin, 7) ∷ (badAxis (now (shape .entry)) axis, 8) ∷ (nine, 9) ∷ (not (eqb len 1) && badReach (borderOf mode) len (appliedOrigin turned len origin) (lengthOf (now (shape .entry)) axis), 11) ∷ []) ⌝ }
 {
-    if filter_judge::bad_size(len) {
+    if min_max_judge::bad_size(len) {
         return numbers::KERNEL;
     }
     if six {
         return numbers::WEIGHT;
     }
-    if filter_judge::bad_window_origin(len, origin) {
+    if min_max_judge::bad_window_origin(len, origin) {
         return numbers::ORIGIN;
     }
-    if conditions::bad_axis(shape, axis) {
+    if array::bad_axis(shape, axis) {
         return numbers::AXIS;
     }
     if nine {
         return numbers::CONSTANT;
     }
-    let n = shapes::len_of(shape, axis);
+    let n = array::len_of(shape, axis);
     if origins::bad_reach(mode, n, len, origin, turned) {
         return numbers::REACH;
     }
@@ -82,12 +86,12 @@ pub fn judge_correlate(
 ) -> u8
     ensures { λ r. ⌜ r ≡ refusalOf (correlateJudged turned (borderOf mode) origin (now (weights .entry)) (now (shape .entry)) axis (now («data» .entry)) out) ⌝ }
 {
-    let refusal = conditions::judge_grid(data, shape, out, out);
+    let refusal = array::judge_grid(data, shape, out, out);
     if refusal != 0 {
         return refusal;
     }
     let six = bad_weights(weights);
-    let nine = border_constant::bad_constant(mode);
+    let nine = border::bad_constant(mode);
     judge_weighing(shape, weights.len(), six, axis, mode, nine, origin, turned)
 }
 
@@ -105,12 +109,12 @@ pub fn judge_correlate_f64(
 ) -> u8
     ensures { λ r. ⌜ r ≡ refusalOf (correlateJudgedF turned (borderOfF64 mode) origin (now (weights .entry)) (now (shape .entry)) axis (now («data» .entry)) out) ⌝ }
 {
-    let refusal = conditions::judge_grid_f64(data, shape, out, out);
+    let refusal = array::judge_grid_f64(data, shape, out, out);
     if refusal != 0 {
         return refusal;
     }
-    let six = conditions::bad_levels_f64(weights);
-    let nine = border_constant::bad_constant_f64(mode);
+    let six = array::bad_levels_f64(weights);
+    let nine = border::bad_constant_f64(mode);
     judge_weighing(
         shape,
         weights.len(),
@@ -123,7 +127,7 @@ pub fn judge_correlate_f64(
     )
 }
 
-// Worked rows of this crate's definitions: each number at its limits. Refuses nothing.
+// Worked rows of this crate's definitions: weights along an axis, grid kernels. Refuses nothing.
 pub fn rows()
     ensures { λ _. ⌜ CorrelateJudgeRows ⌝ }
 {}

@@ -3,8 +3,8 @@ ghost use mathlib.Core.Path.{_≡_};
 ghost use mathlib.Core.Bool.{false, not, _&&_};
 ghost use lib.Dec.{eqb};
 ghost use Rattle.border.specs.Modes.{borderOf};
-ghost use Rattle.origin.specs.Origin.{badOrigin};
-ghost use Rattle.filter_judge.specs.Judge.{windowOrigin, badReach};
+ghost use Rattle.window.specs.Origin.{badOrigin};
+ghost use Rattle.min_max_judge.specs.Judge.{windowOrigin, badReach};
 ghost use Rattle.correlate_judge.specs.Judge.{appliedOrigin, kindOf};
 use border::BorderMode;
 use border::BorderModeF64;
@@ -46,5 +46,5 @@ pub(crate) fn bad_reach(mode: BorderMode, n: usize, len: usize, origin: isize, t
     if len == 1 {
         return false;
     }
-    filter_judge::bad_reach(mode, n, len, applied_origin(len, origin, turned))
+    min_max_judge::bad_reach(mode, n, len, applied_origin(len, origin, turned))
 }

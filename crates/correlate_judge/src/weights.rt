@@ -1,4 +1,4 @@
-// Condition 6 of whole weights. That of float weights is condition 3 of float levels: `conditions::bad_levels_f64`.
+// Condition 6 of whole weights. That of float weights is condition 3 of float levels: `array::bad_levels_f64`.
 ghost use mathlib.Core.Path.{_≡_};
 ghost use Rattle.numbers.specs.Lists.{anyOf};
 ghost use Rattle.correlate_judge.specs.Judge.{badWeight};

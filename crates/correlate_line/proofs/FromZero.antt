@@ -8,11 +8,11 @@ use lib.IntN.{ℤ, pos, negℤ, _+ℤ_, +ℤ-idl}
 use lib.ListN.{length, getD, replicate, length-replicate}
 use Rattle.numbers.specs.Lists.{tabulate, anyOf}
 use Rattle.numbers.specs.Ranges.{outsideZ}
-use Rattle.symmetry.specs.declared.SymmetryState.the-variants.{NonSymmetric}
-use Rattle.correlation.specs.Weighed.{wholeOps, plainAt, weighedLine}
-use Rattle.line_sums.specs.Sizes.{Weighable}
-use Rattle.line_sums.proofs.Terms.{weighable-kept}
-use Rattle.plain_line.specs.Added.{addedTo, Addable}
+use Rattle.symmetry_spec.specs.declared.SymmetryState.the-variants.{NonSymmetric}
+use Rattle.correlate_spec.specs.Weighed.{wholeOps, plainAt, weighedLine}
+use Rattle.correlate_spec.specs.Sizes.{Weighable}
+use Rattle.correlate_spec.proofs.Terms.{weighable-kept}
+use Rattle.correlate_line.specs.Added.{addedTo, Addable}
 
 zeros-small : (n : ℕ) → anyOf (outsideZ (negℤ (pos (2 ^ 61))) (pos (2 ^ 61))) (replicate n (pos 0)) ≡ false
 zeros-small zero = refl

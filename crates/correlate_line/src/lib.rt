@@ -2,13 +2,22 @@
 ghost use mathlib.Core.Path.{_≡_};
 ghost use Prim.Native.Nat.{_≤_};
 ghost use lib.ListN.{length};
-ghost use Rattle.symmetry.specs.declared.SymmetryState.the-variants.{NonSymmetric};
-ghost use Rattle.correlation.specs.Weighed.{wholeOps, weighedLine};
-ghost use Rattle.line_sums.specs.Sizes.{Weighable};
-ghost use Rattle.narrow.specs.Narrow.{Narrow};
-use assign::fill;
-use plain_line::add_line;
-use raised_line::raised_line;
+ghost use Rattle.symmetry_spec.specs.declared.SymmetryState.the-variants.{NonSymmetric};
+ghost use Rattle.correlate_spec.specs.Weighed.{wholeOps, weighedLine};
+ghost use Rattle.correlate_spec.specs.Sizes.{Weighable};
+ghost use Rattle.correlate_line.specs.Narrow.{Narrow};
+use crate::raised::raised_line;
+use array::fill;
+
+mod narrow;
+mod plain;
+mod raised;
+mod raised_start;
+mod raised_terms;
+mod start;
+
+pub use plain::add_line;
+pub use start::first_sum;
 
 // Sets each cell of out to the weighted sum of its window of the padded line. From five weights on, raising them and the line pays; what the line then holds is of no use.
 pub fn correlate_line(weights: &[i64], line: &mut [i64], out: &mut [i64])

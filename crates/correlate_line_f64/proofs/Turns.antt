@@ -8,9 +8,9 @@ use lib.Ieee.{Float, nan}
 use lib.ListN.{length, getD, set}
 use Rattle.numbers.specs.Lists.{tabulate}
 use Rattle.numbers.proofs.Stored.{Stored}
-use Rattle.correlation.specs.Weighed.{floatOps, plainTo}
-use Rattle.correlation.proofs.Along.{plain-first-four, plain-four}
-use Rattle.terms_f64.specs.Four.{fourMore}
+use Rattle.correlate_spec.specs.Weighed.{floatOps, plainTo}
+use Rattle.correlate_spec.proofs.Along.{plain-first-four, plain-four}
+use Rattle.correlate_line_f64.specs.Four.{fourMore}
 
 -- p, q, r and t are the weights from weight j on
 abbrev Weights : List Float → ℕ → Float → Float → Float → Float → Type 0

@@ -3,13 +3,16 @@ ghost use mathlib.Core.Path.{_≡_};
 ghost use Prim.Native.Nat.{_+_, _≤_, _<_};
 ghost use lib.ListN.{length};
 ghost use Rattle.numbers.specs.Lists.{tabulate};
-ghost use Rattle.symmetry.specs.declared.SymmetryState.the-variants.{NonSymmetric};
-ghost use Rattle.correlation.specs.Weighed.{floatOps, plainTo, weighedLine};
-ghost use Rattle.line_sums.specs.Lengths.{Windows};
-use pair_line_f64::pair_line_f64;
-use symmetry::SymmetryState;
-use terms_f64::four_more;
-use terms_f64::four_weights;
+ghost use Rattle.symmetry_spec.specs.declared.SymmetryState.the-variants.{NonSymmetric};
+ghost use Rattle.correlate_spec.specs.Weighed.{floatOps, plainTo, weighedLine};
+ghost use Rattle.correlate_spec.specs.Lengths.{Windows};
+use crate::pairs::pair_line_f64;
+use crate::terms::four_more;
+use crate::terms::four_weights;
+use symmetry_spec::SymmetryState;
+
+mod pairs;
+mod terms;
 
 // Sets every cell to 0.0 and the term of the first cell of its window.
 fn start_row(weights: &[f64], line: &[f64], out: &mut [f64])

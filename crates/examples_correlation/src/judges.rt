@@ -1,47 +1,47 @@
 // The examples of `kernel_judge`, `gradient_judge`, `uniform_judge` and of the judge of `median`; those of the calls are requests of `ndimage`.
 use border::BorderMode;
-use print::line;
-use print::test;
+use examples_print::line;
+use examples_print::test;
 
 // A kernel under Wrap, correlated and convolved.
 fn kernels(cells: &[i64], shape: &[usize], weights: &[i64], sides: &[usize]) {
     let wrap = BorderMode::Wrap;
-    line(kernel_judge::judge_kernel(cells, shape, weights, sides, wrap, 0, false, 1) as usize);
-    line(kernel_judge::judge_kernel(cells, shape, weights, sides, wrap, 0, true, 1) as usize);
+    line(correlate_judge::judge_kernel(cells, shape, weights, sides, wrap, 0, false, 1) as usize);
+    line(correlate_judge::judge_kernel(cells, shape, weights, sides, wrap, 0, true, 1) as usize);
 }
 
 // One cell with a kernel of two.
-pub fn one_cell() {
+pub(crate) fn one_cell() {
     kernels(&[5], &[1], &[1, 1], &[2]);
 }
 
 // Both axes under Mirror.
 fn axes(cells: &[i64], shape: &[usize]) {
     let mirror = BorderMode::Mirror;
-    line(gradient_judge::judge_gradient(cells, shape, 0, mirror, 4, 4) as usize);
-    line(gradient_judge::judge_gradient(cells, shape, 1, mirror, 4, 4) as usize);
+    line(gradient::judge_gradient(cells, shape, 0, mirror, 4, 4) as usize);
+    line(gradient::judge_gradient(cells, shape, 1, mirror, 4, 4) as usize);
 }
 
 // An axis of one cell.
-pub fn gradients() {
+pub(crate) fn gradients() {
     axes(&[1, 2, 3, 4], &[4, 1]);
 }
 
 // Sizes 5 and 7 on a line under Mirror.
 fn sizes(cells: &[i64], shape: &[usize]) {
     let mirror = BorderMode::Mirror;
-    line(uniform_judge::judge_uniform1d(cells, shape, 5, 0, mirror, 3) as usize);
-    line(uniform_judge::judge_uniform1d(cells, shape, 7, 0, mirror, 3) as usize);
+    line(uniform::judge_uniform1d(cells, shape, 5, 0, mirror, 3) as usize);
+    line(uniform::judge_uniform1d(cells, shape, 7, 0, mirror, 3) as usize);
 }
 
 // Sizes 3 and 5 on one cell under Nearest.
 fn small_sizes(cells: &[i64], shape: &[usize]) {
     let nearest = BorderMode::Nearest;
-    line(uniform_judge::judge_uniform(cells, shape, 3, nearest, 1, 1) as usize);
-    line(uniform_judge::judge_uniform(cells, shape, 5, nearest, 1, 1) as usize);
+    line(uniform::judge_uniform(cells, shape, 3, nearest, 1, 1) as usize);
+    line(uniform::judge_uniform(cells, shape, 5, nearest, 1, 1) as usize);
 }
 
-pub fn means() {
+pub(crate) fn means() {
     sizes(&[1, 2, 3], &[3]);
     small_sizes(&[5], &[1]);
 }
@@ -56,6 +56,6 @@ fn cubes(two: &[usize], single: &[usize], whole: &[usize]) {
     line(median::judge_median(single, 4, 4) as usize);
 }
 
-pub fn masks() {
+pub(crate) fn masks() {
     cubes(&[2, 2], &[2, 1, 2], &[2, 2, 2]);
 }

@@ -1,9 +1,9 @@
 // The examples of `kernel3d`.
+use examples_print::line;
+use examples_print::test;
 use kernel3d::Kernel3d;
-use print::line;
-use print::test;
 
-pub fn shapes() {
+pub(crate) fn shapes() {
     let star = Kernel3d::Star.generate();
     test(star[0][1][1]);
     test(star[0][0][1]);

@@ -1,34 +1,31 @@
 // The numeric examples of the public comments, run and printed; `stdout` beside src/ has what they must be. Here are kernels, padded lines, windows and the judges
 // of correlation, gradients, uniform filters and masks; `examples` has the others, and those of the calls that `ndimage` serves are among its requests.
 // The theorems of worked rows are called here too, so that no crate can drop its own unnoticed.
+
 mod judges;
 mod kernels;
 mod padded;
 mod weighing;
 
 fn rows() {
-    worked_examples::worked_examples();
+    examples_spec::worked_examples();
     kernel3d::rows();
-    symmetry::rows();
-    steps::rows();
+    symmetry_spec::rows();
     pad_line::rows();
     pad_line_f64::rows();
     axis_filter::rows();
-    correlation::rows();
+    correlate_spec::rows();
     correlate_judge::rows();
     correlate1d::rows();
     correlate_grid::rows();
-    kernel_judge::rows();
-    gradient_judge::rows();
-    gradient_passes::rows();
-    uniform_line::rows();
-    uniform_axis::rows();
-    uniform_judge::rows();
+    gradient_spec::rows();
+    gradient::rows();
+    uniform_spec::rows();
     uniform::rows();
-    median_mask::rows();
+    median_spec::rows();
     median::rows();
-    text::rows();
-    text::reads_back();
+    text_spec::rows();
+    text_spec::reads_back();
     text_f64::rows();
     text_f64::reads_back_f64();
     codes::rows();

@@ -1,12 +1,12 @@
 // The examples of `pad_line`, `pad_line_f64` and `window`.
 use border::BorderMode;
 use border::BorderModeF64;
-use print::levels;
-use print::line;
-use print::test;
+use examples_print::levels;
+use examples_print::line;
+use examples_print::test;
 
 // Pads of three cells.
-pub fn pad_conditions() {
+pub(crate) fn pad_conditions() {
     test(pad_line::bad_pad(BorderMode::Mirror, 3, 2));
     test(pad_line::bad_pad(BorderMode::Mirror, 3, 3));
     test(pad_line::bad_pad(BorderMode::Reflect, 3, 3));
@@ -20,7 +20,7 @@ pub fn pad_conditions() {
 }
 
 // Lanes of three cells of a grid of 6, with pads 2 and 2.
-pub fn fits() {
+pub(crate) fn fits() {
     test(pad_line::lane_fits(6, 1, 1, 3, 2, 2, 7));
     test(pad_line::lane_fits(6, 1, 1, 3, 2, 2, 6));
     test(pad_line::lane_fits(6, 1, 2, 3, 2, 2, 7));
@@ -34,12 +34,12 @@ fn padded_by(left: usize) {
     levels(&padded);
 }
 
-pub fn lines() {
+pub(crate) fn lines() {
     padded_by(2);
     padded_by(3);
 }
 
-pub fn lines_f64() {
+pub(crate) fn lines_f64() {
     let grid = [4.0f64, 5.0, 6.0, 1.0, 2.0, 3.0];
     let mut padded = [9.0f64; 8];
     pad_line_f64::pad_lane_f64(&grid, 1, 1, 3, BorderModeF64::Mirror, 2, 2, &mut padded);
@@ -58,7 +58,7 @@ fn two_windows_f64(cells: &[f64]) {
     line(window::window_f64(cells, 4, 2).len());
 }
 
-pub fn windows() {
+pub(crate) fn windows() {
     two_windows(&[7, 1, 2, 3, 7]);
     two_windows_f64(&[7.0, 1.0, 2.0, 3.0, 7.0]);
 }

@@ -1,10 +1,10 @@
 // The examples of `correlate_judge`: weights at their limits, and the numbers of calls, whole and float.
 use border::BorderMode;
 use border::BorderModeF64;
-use print::line;
-use print::test;
+use examples_print::line;
+use examples_print::test;
 
-pub fn weights() {
+pub(crate) fn weights() {
     test(correlate_judge::bad_weight(65535));
     test(correlate_judge::bad_weight(-65536));
     test(correlate_judge::bad_weights(&[1, 65536]));
@@ -23,7 +23,7 @@ fn two_counts(cells: &[i64], shape: &[usize]) {
     both(cells, shape, &[1; 7]);
 }
 
-pub fn judges() {
+pub(crate) fn judges() {
     two_counts(&[1, 2, 3], &[3]);
 }
 
@@ -36,7 +36,7 @@ fn single(cells: &[f64], weights: &[f64], shape: &[usize]) {
 }
 
 // An infinite weight, and a level -0.0.
-pub fn judges_f64() {
+pub(crate) fn judges_f64() {
     single(&[1.0], &[1.0 / 0.0], &[1]);
     single(&[-0.0], &[1.0], &[1]);
 }

@@ -7,8 +7,8 @@ use lib.IntN.{ℤ, pos}
 use lib.ListN.{length, replicate}
 use Rattle.numbers.specs.Refusal.{Answers}
 use Rattle.border.specs.Border.{Border}
-use Rattle.gradient_judge.specs.Gradient.{gradient}
-use Rattle.gradient_judge.specs.Judge.{gradientJudged}
+use Rattle.gradient_spec.specs.Gradient.{gradient}
+use Rattle.gradient_spec.specs.Judge.{gradientJudged}
 
 pub record GradientAnswers (smooth : List ℤ) (b : Border ℤ) (ns : List ℕ) (axis : ℕ) (cells second out : List ℤ) (r : ℕ) (second′ out′ : List ℤ) : Type 0 where
   pub filled : Answers (gradientJudged smooth b ns axis cells (length out) (length second)) (gradient smooth b ns axis cells) out r out′

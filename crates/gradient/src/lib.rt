@@ -1,10 +1,16 @@
 // Prewitt and Sobel filters of whole levels (src/filters/con_corr.rs; SciPy's prewitt and sobel): the difference along an axis, smoothed
 // along every other axis.
 ghost use Rattle.border.specs.Modes.{borderOf};
-ghost use Rattle.gradient_judge.specs.Gradient.{prewittWeights, sobelWeights};
-ghost use Rattle.gradient_judge.specs.Judge.{ThreeSmall};
+ghost use Rattle.gradient_spec.specs.Gradient.{prewittWeights, sobelWeights};
+ghost use Rattle.gradient_spec.specs.Judge.{ThreeSmall};
 ghost use Rattle.gradient.specs.Filters.{GradientAnswers};
 use border::BorderMode;
+
+mod judge;
+mod passes;
+
+pub use judge::judge_gradient;
+pub use passes::rows;
 
 // Judges a call, and fills out where it is accepted; second then holds zeros.
 fn filter(
@@ -19,12 +25,12 @@ fn filter(
     requires { ⌜ ThreeSmall (now smooth) ⌝ }
     ensures { λ r. ⌜ GradientAnswers (now (smooth .entry)) (borderOf mode) (now (shape .entry)) axis (now («data» .entry)) (now (second .entry)) (now (out .entry)) r (now (second .exit)) (now (out .exit)) ⌝ }
 {
-    let refusal = gradient_judge::judge_gradient(data, shape, axis, mode, out.len(), second.len());
+    let refusal = crate::judge::judge_gradient(data, shape, axis, mode, out.len(), second.len());
     if refusal != 0 {
         return refusal;
     }
-    gradient_passes::passes(smooth, data, shape, axis, mode, second, out);
-    assign::fill(second, 0);
+    crate::passes::passes(smooth, data, shape, axis, mode, second, out);
+    array::fill(second, 0);
     numbers::ACCEPTED
 }
 

@@ -6,6 +6,11 @@ ghost use lib.IntN.{pos};
 ghost use lib.ListN.{length};
 ghost use Rattle.lanes.specs.Lanes.{laneBase, laneAt, withLane, readLane, writeLane};
 
+mod float;
+
+pub use float::read_from_f64;
+pub use float::write_from_f64;
+
 // Copies the cells from base on, stride apart, into the line.
 fn gather(grid: &[i64], base: usize, stride: usize, line: &mut [i64])
     requires { ⌜ base + length (now line) * stride < length (now grid) + stride ⌝ }

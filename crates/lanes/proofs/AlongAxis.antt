@@ -11,11 +11,11 @@ use lib.ListN.{length, getD}
 use Rattle.numbers.specs.Lists.{tabulate}
 use Rattle.numbers.proofs.Stored.{Stored}
 use Rattle.numbers.proofs.Tabulate.{length-tabulate, getD-tabulate, tabulate-agree}
-use Rattle.array.specs.Grid.{cellCount, lengthOf, strideOf, placeOf, coordinate, moved, levelAt}
+use Rattle.array_spec.specs.Grid.{cellCount, lengthOf, strideOf, placeOf, coordinate, moved, levelAt}
 use Rattle.lanes.specs.Lanes.{laneOf, laneBase, laneAt, lane, laneInside, alongAxis}
-use Rattle.array.proofs.Places.{Within, Positive, length-pos, place-lt, coordinate-place, place-ext}
-use Rattle.array.proofs.Shapes.{Accepted}
-use Rattle.array.proofs.Strides.{outerOf, count-split, stride-pos, coordinate-digit, place-moved}
+use Rattle.array_spec.proofs.Places.{Within, Positive, length-pos, place-lt, coordinate-place, place-ext}
+use Rattle.array_spec.proofs.Shapes.{Accepted}
+use Rattle.array_spec.proofs.Strides.{outerOf, count-split, stride-pos, coordinate-digit, place-moved}
 use Rattle.lanes.proofs.Cells.{base-of, lane-below, step-le, inside-yes}
 use Rattle.lanes.proofs.Stores.{levelAlong, lanes-all}
 

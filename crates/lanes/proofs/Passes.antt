@@ -7,7 +7,7 @@ use lib.ListN.{length, getD}
 use Rattle.numbers.specs.Lists.{Every}
 use Rattle.numbers.proofs.Any.{every-getD}
 use Rattle.numbers.proofs.Tabulate.{every-table}
-use Rattle.array.specs.Grid.{lengthOf, strideOf}
+use Rattle.array_spec.specs.Grid.{lengthOf, strideOf}
 use Rattle.lanes.specs.Axes.{overAxes}
 use Rattle.lanes.specs.Lanes.{laneOf, laneBase, lane, laneAt, alongAxis}
 

@@ -14,8 +14,8 @@ use mathlib.Core.List.{List}
 use lib.Dec.{leb, ltb, eqb}
 use lib.ListN.{length, getD}
 use Rattle.numbers.specs.Lists.{tabulate}
-use Rattle.array.specs.Grid.{cellCount, lengthOf, strideOf}
-use Rattle.array.specs.Conditions.{badShape}
+use Rattle.array_spec.specs.Grid.{cellCount, lengthOf, strideOf}
+use Rattle.array_spec.specs.Conditions.{badShape}
 use Rattle.lanes.specs.declared.Lanes.{Lanes}
 
 abbrev pub laneOf : ℕ → ℕ → ℕ → ℕ

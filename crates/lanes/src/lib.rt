@@ -3,7 +3,7 @@ ghost use mathlib.Core.Path.{_≡_};
 ghost use mathlib.Core.Bool.{cond};
 ghost use Prim.Native.Nat.{ℕ, _+_, _≤_, _<_};
 ghost use lib.ListN.{length};
-ghost use Rattle.array.specs.Grid.{lengthOf, strideOf};
+ghost use Rattle.array_spec.specs.Grid.{lengthOf, strideOf};
 ghost use Rattle.lanes.specs.Rows.{LanesRows};
 ghost use Rattle.lanes.specs.Lanes.{lanesOf, laneBase, laneInside};
 ghost use Rattle.lanes.specs.Starts.{Starts};
@@ -22,10 +22,10 @@ pub fn stride_of(shape: &[usize], axis: usize) -> usize
     ensures { λ r. ⌜ r ≡ strideOf (now (shape .entry)) axis ⌝ }
 {
     if axis == 0 {
-        return shapes::len_of(shape, 1) * shapes::len_of(shape, 2);
+        return array::len_of(shape, 1) * array::len_of(shape, 2);
     }
     if axis == 1 {
-        return shapes::len_of(shape, 2);
+        return array::len_of(shape, 2);
     }
     1
 }
@@ -36,7 +36,7 @@ pub fn stride_of(shape: &[usize], axis: usize) -> usize
 pub fn lanes_of(shape: &[usize], axis: usize) -> Lanes
     ensures { λ r. ⌜ r ≡ lanesOf (now (shape .entry)) axis ⌝ }
 {
-    let cells = shapes::cell_count(shape);
+    let cells = array::cell_count(shape);
     if cells == 0 {
         return Lanes {
             len: 0,
@@ -44,7 +44,7 @@ pub fn lanes_of(shape: &[usize], axis: usize) -> Lanes
             count: 0,
         };
     }
-    let len = shapes::len_of(shape, axis);
+    let len = array::len_of(shape, axis);
     let stride = stride_of(shape, axis);
     Lanes {
         len,

@@ -14,11 +14,11 @@ use Rattle.numbers.specs.Refusal.{refusalOf}
 use Rattle.numbers.proofs.Any.{any-none}
 use Rattle.numbers.proofs.Refusal.{judged-all}
 use Rattle.numbers.proofs.Tests.{or-false}
-use Rattle.array.specs.Conditions.{badShape, badLength}
-use Rattle.array.specs.Grid.{cellCount, lengthOf}
-use Rattle.array.proofs.Shapes.{Accepted, shape-accepted, count-accepted, length-judged}
-use Rattle.median_mask.specs.Around.{medianAnswer}
-use Rattle.median_mask.specs.ByRows.{Laid}
+use Rattle.array_spec.specs.Conditions.{badShape, badLength}
+use Rattle.array_spec.specs.Grid.{cellCount, lengthOf}
+use Rattle.array_spec.proofs.Shapes.{Accepted, shape-accepted, count-accepted, length-judged}
+use Rattle.median_spec.specs.Around.{medianAnswer}
+use Rattle.median_spec.specs.ByRows.{Laid}
 use Rattle.median.specs.Judge.{badSingle, medianJudged}
 
 -- ---- three axes

@@ -9,7 +9,7 @@ use lib.Dec.{eqb}
 use lib.ListN.{length}
 use Rattle.numbers.specs.Lists.{anyOf}
 use Rattle.numbers.specs.Refusal.{Judged}
-use Rattle.array.specs.Conditions.{badShape, badLength}
+use Rattle.array_spec.specs.Conditions.{badShape, badLength}
 
 abbrev pub badAxes : List ℕ → Bool
 badAxes ns = badShape ns || not (eqb (length ns) 3)

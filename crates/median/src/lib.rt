@@ -2,15 +2,18 @@
 ghost use mathlib.Core.Path.{_≡_};
 ghost use lib.ListN.{length};
 ghost use Rattle.numbers.specs.Refusal.{refusalOf, Answers};
-ghost use Rattle.median_mask.specs.Around.{medianAnswer};
+ghost use Rattle.median_spec.specs.Around.{medianAnswer};
 ghost use Rattle.median.specs.Judge.{badAxes, badSingle, medianJudged};
 ghost use Rattle.median.specs.Rows.{MedianRows};
+
+mod row;
+mod votes;
 
 // Condition 1: what condition 1 refuses of every grid, or not three axes. 2 2 2 passes, 2 2 does not. Refuses nothing.
 pub fn bad_axes(shape: &[usize]) -> bool
     ensures { λ r. ⌜ r ≡ badAxes (now (shape .entry)) ⌝ }
 {
-    if conditions::bad_shape(shape) {
+    if array::bad_shape(shape) {
         return true;
     }
     shape.len() != 3
@@ -39,10 +42,10 @@ pub fn judge_median(shape: &[usize], len: usize, out: usize) -> u8
     if bad_axes(shape) {
         return numbers::SHAPE;
     }
-    if conditions::bad_length(shape, len) {
+    if array::bad_length(shape, len) {
         return numbers::LENGTH;
     }
-    if conditions::bad_length(shape, out) {
+    if array::bad_length(shape, out) {
         return numbers::LENGTH;
     }
     if bad_single(shape) {
@@ -56,10 +59,10 @@ fn median_cells(mask: &[bool], shape: &[usize], out: &mut [bool])
     requires { ⌜ refusalOf (medianJudged (now shape) (length (now mask)) (length (now out))) ≡ 0 ⌝ }
     ensures { λ _. ⌜ now (out .exit) ≡ medianAnswer (now (shape .entry)) (now (mask .entry)) ⌝ }
 {
-    let planes = shapes::len_of(shape, 0);
-    let rows = shapes::len_of(shape, 1);
-    let n = shapes::len_of(shape, 2);
-    median_row::median_rows(mask, planes, rows, n, out);
+    let planes = array::len_of(shape, 0);
+    let rows = array::len_of(shape, 1);
+    let n = array::len_of(shape, 2);
+    crate::row::median_rows(mask, planes, rows, n, out);
 }
 
 // The median of each cell and its neighbours on three axes: true where more than floor((cells - 1)/2) of them are true.

@@ -13,16 +13,16 @@ use Rattle.numbers.specs.Ranges.{outside}
 use Rattle.numbers.specs.Refusal.{refusalOf}
 use Rattle.numbers.proofs.Any.{any-none, every-at, any-and}
 use Rattle.numbers.proofs.Refusal.{judged-all}
-use Rattle.array.specs.Conditions.{badShape, badLength, badLevel, gridCount}
-use Rattle.array.specs.Grid.{lengthOf}
-use Rattle.array.proofs.Shapes.{length-judged}
+use Rattle.array_spec.specs.Conditions.{badShape, badLength, badLevel, gridCount}
+use Rattle.array_spec.specs.Grid.{lengthOf}
+use Rattle.array_spec.proofs.Shapes.{length-judged}
 use Rattle.border.specs.declared.BorderMode.{BorderMode}
 use Rattle.border.specs.Modes.{borderOf, badConstantBy}
 use Rattle.lanes.proofs.Passes as passes
-use Rattle.sweeps.specs.Call.{firstIn, numberOf}
-use Rattle.sweeps.specs.Run.{answerOf}
-use Rattle.sweeps.proofs.Passed.{length-answer, answer-in}
-use Rattle.filter_judge.specs.Judge.{callOf, windowOrigin, badReach, filterJudged}
+use Rattle.min_max_spec.specs.Call.{firstIn, numberOf}
+use Rattle.min_max_spec.specs.Run.{answerOf}
+use Rattle.min_max_spec.proofs.Passed.{length-answer, answer-in}
+use Rattle.min_max_judge.specs.Judge.{callOf, windowOrigin, badReach, filterJudged}
 use Rattle.min_max.specs.Filters.{filterAnswer}
 
 module _ (cells : List ℤ) (ns : List ℕ) (size : ℕ) (m : BorderMode) (o : ℤ) (out : List ℤ) (second : ℕ) where

@@ -10,9 +10,9 @@ use lib.IntN.{ℤ, pos}
 use lib.ListN.{length, replicate}
 use Rattle.numbers.specs.Refusal.{Answers}
 use Rattle.lanes.specs.Axes.{overAxes}
-use Rattle.sweeps.specs.Call.{Call}
-use Rattle.sweeps.specs.Run.{answerOf}
-use Rattle.filter_judge.specs.Judge.{filterJudged}
+use Rattle.min_max_spec.specs.Call.{Call}
+use Rattle.min_max_spec.specs.Run.{answerOf}
+use Rattle.min_max_judge.specs.Judge.{filterJudged}
 
 abbrev pub onAxis : Call → ℕ → Call
 onAxis c a = record { shape = c .shape; size = c .size; axis = a; border = c .border; origin = c .origin; out = c .out }

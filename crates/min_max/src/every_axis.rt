@@ -4,11 +4,11 @@ ghost use lib.ListN.{length};
 ghost use lib.Signed.{leZ};
 ghost use Rattle.numbers.specs.Order.{atLeast};
 ghost use Rattle.numbers.specs.Refusal.{refusalOf};
-ghost use Rattle.filter_judge.specs.Judge.{callOf, filterJudged};
-ghost use Rattle.min_max1d.specs.Lane.{orderOf};
+ghost use Rattle.min_max_judge.specs.Judge.{callOf, filterJudged};
+ghost use Rattle.min_max.specs.Lane.{orderOf};
 ghost use Rattle.min_max.specs.Filters.{filterAnswer, FilterAnswers};
+use crate::extreme::Extreme;
 use border::BorderMode;
-use min_max1d::Extreme;
 
 // Fills out with the answer of an accepted grid call; second holds what a pass between leaves.
 fn passes(
@@ -26,17 +26,17 @@ fn passes(
 {
     let axes = shape.len();
     if axes == 1 {
-        min_max1d::pass(extreme, data, shape, size, 0, mode, origin, out);
+        crate::one_axis::pass(extreme, data, shape, size, 0, mode, origin, out);
         return;
     }
     if axes == 2 {
-        min_max1d::pass(extreme, data, shape, size, 0, mode, origin, second);
-        min_max1d::pass(extreme, second, shape, size, 1, mode, origin, out);
+        crate::one_axis::pass(extreme, data, shape, size, 0, mode, origin, second);
+        crate::one_axis::pass(extreme, second, shape, size, 1, mode, origin, out);
         return;
     }
-    min_max1d::pass(extreme, data, shape, size, 0, mode, origin, out);
-    min_max1d::pass(extreme, out, shape, size, 1, mode, origin, second);
-    min_max1d::pass(extreme, second, shape, size, 2, mode, origin, out);
+    crate::one_axis::pass(extreme, data, shape, size, 0, mode, origin, out);
+    crate::one_axis::pass(extreme, out, shape, size, 1, mode, origin, second);
+    crate::one_axis::pass(extreme, second, shape, size, 2, mode, origin, out);
 }
 
 // Judges a grid call, and fills out where it is accepted; second then holds zeros.
@@ -52,12 +52,12 @@ fn filter(
 ) -> u8
     ensures { λ r. ⌜ FilterAnswers (orderOf extreme) (now («data» .entry)) (callOf (now (shape .entry)) size 0 mode origin (now (out .entry))) (now (second .entry)) r (now (second .exit)) (now (out .exit)) ⌝ }
 {
-    let refusal = filter_judge::judge_filter(data, shape, size, mode, origin, out, second.len());
+    let refusal = min_max_judge::judge_filter(data, shape, size, mode, origin, out, second.len());
     if refusal != 0 {
         return refusal;
     }
     passes(extreme, data, shape, size, mode, origin, second, out);
-    assign::fill(second, 0);
+    array::fill(second, 0);
     numbers::ACCEPTED
 }
 

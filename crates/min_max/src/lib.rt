@@ -2,11 +2,15 @@
 ghost use Rattle.min_max.specs.Rows.{MinMaxRows};
 
 mod every_axis;
+mod extreme;
+mod one_axis;
 
 pub use every_axis::maximum_filter;
 pub use every_axis::minimum_filter;
+pub use one_axis::maximum_filter1d;
+pub use one_axis::minimum_filter1d;
 
-// Worked rows of this crate's definitions: T5, and a third axis. Refuses nothing.
+// Worked rows of this crate's definitions: along one axis, along every axis. Refuses nothing.
 pub fn rows()
     ensures { λ _. ⌜ MinMaxRows ⌝ }
 {}

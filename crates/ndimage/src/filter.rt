@@ -2,28 +2,34 @@
 use crate::list;
 use crate::mode;
 use border::BorderMode;
-use reading::place::AXIS;
-use reading::place::BORDER;
-use reading::place::CONSTANT_AT;
-use reading::place::ORIGIN_AT;
-use reading::place::Place;
-use reading::place::REQUEST;
-use reading::place::SECOND;
-use reading::place::SIZE;
-use reading::words;
+use ndimage_read::place::AXIS;
+use ndimage_read::place::BORDER;
+use ndimage_read::place::CONSTANT_AT;
+use ndimage_read::place::ORIGIN_AT;
+use ndimage_read::place::Place;
+use ndimage_read::place::REQUEST;
+use ndimage_read::place::SECOND;
+use ndimage_read::place::SIZE;
+use ndimage_read::words;
 
 fn border_of(place: &Place, levels: &[i64]) -> BorderMode {
-    mode::border(place[BORDER], list::level(levels, CONSTANT_AT))
+    crate::mode::border(place[BORDER], crate::list::level(levels, CONSTANT_AT))
 }
 
 fn origin_of(levels: &[i64]) -> isize {
-    list::level(levels, ORIGIN_AT) as isize
+    crate::list::level(levels, ORIGIN_AT) as isize
 }
 
 // Grid kernels.
-pub fn kernel(place: &Place, levels: &[i64], data: &[i64], shape: &[usize], out: &mut [i64]) -> u8 {
-    let weights = list::weights(place, levels);
-    let sides = list::sides(place);
+pub(crate) fn kernel(
+    place: &Place,
+    levels: &[i64],
+    data: &[i64],
+    shape: &[usize],
+    out: &mut [i64],
+) -> u8 {
+    let weights = crate::list::weights(place, levels);
+    let sides = crate::list::sides(place);
     let mode = border_of(place, levels);
     let origin = origin_of(levels);
     if place[REQUEST] == words::CORRELATE {
@@ -33,8 +39,14 @@ pub fn kernel(place: &Place, levels: &[i64], data: &[i64], shape: &[usize], out:
 }
 
 // Weights along an axis.
-pub fn weigh(place: &Place, levels: &[i64], data: &[i64], shape: &[usize], out: &mut [i64]) -> u8 {
-    let weights = list::weights(place, levels);
+pub(crate) fn weigh(
+    place: &Place,
+    levels: &[i64],
+    data: &[i64],
+    shape: &[usize],
+    out: &mut [i64],
+) -> u8 {
+    let weights = crate::list::weights(place, levels);
     let mode = border_of(place, levels);
     let origin = origin_of(levels);
     if place[REQUEST] == words::CORRELATE1D {
@@ -55,9 +67,9 @@ fn extreme1d(
     let size = place[SIZE];
     let axis = place[AXIS];
     if place[REQUEST] == words::MINIMUM1D {
-        return min_max1d::minimum_filter1d(data, shape, size, axis, mode, origin, out);
+        return min_max::minimum_filter1d(data, shape, size, axis, mode, origin, out);
     }
-    min_max1d::maximum_filter1d(data, shape, size, axis, mode, origin, out)
+    min_max::maximum_filter1d(data, shape, size, axis, mode, origin, out)
 }
 
 // The extremes of windows along every axis.
@@ -113,7 +125,7 @@ fn two_grids(
 }
 
 // Filters without weights; the second grid has what was asked, or one cell more than any call takes.
-pub fn windowed(
+pub(crate) fn windowed(
     place: &Place,
     levels: &[i64],
     data: &[i64],
@@ -121,7 +133,7 @@ pub fn windowed(
     out: &mut [i64],
 ) -> u8 {
     let mut second = [0i64; 8193];
-    let n = list::lent(place[SECOND], 8193);
+    let n = crate::list::lent(place[SECOND], 8193);
     let mode = border_of(place, levels);
     let origin = origin_of(levels);
     if place[REQUEST] <= words::MAXIMUM1D {

@@ -1,42 +1,42 @@
 // `symmetry` and `kernel3d`.
 use crate::list;
 use kernel3d::Kernel3d;
-use reading::place::BORDER;
-use reading::place::CELLS;
-use reading::place::Floats;
-use reading::place::KIND;
-use reading::place::Levels;
-use reading::place::Place;
-use symmetry::SymmetryState;
+use ndimage_read::place::BORDER;
+use ndimage_read::place::CELLS;
+use ndimage_read::place::Floats;
+use ndimage_read::place::KIND;
+use ndimage_read::place::Levels;
+use ndimage_read::place::Place;
+use symmetry_spec::SymmetryState;
 
 const MOST: usize = 8192;
 
 // The name of a class.
 fn class(state: SymmetryState) {
     match state {
-        SymmetryState::NonSymmetric => answering::say(b"Non"),
+        SymmetryState::NonSymmetric => ndimage_write::say(b"Non"),
         SymmetryState::Symmetric => {}
-        SymmetryState::AntiSymmetric => answering::say(b"Anti"),
+        SymmetryState::AntiSymmetric => ndimage_write::say(b"Anti"),
     }
-    answering::say(b"Symmetric\n");
+    ndimage_write::say(b"Symmetric\n");
 }
 
 // The class of weights; more than can be held are a fault.
-pub fn symmetry(place: &Place, levels: &Levels, floats: &Floats) -> usize {
+pub(crate) fn symmetry(place: &Place, levels: &Levels, floats: &Floats) -> usize {
     let n = place[CELLS];
     if n > MOST {
-        return answering::WEIGHTS;
+        return ndimage_write::WEIGHTS;
     }
     if place[KIND] == 1 {
-        class(symmetry_state::symmetry_state_f64(list::floats(floats, 0, n)));
+        class(symmetry::symmetry_state_f64(crate::list::floats(floats, 0, n)));
         return 0;
     }
-    class(symmetry_state::symmetry_state_i64(list::levels(levels, 0, n)));
+    class(symmetry::symmetry_state_i64(crate::list::levels(levels, 0, n)));
     0
 }
 
 // 1 for true, 0 for false.
-pub fn digit(cell: bool) -> i64 {
+pub(crate) fn digit(cell: bool) -> i64 {
     if cell {
         return 1;
     }
@@ -66,8 +66,8 @@ fn named(word: usize) -> Kernel3d {
 }
 
 // A kernel's cells.
-pub fn show(place: &Place) {
+pub(crate) fn show(place: &Place) {
     let mut levels = [0i64; 27];
     spread(named(place[BORDER]), &mut levels);
-    answering::levels(&levels);
+    ndimage_write::levels(&levels);
 }

@@ -1,16 +1,16 @@
 // Parts of the arrays that a request was read into. Of a list that is too long one cell more than any call takes is lent, which has the same refusal.
-use reading::place::AXES;
-use reading::place::CELLS;
-use reading::place::COUNT;
-use reading::place::KERNEL_AT;
-use reading::place::LENGTHS_AT;
-use reading::place::Place;
-use reading::place::SIDES;
-use reading::place::WEIGHTS_AT;
+use ndimage_read::place::AXES;
+use ndimage_read::place::CELLS;
+use ndimage_read::place::COUNT;
+use ndimage_read::place::KERNEL_AT;
+use ndimage_read::place::LENGTHS_AT;
+use ndimage_read::place::Place;
+use ndimage_read::place::SIDES;
+use ndimage_read::place::WEIGHTS_AT;
 ghost use Prim.Native.Nat.{_≤_};
 
 // n, or the most that can be lent.
-pub fn lent(n: usize, most: usize) -> usize
+pub(crate) fn lent(n: usize, most: usize) -> usize
     ensures { λ r. ⌜ r ≤ most ⌝ }
 {
     if n < most {
@@ -26,38 +26,38 @@ fn counts(cells: &[usize], from: usize, n: usize) -> &[usize] {
     &cells[start..start + count]
 }
 
-pub fn levels(cells: &[i64], from: usize, n: usize) -> &[i64] {
+pub(crate) fn levels(cells: &[i64], from: usize, n: usize) -> &[i64] {
     let start = lent(from, cells.len());
     let count = lent(n, cells.len() - start);
     &cells[start..start + count]
 }
 
-pub fn floats(cells: &[f64], from: usize, n: usize) -> &[f64] {
+pub(crate) fn floats(cells: &[f64], from: usize, n: usize) -> &[f64] {
     let start = lent(from, cells.len());
     let count = lent(n, cells.len() - start);
     &cells[start..start + count]
 }
 
 // The level at a place.
-pub fn level(cells: &[i64], at: usize) -> i64 {
+pub(crate) fn level(cells: &[i64], at: usize) -> i64 {
     if at >= cells.len() {
         return 0;
     }
     cells[at]
 }
 
-pub fn shape(place: &Place) -> &[usize] {
+pub(crate) fn shape(place: &Place) -> &[usize] {
     counts(place, LENGTHS_AT, lent(place[AXES], 4))
 }
 
-pub fn sides(place: &Place) -> &[usize] {
+pub(crate) fn sides(place: &Place) -> &[usize] {
     counts(place, KERNEL_AT, lent(place[SIDES], 4))
 }
 
-pub fn data<'a>(place: &Place, cells: &'a [i64]) -> &'a [i64] {
+pub(crate) fn data<'a>(place: &Place, cells: &'a [i64]) -> &'a [i64] {
     levels(cells, 0, lent(place[CELLS], 8193))
 }
 
-pub fn weights<'a>(place: &Place, cells: &'a [i64]) -> &'a [i64] {
+pub(crate) fn weights<'a>(place: &Place, cells: &'a [i64]) -> &'a [i64] {
     levels(cells, WEIGHTS_AT, lent(place[COUNT], 344))
 }

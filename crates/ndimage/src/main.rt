@@ -1,4 +1,14 @@
 // Answers requests on standard input, a line each, with a line each on standard output.
+use ndimage_read::cursor;
+use ndimage_read::place::FAULT;
+use ndimage_read::place::Floats;
+use ndimage_read::place::KIND;
+use ndimage_read::place::LEN;
+use ndimage_read::place::Levels;
+use ndimage_read::place::Place;
+use ndimage_read::place::REQUEST;
+use ndimage_read::place::Room;
+
 mod filter;
 mod filter_f64;
 mod kernel;
@@ -7,16 +17,6 @@ mod mask;
 mod mode;
 mod padding;
 mod request;
-
-use reading::cursor;
-use reading::place::FAULT;
-use reading::place::Floats;
-use reading::place::KIND;
-use reading::place::LEN;
-use reading::place::Levels;
-use reading::place::Place;
-use reading::place::REQUEST;
-use reading::place::Room;
 
 type Out = [i64; 32769];
 
@@ -36,7 +36,7 @@ fn report(room: &[u8], place: &Place, fault: usize) {
     if fault == 0 {
         return;
     }
-    answering::error(room, place[LEN], fault);
+    ndimage_write::error(room, place[LEN], fault);
 }
 
 // A line: what it asks for, or what is wrong with it.
@@ -47,7 +47,7 @@ fn serve(
     floats: &mut Floats,
     out: &mut Out,
 ) {
-    reading::read(room, place, levels, floats);
+    ndimage_read::read(room, place, levels, floats);
     let fault = answer(place, levels, floats, out);
     report(room, place, fault);
 }

@@ -51,14 +51,14 @@ pub const ODD: u8 = 255;
 // The call on marks, with an output of as many cells as out.
 fn vote(mask: &Mask, count: usize, shape: &[usize], out: &mut [i64]) -> u8 {
     let mut voted = [false; 8193];
-    let n = list::lent(out.len(), 8193);
+    let n = crate::list::lent(out.len(), 8193);
     let refusal = median::median_filter(first(mask, count), shape, &mut voted[0..n]);
     unmark(&voted, out);
     refusal
 }
 
 // The call, and its number.
-pub fn median(data: &[i64], shape: &[usize], out: &mut [i64]) -> u8 {
+pub(crate) fn median(data: &[i64], shape: &[usize], out: &mut [i64]) -> u8 {
     let mut mask = [false; 8193];
     if !mark(data, &mut mask) {
         return ODD;

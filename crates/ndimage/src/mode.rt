@@ -3,7 +3,7 @@ use border::BorderMode;
 use border::BorderModeF64;
 use border::PadMode;
 
-pub fn border(word: usize, level: i64) -> BorderMode {
+pub(crate) fn border(word: usize, level: i64) -> BorderMode {
     match word {
         1 => BorderMode::Constant(level),
         2 => BorderMode::Mirror,
@@ -13,7 +13,7 @@ pub fn border(word: usize, level: i64) -> BorderMode {
     }
 }
 
-pub fn border_f64(word: usize, level: f64) -> BorderModeF64 {
+pub(crate) fn border_f64(word: usize, level: f64) -> BorderModeF64 {
     match word {
         1 => BorderModeF64::Constant(level),
         2 => BorderModeF64::Mirror,
@@ -23,7 +23,7 @@ pub fn border_f64(word: usize, level: f64) -> BorderModeF64 {
     }
 }
 
-pub fn padding(word: usize, level: i64) -> PadMode {
+pub(crate) fn padding(word: usize, level: i64) -> PadMode {
     match word {
         1 => PadMode::Constant(level),
         2 => PadMode::Edge,

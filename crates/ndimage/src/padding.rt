@@ -2,15 +2,15 @@
 use crate::list;
 use crate::mode;
 use border::PadMode;
-use pad_levels::Pair;
-use reading::place::BORDER;
-use reading::place::CONSTANT_AT;
-use reading::place::HELD_AT;
-use reading::place::PADS_AT;
-use reading::place::PAIRS;
-use reading::place::Place;
-use reading::place::REQUEST;
-use reading::words;
+use ndimage_read::place::BORDER;
+use ndimage_read::place::CONSTANT_AT;
+use ndimage_read::place::HELD_AT;
+use ndimage_read::place::PADS_AT;
+use ndimage_read::place::PAIRS;
+use ndimage_read::place::Place;
+use ndimage_read::place::REQUEST;
+use ndimage_read::words;
+use pad_spec::Pair;
 
 // A pair of pads, 0 and 0 where it was not given.
 fn pair(given: bool, left: usize, right: usize) -> Pair {
@@ -30,7 +30,7 @@ fn pads_of(place: &Place, n: usize) -> [Pair; 3] {
 }
 
 fn mode_of(place: &Place, levels: &[i64]) -> PadMode {
-    mode::padding(place[BORDER], list::level(levels, CONSTANT_AT))
+    crate::mode::padding(place[BORDER], crate::list::level(levels, CONSTANT_AT))
 }
 
 // What the output holds before.
@@ -46,7 +46,7 @@ fn hold(held: &[i64], out: &mut [i64]) {
 }
 
 // The call, and its number.
-pub fn padding(
+pub(crate) fn padding(
     place: &Place,
     levels: &[i64],
     data: &[i64],
@@ -59,6 +59,6 @@ pub fn padding(
     if place[REQUEST] == words::PAD {
         return pad::pad(data, shape, pads, count, mode, out);
     }
-    hold(list::levels(levels, HELD_AT, out.len()), out);
+    hold(crate::list::levels(levels, HELD_AT, out.len()), out);
     pad::pad_to(data, shape, pads, count, mode, out)
 }

@@ -5,44 +5,44 @@ use crate::kernel;
 use crate::list;
 use crate::mask;
 use crate::padding;
-use reading::place::Floats;
-use reading::place::Levels;
-use reading::place::ORIGIN_AT;
-use reading::place::OUT;
-use reading::place::Place;
-use reading::place::REQUEST;
-use reading::words;
+use ndimage_read::place::Floats;
+use ndimage_read::place::Levels;
+use ndimage_read::place::ORIGIN_AT;
+use ndimage_read::place::OUT;
+use ndimage_read::place::Place;
+use ndimage_read::place::REQUEST;
+use ndimage_read::words;
 
 // The call, and its number.
 fn apply(place: &Place, levels: &[i64], out: &mut [i64]) -> u8 {
-    let shape = list::shape(place);
-    let data = list::data(place, levels);
+    let shape = crate::list::shape(place);
+    let data = crate::list::data(place, levels);
     let request = place[REQUEST];
     if request <= words::CONVOLVE {
-        return filter::kernel(place, levels, data, shape, out);
+        return crate::filter::kernel(place, levels, data, shape, out);
     }
     if request <= words::CONVOLVE1D {
-        return filter::weigh(place, levels, data, shape, out);
+        return crate::filter::weigh(place, levels, data, shape, out);
     }
     if request < words::PAD {
-        return filter::windowed(place, levels, data, shape, out);
+        return crate::filter::windowed(place, levels, data, shape, out);
     }
     if request == words::MEDIAN {
-        return mask::median(data, shape, out);
+        return crate::mask::median(data, shape, out);
     }
-    padding::padding(place, levels, data, shape, out)
+    crate::padding::padding(place, levels, data, shape, out)
 }
 
 // A number or the levels; a fault where a mask has other levels than 0 and 1.
 fn answered(refusal: u8, out: &[i64]) -> usize {
-    if refusal == mask::ODD {
-        return answering::MASK;
+    if refusal == crate::mask::ODD {
+        return ndimage_write::MASK;
     }
     if refusal != 0 {
-        answering::refused(refusal);
+        ndimage_write::refused(refusal);
         return 0;
     }
-    answering::levels(out);
+    ndimage_write::levels(out);
     0
 }
 
@@ -64,13 +64,16 @@ fn most(request: usize) -> usize {
 }
 
 // A request with an output of whole levels; what is wrong with it, 0 for nothing.
-pub fn whole(place: &Place, levels: &[i64], out: &mut [i64]) -> usize {
-    let n = list::lent(list::lent(place[OUT], most(place[REQUEST])), out.len());
+pub(crate) fn whole(place: &Place, levels: &[i64], out: &mut [i64]) -> usize {
+    let n = crate::list::lent(
+        crate::list::lent(place[OUT], most(place[REQUEST])),
+        out.len(),
+    );
     answer(place, levels, &mut out[0..n])
 }
 
 // Whether a request has an output of whole levels.
-pub fn is_whole(request: usize, kind: usize) -> bool {
+pub(crate) fn is_whole(request: usize, kind: usize) -> bool {
     if kind == 1 {
         return false;
     }
@@ -81,21 +84,21 @@ pub fn is_whole(request: usize, kind: usize) -> bool {
 }
 
 // Any other request, and an empty line; what is wrong with it, 0 for nothing.
-pub fn other(place: &Place, levels: &Levels, floats: &Floats) -> usize {
+pub(crate) fn other(place: &Place, levels: &Levels, floats: &Floats) -> usize {
     let request = place[REQUEST];
     if request == words::SYMMETRY {
-        return kernel::symmetry(place, levels, floats);
+        return crate::kernel::symmetry(place, levels, floats);
     }
     if request == words::KERNEL3D {
-        kernel::show(place);
+        crate::kernel::show(place);
         return 0;
     }
     if request == words::HELP {
-        answering::show_help();
+        ndimage_write::show_help();
         return 0;
     }
     if request != 0 {
-        filter_f64::filter(place, floats, levels[ORIGIN_AT]);
+        crate::filter_f64::filter(place, floats, levels[ORIGIN_AT]);
     }
     0
 }

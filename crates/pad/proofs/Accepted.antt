@@ -15,17 +15,17 @@ use Rattle.numbers.proofs.Any.{any-none, every-at}
 use Rattle.numbers.proofs.Refusal.{judged-all}
 use Rattle.numbers.proofs.Tabulate.{length-tabulate, getD-tabulate}
 use Rattle.numbers.proofs.Tests.{or-false}
-use Rattle.array.specs.Conditions.{badShape, badLength, badLevel}
-use Rattle.array.specs.Grid.{cellCount, lengthOf}
-use Rattle.array.proofs.Shapes.{count-accepted, length-judged}
+use Rattle.array_spec.specs.Conditions.{badShape, badLength, badLevel}
+use Rattle.array_spec.specs.Grid.{cellCount, lengthOf}
+use Rattle.array_spec.proofs.Shapes.{count-accepted, length-judged}
 use Rattle.border.specs.declared.PadMode.{PadMode}
 use Rattle.pad_line.specs.Line.{badPad}
-use Rattle.pad_axis.specs.Fill.{rimOf}
-use Rattle.pad_levels.specs.Conditions.{badConstant, badCount, overPad, paddedCount, badPads, badReachOn, badReach, padJudged}
-use Rattle.pad_levels.specs.Pads.{pairOf, leftsOf, rightsOf, paddedShape}
-use Rattle.pad_levels.specs.declared.Pair.{Pair}
-use Rattle.pad_levels.proofs.Pairs.{axis-at, padded-length, padded-short}
-use Rattle.pad_frame.specs.Frame.{Framed, Filling}
+use Rattle.pad_spec.specs.Fill.{rimOf}
+use Rattle.pad_spec.specs.Conditions.{badConstant, badCount, overPad, paddedCount, badPads, badReachOn, badReach, padJudged}
+use Rattle.pad_spec.specs.Pads.{pairOf, leftsOf, rightsOf, paddedShape}
+use Rattle.pad_spec.specs.declared.pairs.Pair.{Pair}
+use Rattle.pad_spec.proofs.PairOf.{axis-at, padded-length, padded-short}
+use Rattle.pad_spec.specs.Frame.{Framed, Filling}
 
 -- what each condition of an accepted call says
 pub record Passed (mode : PadMode) (ns : List ℕ) (pads : List Pair) (count : ℕ) (cells : List ℤ) (out : ℕ) : Type 0 where

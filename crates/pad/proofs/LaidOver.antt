@@ -9,14 +9,14 @@ use lib.IntN.{ℤ, pos}
 use lib.ListN.{length, getD}
 use Rattle.numbers.specs.Lists.{anyOf}
 use Rattle.numbers.proofs.Tabulate.{length-tabulate, getD-tabulate, tabulate-unique}
-use Rattle.array.specs.Conditions.{badLevel}
-use Rattle.array.specs.Grid.{cellCount, coordinate}
+use Rattle.array_spec.specs.Conditions.{badLevel}
+use Rattle.array_spec.specs.Grid.{cellCount, coordinate}
 use Rattle.border.specs.declared.PadMode.{PadMode}
-use Rattle.pad_levels.specs.Levels.{levelTo, keepsRim}
-use Rattle.pad_levels.specs.Pads.{inMiddle, allFrom, middleFrom}
-use Rattle.pad_levels.proofs.Levels.{level-rest}
-use Rattle.pad_frame.specs.Frame.{middleSet}
-use Rattle.pad_frame.specs.Filled.{Filled}
+use Rattle.pad_spec.specs.Levels.{levelTo, keepsRim}
+use Rattle.pad_spec.specs.Pads.{inMiddle, allFrom, middleFrom}
+use Rattle.pad_spec.proofs.Levels.{level-rest}
+use Rattle.pad_spec.specs.Frame.{middleSet}
+use Rattle.pad_spec.specs.Filled.{Filled}
 use Rattle.pad.specs.Laid.{laidOver}
 
 module _ (mode : PadMode) (ns lefts ps : List ℕ) (cells : List ℤ) where

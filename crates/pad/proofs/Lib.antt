@@ -2,3 +2,9 @@
 pub mod Accepted
 pub mod LaidOver
 pub mod Started
+pub mod Targets
+pub mod Row
+pub mod RowPlace
+pub mod RowSteps
+pub mod Copied
+pub mod Gaps

@@ -11,16 +11,16 @@ use lib.Dec.{leb, ltb}
 use lib.IntN.{ℤ, pos}
 use lib.ListN.{length, getD}
 use Rattle.numbers.proofs.Tabulate.{length-tabulate, tabulate-agree}
-use Rattle.array.specs.Grid.{cellCount, lengthOf, coordinate, moved}
+use Rattle.array_spec.specs.Grid.{cellCount, lengthOf, coordinate, moved}
 use Rattle.border.specs.Border.{constant}
 use Rattle.border.specs.declared.PadMode.{PadMode}
 use Rattle.border.specs.declared.PadMode.the-variants.{Constant, Edge, Maximum, Mean, Median, Minimum, Reflect, Symmetric, Wrap}
 use Rattle.pad_line.specs.Line.{paddedAt}
 use Rattle.pad_line.proofs.Padded.{constant-before, constant-after}
-use Rattle.pad_levels.specs.Levels.{keepsRim, levelTo, ownCells, paddedLevel, paddedGrid, paddedOver}
-use Rattle.pad_levels.specs.Pads.{inMiddle, allFrom, middleFrom, paddedShape}
-use Rattle.pad_levels.proofs.Levels.{level-middle}
-use Rattle.pad_constant.specs.Around.{Around}
+use Rattle.pad_spec.specs.Levels.{keepsRim, levelTo, ownCells, paddedLevel, paddedGrid, paddedOver}
+use Rattle.pad_spec.specs.Pads.{inMiddle, allFrom, middleFrom, paddedShape}
+use Rattle.pad_spec.proofs.Levels.{level-middle}
+use Rattle.pad.specs.Around.{Around}
 use Rattle.pad.specs.Laid.{laidOver, Started}
 
 -- a run's last member

@@ -9,12 +9,12 @@ use mathlib.Core.List.{List}
 use lib.IntN.{ℤ, pos}
 use lib.ListN.{length, getD}
 use Rattle.numbers.specs.Lists.{tabulate}
-use Rattle.array.specs.Grid.{cellCount, coordinate}
+use Rattle.array_spec.specs.Grid.{cellCount, coordinate}
 use Rattle.border.specs.declared.PadMode.{PadMode}
 use Rattle.border.specs.declared.PadMode.the-variants.{Constant, Edge, Maximum, Mean, Median, Minimum, Reflect, Symmetric, Wrap}
-use Rattle.pad_levels.specs.Levels.{levelTo, keepsRim}
-use Rattle.pad_levels.specs.Pads.{middleFrom}
-use Rattle.pad_constant.specs.Around.{Around}
+use Rattle.pad_spec.specs.Levels.{levelTo, keepsRim}
+use Rattle.pad_spec.specs.Pads.{middleFrom}
+use Rattle.pad.specs.Around.{Around}
 
 unfoldable pub laidOver : PadMode → List ℕ → List ℕ → List ℕ → List ℤ → List ℤ → List ℤ
 laidOver mode ns lefts ps cells held =

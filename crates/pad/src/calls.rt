@@ -4,15 +4,15 @@ ghost use mathlib.Core.Bool.{false, cond};
 ghost use lib.ListN.{length};
 ghost use Rattle.numbers.specs.Lists.{anyOf};
 ghost use Rattle.numbers.specs.Refusal.{refusalOf, Answers};
-ghost use Rattle.array.specs.Conditions.{badLevel};
-ghost use Rattle.array.specs.Grid.{cellCount};
-ghost use Rattle.pad_levels.specs.Conditions.{padJudged};
-ghost use Rattle.pad_levels.specs.Levels.{keepsRim, paddedGrid, paddedOver};
-ghost use Rattle.pad_levels.specs.Pads.{leftsOf, rightsOf};
-ghost use Rattle.pad_frame.specs.Frame.{Framed, Filling};
+ghost use Rattle.array_spec.specs.Conditions.{badLevel};
+ghost use Rattle.array_spec.specs.Grid.{cellCount};
+ghost use Rattle.pad_spec.specs.Conditions.{padJudged};
+ghost use Rattle.pad_spec.specs.Levels.{keepsRim, paddedGrid, paddedOver};
+ghost use Rattle.pad_spec.specs.Pads.{leftsOf, rightsOf};
+ghost use Rattle.pad_spec.specs.Frame.{Framed, Filling};
 ghost use Rattle.pad.specs.Laid.{laidOver, Started};
 use border::PadMode;
-use pad_levels::Pair;
+use pad_spec::Pair;
 
 // Whether the rim keeps what was lent: under Constant.
 fn keeps_rim(mode: PadMode) -> bool
@@ -49,7 +49,7 @@ fn start(
     }
     match mode {
         PadMode::Constant(c) => {
-            pad_constant::fill_around(c, cells, shape, lefts, padded, out);
+            crate::around::fill_around(c, cells, shape, lefts, padded, out);
         }
         PadMode::Edge => {}
         PadMode::Maximum => {}
@@ -74,11 +74,11 @@ fn lay_over(
     requires { ⌜ Filling mode (now shape) (now lefts) (now padded) × (anyOf badLevel (now «data») ≡ false) × (length (now «data») ≡ cellCount (now shape)) × (length (now out) ≡ cellCount (now padded)) ⌝ }
     ensures { λ _. ⌜ now (out .exit) ≡ laidOver mode (now (shape .entry)) (now (lefts .entry)) (now (padded .entry)) (now («data» .entry)) (now (out .entry)) ⌝ }
 {
-    pad_middle::copy_middle(data, shape, lefts, padded, out);
+    crate::middle::copy_middle(data, shape, lefts, padded, out);
     if keeps_rim(mode) {
         return;
     }
-    pad_grid::fill_axes(mode, shape, lefts, padded, out);
+    crate::rims::fill_axes(mode, shape, lefts, padded, out);
 }
 
 // The same from the pairs of pads, over a start where the whole padded grid is asked for; lefts and padded are buffers, as long as the shape.
@@ -96,7 +96,7 @@ fn lay_in(
     requires { ⌜ (refusalOf (padJudged mode (now shape) pads count (now «data») (length (now out))) ≡ 0) × (length (now lefts) ≡ length (now shape)) × (length (now padded) ≡ length (now shape)) ⌝ }
     ensures { λ _. ⌜ now (out .exit) ≡ cond whole (paddedGrid mode (now (shape .entry)) (leftsOf (now (shape .entry)) pads count) (rightsOf (now (shape .entry)) pads count) (now («data» .entry))) (paddedOver mode (now (shape .entry)) (leftsOf (now (shape .entry)) pads count) (rightsOf (now (shape .entry)) pads count) (now («data» .entry)) (now (out .entry))) ⌝ }
 {
-    pad_frame::set_frame(shape, pads, count, lefts, padded);
+    pad_spec::set_frame(shape, pads, count, lefts, padded);
     start(whole, mode, data.len(), shape, lefts, padded, out);
     lay_over(data, shape, lefts, padded, mode, out);
 }

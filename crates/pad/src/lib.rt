@@ -1,7 +1,10 @@
 // Padding of grids: `pad` fills the rim, `pad_to` under Constant keeps what was lent there. The workers on padded grids stand in `pad_frame`, `pad_middle` and `pad_grid`.
 ghost use Rattle.pad.specs.Rows.{PaddedRows};
 
+mod around;
 mod calls;
+mod middle;
+mod rims;
 
 pub use calls::pad;
 pub use calls::pad_to;

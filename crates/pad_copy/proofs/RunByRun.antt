@@ -18,9 +18,9 @@ use Rattle.numbers.proofs.Tests.{and-true, cond-no}
 use Rattle.lanes.specs.Lanes.{laneOf, laneBase}
 use Rattle.lanes.proofs.Cells.{lane-of-cell, place-of-cell, cell-of-lane, base-of, step-le}
 use Rattle.lanes.proofs.Part.{onRow, row-yes, row-in, row-no}
-use Rattle.pad_frame.specs.Frame.{rowSet}
-use Rattle.pad_frame.specs.Runs.{coordinateSet}
-use Rattle.pad_frame.proofs.OneRow.{cellOn, RowStored, row-none, row-more, row-all}
+use Rattle.pad_spec.specs.Frame.{rowSet}
+use Rattle.pad_spec.specs.Runs.{coordinateSet}
+use Rattle.pad_spec.proofs.OneRow.{cellOn, RowStored, row-none, row-more, row-all}
 
 -- ---- one run, cell by cell, within one grid: a cell that is read was not stored
 pub run-more : {from at count j : ℕ} {out₀ out : List ℤ} (v : ℤ) → j < count → from + count ≤ length out₀ → at + count ≤ length out₀ → (from + count ≤ at) ⊎ (at + count ≤ from)

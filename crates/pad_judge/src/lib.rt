@@ -1,16 +1,18 @@
 // Conditions 9 and 11 on the pads of a grid, and the judge of `pad` and `pad_to`: what both refuse, before anything is stored. Condition 10 is `padded_count`'s.
 ghost use mathlib.Core.Path.{_≡_};
 ghost use Rattle.numbers.specs.Refusal.{refusalOf};
-ghost use Rattle.pad_levels.specs.Conditions.{badConstant, badReachOn, badReach, padJudged};
-use pad_levels::Pair;
-use pad_levels::pair_of;
+ghost use Rattle.pad_spec.specs.Conditions.{badConstant, badReachOn, badReach, padJudged};
+use pad_spec::Pair;
+use pad_spec::pair_of;
+
+mod count;
 
 // Condition 9: whether mode carries a level that condition 3 would refuse.
 fn bad_constant(mode: border::PadMode) -> bool
     ensures { λ r. ⌜ r ≡ badConstant mode ⌝ }
 {
     match mode {
-        border::PadMode::Constant(t) => conditions::bad_level(t),
+        border::PadMode::Constant(t) => array::bad_level(t),
         border::PadMode::Edge => false,
         border::PadMode::Maximum => false,
         border::PadMode::Mean => false,
@@ -32,12 +34,12 @@ fn bad_reach_on(
 ) -> bool
     ensures { λ r. ⌜ r ≡ badReachOn mode (now (shape .entry)) pads count axis ⌝ }
 {
-    let n = shapes::len_of(shape, axis);
+    let n = array::len_of(shape, axis);
     let p = pair_of(pads, count, axis);
-    if pad_axis::bad_pad(mode, n, p.left) {
+    if pad_spec::bad_pad(mode, n, p.left) {
         return true;
     }
-    pad_axis::bad_pad(mode, n, p.right)
+    pad_spec::bad_pad(mode, n, p.right)
 }
 
 // Condition 11: on some axis a pad that the mode cannot fill.
@@ -74,14 +76,14 @@ pub fn judge(
 ) -> u8
     ensures { λ r. ⌜ r ≡ refusalOf (padJudged mode (now (shape .entry)) pads count (now («data» .entry)) out) ⌝ }
 {
-    let refusal = conditions::judge_grid(data, shape, data.len(), data.len());
+    let refusal = array::judge_grid(data, shape, data.len(), data.len());
     if refusal != 0 {
         return refusal;
     }
     if bad_constant(mode) {
         return numbers::CONSTANT;
     }
-    if padded_count::bad_pads(shape, pads, count, out) {
+    if crate::count::bad_pads(shape, pads, count, out) {
         return numbers::PADS;
     }
     if bad_reach(mode, shape, pads, count) {

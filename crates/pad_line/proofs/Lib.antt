@@ -6,3 +6,6 @@ pub mod RimSteps
 pub mod From
 pub mod Serves
 pub mod Sizes
+pub mod StepByStep
+pub mod LineRows
+pub mod StepRows

@@ -14,8 +14,8 @@ use Rattle.lanes.proofs.Part.{onRow, row-in, row-yes}
 use Rattle.border.specs.Border.{along, cellBefore, cellAfter}
 use Rattle.border.specs.declared.Along.{Along}
 use Rattle.border.specs.declared.Along.the-variants.{Nearest, Mirror, Reflect, Wrap}
-use Rattle.steps.specs.Steps.{stepUp, stepDown, Stepped, stepSet}
-use Rattle.steps.proofs.StepByStep.{steppedCell, set-stored}
+use Rattle.pad_line.specs.Steps.{stepUp, stepDown, Stepped, stepSet}
+use Rattle.pad_line.proofs.StepByStep.{steppedCell, set-stored}
 use Rattle.pad_line.specs.Line.{badAlong, padMiddle}
 use Rattle.pad_line.specs.Rims.{Rimmed}
 use Rattle.pad_line.proofs.Reach.{cell-before-in, cell-after-in}

@@ -9,7 +9,7 @@ use lib.ListN.{length, getD}
 use Rattle.numbers.proofs.Size.{Size, Sized, size-inside, member-sized}
 use Rattle.numbers.proofs.Tabulate.{every-table}
 use Rattle.numbers.proofs.Tests.{cond-ind}
-use Rattle.array.specs.Conditions.{badLevel}
+use Rattle.array_spec.specs.Conditions.{badLevel}
 use Rattle.border.specs.Border.{Border, constant, along, cellFor, inside, extendedLane}
 use Rattle.border.specs.Modes.{badConstantBy}
 use Rattle.pad_line.specs.Line.{paddedAt, paddedLine}

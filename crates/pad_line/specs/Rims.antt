@@ -4,7 +4,7 @@ use Prim.Native.Nat.{ℕ, _+_, _≤_, _<_}
 use mathlib.Core.Path.{_≡_}
 use mathlib.Core.Bool.{false}
 use Rattle.border.specs.declared.Along.{Along}
-use Rattle.steps.specs.Steps.{stepUp, stepDown}
+use Rattle.pad_line.specs.Steps.{stepUp, stepDown}
 use Rattle.pad_line.specs.Line.{badAlong}
 
 pub record Rimmed (m : Along) (up down left n right len : ℕ) : Type 0 where

@@ -8,9 +8,9 @@ ghost use Rattle.border.specs.Border.{constant, along};
 ghost use Rattle.border.specs.Modes.{borderOf};
 ghost use Rattle.pad_line.specs.Line.{badPad, padMiddle};
 ghost use Rattle.pad_line.specs.Rims.{Rimmed};
+use crate::steps::copy_steps;
 use border::Along;
 use border::BorderMode;
-use steps::copy_steps;
 
 // Extends the n cells of the line from place left on by a constant level.
 fn extend_constant(c: i64, left: usize, n: usize, right: usize, line: &mut [i64])

@@ -1,4 +1,5 @@
 // The padded line: a lane read into a lent line and extended in place, and condition 11 of a lane. `window` has the window of a cell.
+ghost use Rattle.pad_line.specs.Rows.{PadLineRows};
 ghost use mathlib.Core.Path.{_≡_};
 ghost use mathlib.Core.Bool.{_&&_};
 ghost use Prim.Native.Nat.{_+_};
@@ -9,10 +10,13 @@ ghost use mathlib.Core.List.{_++_};
 ghost use Rattle.lanes.specs.Lanes.{laneInside, laneAt};
 ghost use Rattle.border.specs.Modes.{borderOf};
 ghost use Rattle.pad_line.specs.Line.{badPad, paddedLine, paddedLane, Padding};
-ghost use Rattle.pad_line.specs.Rows.{PadLineRows};
 use border::BorderMode;
 
 mod extension;
+mod steps;
+
+pub use steps::copy_steps;
+pub use steps::copy_steps_f64;
 
 // Condition 11 of a lane: whether the border cannot fill a pad that long.
 //
@@ -129,7 +133,7 @@ pub fn pad_lane(
     pad_from(grid, base, stride, n, mode, left, right, line);
 }
 
-// Worked rows of this crate's definitions: T1, unequal pads, condition 11, windows, and lines that stay as they were. Refuses nothing.
+// Worked rows of this crate's definitions: padded lines, cells copied by steps. Refuses nothing.
 pub fn rows()
     ensures { λ _. ⌜ PadLineRows ⌝ }
 {}

@@ -10,7 +10,7 @@ ghost use Rattle.pad_line.specs.Line.{badPad, padMiddle};
 ghost use Rattle.pad_line.specs.Rims.{Rimmed};
 use border::Along;
 use border::BorderModeF64;
-use steps::copy_steps_f64;
+use pad_line::copy_steps_f64;
 
 fn extend_constant_f64(c: f64, left: usize, n: usize, right: usize, line: &mut [f64])
     requires { ⌜ left + n + right ≤ length (now line) ⌝ }

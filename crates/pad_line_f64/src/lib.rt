@@ -45,7 +45,7 @@ pub fn pad_from_f64(
     ensures { λ _. ⌜ now (line .exit) ≡ paddedLine nan (borderOfF64 mode) left right (laneAt nan (now (grid .entry)) base stride n) ++ drop (left + n + right) (now (line .entry)) ⌝ }
 {
     let e = left + n;
-    lane_cells_f64::read_from_f64(grid, base, stride, &mut line[left..e]);
+    lane_cells::read_from_f64(grid, base, stride, &mut line[left..e]);
     extension::extend_f64(mode, left, n, right, line);
 }
 

@@ -1,37 +1,94 @@
--- What a loop over a line keeps of the sum, and of the count of the members that are at most z.
+-- What a loop over a line keeps of the first member in an order: of a running value and what is left, or of four running values that take every fourth
+-- member each. The minimum's proofs take these laws at ≤, the maximum's at ≥.
 -- Assumes nothing.
-use mathlib.Core.Path.{_≡_, sym, ap, _∙_}
-use mathlib.Core.Bool.{Bool, true, false, cond}
-use mathlib.Core.List.{List}
-use Prim.Native.Nat.{ℕ, suc, _+_, _≤_, _<_}
+use mathlib.Core.Path.{_≡_, refl, sym, ap, _∙_}
+use mathlib.Core.Bool.{Bool}
+use mathlib.Core.List.{List, [], _∷_}
+use Prim.Native.Nat.{ℕ, _+_, _^_, _≤_, _<_}
+use native.Mathlib.Nat.{not-suc-le-zero, suc-ne-zero}
 use native.Mathlib.Omega.{arith}
-use lib.IntN.{ℤ, _+ℤ_, +ℤ-idr, +ℤ-assoc}
+use lib.IntN.{ℤ, pos}
 use lib.ListN.{length, getD, drop, drop-of-length-le}
-use Rattle.numbers.specs.Sums.{sumOf}
+use lib.Signed.{mag}
+use mir.Syntax.{w64}
+use mir.Val.{toZ, ofZ}
+use Rattle.numbers.specs.Order.{Total, leastFrom, least}
 use Rattle.numbers.proofs.Index.{drop-next}
-use Rattle.numbers.proofs.Tests.{cond-yes, cond-no}
-use Rattle.statistics.specs.Sorting.{atMost}
+use Rattle.numbers.proofs.Lesser.{lesser, lesser-itself, lesser-assoc, lesser-crossed}
+use Rattle.numbers.proofs.Read.{read}
 
--- ---- the sum: s and the sum of what is left
-module _ (l : List ℤ) (i : ℕ) (s v : ℤ) (e : s +ℤ sumOf (drop i l) ≡ v) where
-  pub sum-more : (d : ℤ) → i < length l → (s +ℤ getD l i d) +ℤ sumOf (drop (i + 1) l) ≡ v
-  sum-more d h = +ℤ-assoc s (getD l i d) (sumOf (drop (i + 1) l)) ∙ sym (ap (λ r. s +ℤ sumOf r) (drop-next l i d h)) ∙ e
+-- ---- one step: n is m, or the member at place i where that comes first
+pub record Next {A : Type 0} (le : A → A → Bool) (d : A) (l : List A) (i : ℕ) (m n : A) : Type 0 where
+  pub is : n ≡ lesser le m (getD l i d)
 
-  pub sum-last : length l ≤ i → s ≡ v
-  sum-last h = sym (ap (λ r. s +ℤ sumOf r) (drop-of-length-le l h) ∙ +ℤ-idr s) ∙ e
+-- as the machine takes it, of a level that was read
+pub next-read : (le : ℤ → ℤ → Bool) (l : List ℤ) (i : ℕ) {m r : ℤ} → let z = getD l i (pos 0) in
+    mag z < 2 ^ 63 → mag r < 2 ^ 63 → r ≡ lesser le m (toZ w64 (ofZ w64 z)) → Next le (pos 0) l i m (toZ w64 (ofZ w64 r))
+next-read le l i {m} {r} h k e = record { is = read k (e ∙ ap (lesser le m) back) }
+  where
+    back : toZ w64 (ofZ w64 (getD l i (pos 0))) ≡ getD l i (pos 0)
+    back = read h refl
 
--- ---- the count: c and the count of what is left
-module _ {A : Type 0} (le : A → A → Bool) (z : A) (l : List A) (i c v : ℕ) (e : c + atMost le z (drop i l) ≡ v) where
-  count-left : (d : A) → i < length l → c + cond (le (getD l i d) z) (suc (atMost le z (drop (i + 1) l))) (atMost le z (drop (i + 1) l)) ≡ v
-  unfolding atMost
-  count-left d h = sym (ap (λ r. c + atMost le z r) (drop-next l i d h)) ∙ e
+module _ {A : Type 0} (le : A → A → Bool) (d : A) where
+  -- ---- the ends of a pass
+  pub least-none : (l : List A) → length l ≡ 0 → d ≡ least le d l
+  least-none [] h = refl
+  least-none (x ∷ xs) h = absurd (suc-ne-zero _ h)
 
-  pub count-hit : (d : A) → i < length l → le (getD l i d) z ≡ true → (c + 1) + atMost le z (drop (i + 1) l) ≡ v
-  count-hit d h t = omega (arith, count-left d h, cond-yes _ (suc (atMost le z (drop (i + 1) l))) (atMost le z (drop (i + 1) l)) t)
+  pub least-first : (l : List A) → 0 < length l → leastFrom le (getD l 0 d) (drop 1 l) ≡ least le d l
+  least-first [] h = absurd (not-suc-le-zero h)
+  least-first (x ∷ xs) h = refl
 
-  pub count-miss : (d : A) → i < length l → le (getD l i d) z ≡ false → c + atMost le z (drop (i + 1) l) ≡ v
-  count-miss d h t = omega (arith, count-left d h, cond-no _ (suc (atMost le z (drop (i + 1) l))) (atMost le z (drop (i + 1) l)) t)
+  module _ (l : List A) (i : ℕ) (m v : A) (e : leastFrom le m (drop i l) ≡ v) where
+    pub least-more : {n : A} → Next le d l i m n → i < length l → leastFrom le n (drop (i + 1) l) ≡ v
+    least-more N h = ap (λ y. leastFrom le y (drop (i + 1) l)) (N .is) ∙ sym (ap (leastFrom le m) (drop-next l i d h)) ∙ e
 
-  pub count-last : length l ≤ i → c ≡ v
-  unfolding atMost
-  count-last h = omega (arith, ap (λ r. c + atMost le z r) (drop-of-length-le l h))
+    pub least-last : length l ≤ i → m ≡ v
+    least-last h = sym (ap (leastFrom le m) (drop-of-length-le l h)) ∙ e
+
+  -- ---- four running values, and what is left from place i on
+  abbrev pub four : A → A → A → A → A
+  four a b c e = lesser le (lesser le a b) (lesser le c e)
+
+  pub record Four (l : List A) (i : ℕ) (a b c e : A) : Type 0 where
+    pub is : leastFrom le (four a b c e) (drop i l) ≡ least le d l
+
+  drop-four : (l : List A) (i : ℕ) → i + 3 < length l → drop i l ≡ getD l i d ∷ getD l (i + 1) d ∷ getD l (i + 2) d ∷ getD l (i + 3) d ∷ drop (i + 4) l
+  drop-four l i h =
+      drop-next l i d (omega arith)
+      ∙ ap (λ s. getD l i d ∷ s) (drop-next l (i + 1) d (omega arith) ∙ ap (λ j. getD l (i + 1) d ∷ drop j l) second)
+      ∙ ap (λ s. getD l i d ∷ getD l (i + 1) d ∷ s) (drop-next l (i + 2) d (omega arith) ∙ ap (λ j. getD l (i + 2) d ∷ drop j l) third)
+      ∙ ap (λ s. getD l i d ∷ getD l (i + 1) d ∷ getD l (i + 2) d ∷ s) (drop-next l (i + 3) d h ∙ ap (λ j. getD l (i + 3) d ∷ drop j l) fourth)
+    where
+      second : i + 1 + 1 ≡ i + 2
+      second = omega arith
+
+      third : i + 2 + 1 ≡ i + 3
+      third = omega arith
+
+      fourth : i + 3 + 1 ≡ i + 4
+      fourth = omega arith
+
+  module _ (O : Total le) where
+    pub four-first : (l : List A) {a : A} → 0 < length l → a ≡ getD l 0 d → Four l 1 a a a a
+    four-first l {a} h e = record { is = ap (λ m. leastFrom le m (drop 1 l)) (ap (λ m. lesser le m m) (lesser-itself le O a) ∙ lesser-itself le O a ∙ e) ∙ least-first l h }
+
+    -- four members taken by one value each, or one after the other by the first of the four
+    four-crossed : (a b c e w x y z : A)
+        → four (lesser le a w) (lesser le b x) (lesser le c y) (lesser le e z) ≡ lesser le (lesser le (lesser le (lesser le (four a b c e) w) x) y) z
+    four-crossed a b c e w x y z = let f = four a b c e in
+        (λ i. lesser le (lesser-crossed le O a b w x i) (lesser-crossed le O c e y z i))
+        ∙ lesser-crossed le O (lesser le a b) (lesser le c e) (lesser le w x) (lesser le y z)
+        ∙ sym (lesser-assoc le O f (lesser le w x) (lesser le y z))
+        ∙ ap (λ v. lesser le v (lesser le y z)) (sym (lesser-assoc le O f w x))
+        ∙ sym (lesser-assoc le O (lesser le (lesser le f w) x) y z)
+
+    pub four-more : {l : List A} {i : ℕ} {a b c e a′ b′ c′ e′ : A} → Four l i a b c e → i + 3 < length l
+        → Next le d l i a a′ → Next le d l (i + 1) b b′ → Next le d l (i + 2) c c′ → Next le d l (i + 3) e e′ → Four l (i + 4) a′ b′ c′ e′
+    four-more {l} {i} {a} {b} {c} {e} F h N₀ N₁ N₂ N₃ = record {
+      is =
+          (λ j. leastFrom le (four (N₀ .is j) (N₁ .is j) (N₂ .is j) (N₃ .is j)) (drop (i + 4) l))
+          ∙ ap (λ m. leastFrom le m (drop (i + 4) l)) (four-crossed a b c e (getD l i d) (getD l (i + 1) d) (getD l (i + 2) d) (getD l (i + 3) d))
+          ∙ sym (ap (leastFrom le (four a b c e)) (drop-four l i h))
+          ∙ F .is;
+    }

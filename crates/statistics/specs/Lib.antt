@@ -1,4 +1,2 @@
--- One level out of a line of whole levels.
-pub mod Sorting
-pub mod Statistics
-pub mod Rows
+-- The sum of a line of levels near 0.
+pub mod NearSum

@@ -1,8 +1,11 @@
-// What one level out of a line of whole levels is: what padding's modes Maximum, Minimum, Mean and Median fill a lane with.
-// Definitions, laws and rows; the code is in `line_extremes`, `line_mean` and `line_median`.
-ghost use Rattle.statistics.specs.Rows.{StatisticsRows};
+// The least, the greatest, the mean and the median level of a line.
 
-// Worked rows of this crate's definitions. Refuses nothing.
-pub fn rows()
-    ensures { λ _. ⌜ StatisticsRows ⌝ }
-{}
+mod extremes;
+mod means;
+mod medians;
+mod middle;
+
+pub use extremes::maximum;
+pub use extremes::minimum;
+pub use means::mean;
+pub use medians::median;

@@ -1,17 +1,115 @@
-// The symmetry class of a kernel: whether its weights mirror each other around the middle one. Here are the definitions and their laws;
-// `symmetry_state` has the code.
-ghost use Rattle.symmetry.specs.Rows.{SymmetryRows};
+// The symmetry class of a kernel, found by its mirrored pairs.
+ghost use mathlib.Core.Path.{_≡_};
+ghost use mathlib.Core.Bool.{true, false, cond};
+ghost use Prim.Native.Nat.{_%_};
+ghost use lib.ListN.{length};
+ghost use lib.Ieee.{nan};
+ghost use lib.IntN.{pos};
+ghost use Rattle.symmetry_spec.specs.declared.SymmetryState.the-variants.{NonSymmetric};
+ghost use Rattle.symmetry_spec.specs.Class.{exceeds, pairDiffers, differZ, differF, classZ, classF};
+use symmetry_spec::SymmetryState;
 
-pub enum SymmetryState {
-    // An even length, or a mirrored pair differs and one differs up to sign.
-    NonSymmetric,
-    // An odd length, and no mirrored pair differs.
-    Symmetric,
-    // An odd length, a mirrored pair differs, and none differs up to sign.
-    AntiSymmetric,
+// f64::EPSILON, which is 2^-52.
+const EPSILON: f64 = 2.220446049250313e-16;
+
+// i64::MIN, whose negative is no i64.
+const LEAST: i64 = -9223372036854775808;
+
+// Whether |x| > 2^-52.
+fn above_epsilon(x: f64) -> bool
+    ensures { λ r. ⌜ r ≡ exceeds x ⌝ }
+{
+    if x > EPSILON {
+        return true;
+    }
+    x < -EPSILON
 }
 
-// Worked rows about the definitions that the contracts cite; nothing runs.
-pub fn rows()
-    ensures { λ _. ⌜ SymmetryRows ⌝ }
-{}
+// Whether a pair differs, the left weight's sign turned where `turned` says so. No weight is the negative of LEAST.
+fn differ_i64(right: i64, left: i64, turned: bool) -> bool
+    ensures { λ r. ⌜ r ≡ differZ turned right left ⌝ }
+{
+    if turned {
+        if left == LEAST {
+            return true;
+        }
+        return right != -left;
+    }
+    right != left
+}
+
+// The same of floats, by the rounded difference, or the rounded sum.
+fn differ_f64(right: f64, left: f64, turned: bool) -> bool
+    ensures { λ r. ⌜ r ≡ differF turned right left ⌝ }
+{
+    if turned {
+        return above_epsilon(right + left);
+    }
+    above_epsilon(right - left)
+}
+
+// `state`, unless a mirrored pair differs: the loop is left at the first one that does.
+fn check_pairs_i64(weights: &[i64], turned: bool, state: SymmetryState) -> SymmetryState
+    requires { ⌜ length (now weights) % 2 ≡ 1 ⌝ }
+    ensures { λ r. ⌜ r ≡ cond (pairDiffers (differZ turned) (pos 0) (now (weights .entry))) NonSymmetric state ⌝ }
+{
+    let half = weights.len() / 2;
+    let mut found = state;
+    for i in 1..=half {
+        if differ_i64(weights[half + i], weights[half - i], turned) {
+            found = SymmetryState::NonSymmetric;
+            break;
+        }
+    }
+    found
+}
+
+// The same of floats.
+fn check_pairs_f64(weights: &[f64], turned: bool, state: SymmetryState) -> SymmetryState
+    requires { ⌜ length (now weights) % 2 ≡ 1 ⌝ }
+    ensures { λ r. ⌜ r ≡ cond (pairDiffers (differF turned) nan (now (weights .entry))) NonSymmetric state ⌝ }
+{
+    let half = weights.len() / 2;
+    let mut found = state;
+    for i in 1..=half {
+        if differ_f64(weights[half + i], weights[half - i], turned) {
+            found = SymmetryState::NonSymmetric;
+            break;
+        }
+    }
+    found
+}
+
+// The symmetry class of whole weights.
+// weights: the kernel's weights along one axis, any number of them.
+// Refuses nothing: even lengths, and no weights at all, are NonSymmetric.
+// Example: 1 2 5 -2 -1 is AntiSymmetric; its middle weight is never looked at.
+pub fn symmetry_state_i64(weights: &[i64]) -> SymmetryState
+    ensures { λ r. ⌜ r ≡ classZ (now (weights .entry)) ⌝ }
+{
+    if weights.len() % 2 == 0 {
+        return SymmetryState::NonSymmetric;
+    }
+    let state = check_pairs_i64(weights, false, SymmetryState::Symmetric);
+    let SymmetryState::NonSymmetric = state else {
+        return state;
+    };
+    check_pairs_i64(weights, true, SymmetryState::AntiSymmetric)
+}
+
+// The symmetry class of float weights: a pair differs by more than 2^-52.
+// weights: the kernel's weights along one axis, any number of them and any floats.
+// Refuses nothing: even lengths are NonSymmetric, and a pair with a NaN does not differ.
+// Example: 0 1 2^-53 is Symmetric.
+pub fn symmetry_state_f64(weights: &[f64]) -> SymmetryState
+    ensures { λ r. ⌜ r ≡ classF (now (weights .entry)) ⌝ }
+{
+    if weights.len() % 2 == 0 {
+        return SymmetryState::NonSymmetric;
+    }
+    let state = check_pairs_f64(weights, false, SymmetryState::Symmetric);
+    let SymmetryState::NonSymmetric = state else {
+        return state;
+    };
+    check_pairs_f64(weights, true, SymmetryState::AntiSymmetric)
+}

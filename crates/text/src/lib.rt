@@ -1,28 +1,10 @@
-// Whole numbers as text in ASCII: what a token is, and which digits a number has: the definitions and their laws.
-// `read_text` and `write_text` have the code.
-ghost use Rattle.text.specs.Back.{ReadsBack};
-ghost use Rattle.text.specs.Rows.{TextRows};
+// Whole numbers read from text and written to it.
 
-// What a token is as an unsigned number.
-pub enum Unsigned {
-    // No number, or one beyond 2^64 - 1.
-    Not,
-    Is(u64),
-}
+mod read;
+mod write;
 
-// What a token is as a signed number.
-pub enum Signed {
-    // No number, or one outside -2^63 to 2^63 - 1.
-    Not,
-    Is(i64),
-}
-
-// Reading what was written gives the number back; nothing runs.
-pub fn reads_back()
-    ensures { λ _. ⌜ ReadsBack ⌝ }
-{}
-
-// Worked rows about the definitions that the contracts cite; nothing runs.
-pub fn rows()
-    ensures { λ _. ⌜ TextRows ⌝ }
-{}
+pub use read::numeral;
+pub use read::read_signed;
+pub use read::read_unsigned;
+pub use write::spell;
+pub use write::write_signed;

@@ -9,9 +9,9 @@ use lib.Dec.{T}
 use lib.Ieee.{Float, nan, binary64, fits, isNan, toBits}
 use lib.Ieee.Bits.{ofBits-toBits, toBits-lt}
 use lib.ListN.{length}
-use Rattle.text.specs.Writing.{digitsOf}
-use Rattle.text.proofs.Digits.{digits-length}
-use Rattle.text.proofs.Returned.{numeral-back}
+use Rattle.text_spec.specs.Writing.{digitsOf}
+use Rattle.text_spec.proofs.Digits.{digits-length}
+use Rattle.text_spec.proofs.Returned.{numeral-back}
 use Rattle.text_f64.specs.Bits.{nanText, patternOf, floatOf, floatText}
 use Rattle.text_f64.specs.declared.Token.the-variants.{Is}
 use Rattle.text_f64.proofs.Patterns.{nan-is}

@@ -10,10 +10,10 @@ use mathlib.Core.List.{List, [], _∷_}
 use lib.Dec.{eqb}
 use lib.Ieee.{Float, nan, binary64, isNan, ofBits, toBits}
 use lib.ListN.{length, getD}
-use Rattle.text.specs.Reading.{numeralOf}
-use Rattle.text.specs.Writing.{digitsOf}
-use Rattle.text.specs.declared.Unsigned.{Unsigned}
-use Rattle.text.specs.declared.Unsigned.the-variants as Whole
+use Rattle.text_spec.specs.Reading.{numeralOf}
+use Rattle.text_spec.specs.Writing.{digitsOf}
+use Rattle.text_spec.specs.declared.Unsigned.{Unsigned}
+use Rattle.text_spec.specs.declared.Unsigned.the-variants as Whole
 use Rattle.text_f64.specs.declared.Token.{Token}
 use Rattle.text_f64.specs.declared.Token.the-variants as Token
 

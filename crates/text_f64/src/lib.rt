@@ -1,11 +1,11 @@
 // Floats as text: the 16 hexadecimal digits of the bits, in lower case, and nan for every NaN.
-use text::Unsigned;
+use text_spec::Unsigned;
 ghost use mathlib.Core.Path.{_≡_};
 ghost use lib.Ieee.{binary64, nanBits};
 ghost use Rattle.text_f64.specs.Bits.{isNanText, patternOf, floatOf, floatText};
 ghost use Rattle.text_f64.specs.Rows.{FloatRows};
 ghost use Rattle.text_f64.specs.Back.{ReadsBackF64};
-ghost use Rattle.text.specs.Writing.{writtenIn, writtenCount};
+ghost use Rattle.text_spec.specs.Writing.{writtenIn, writtenCount};
 
 // What a token is as a float.
 pub enum Token {
@@ -71,7 +71,7 @@ pub fn read_float(token: &[u8]) -> Token
     if token.len() != 16 {
         return Token::Not;
     }
-    pattern(read_text::numeral(16, token))
+    pattern(text::numeral(16, token))
 }
 
 // Writes a float at the front of out, and answers how many bytes it took.
@@ -91,7 +91,7 @@ pub fn write_float(x: f64, out: &mut [u8]) -> usize
         out[2] = 110;
         return 3;
     }
-    write_text::spell(f64::to_bits(x), 16, 16, out);
+    text::spell(f64::to_bits(x), 16, 16, out);
     16
 }
 

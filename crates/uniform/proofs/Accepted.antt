@@ -16,22 +16,22 @@ use Rattle.numbers.specs.Refusal.{refusalOf}
 use Rattle.numbers.proofs.Any.{any-none, every-at}
 use Rattle.numbers.proofs.Refusal.{judged-all}
 use Rattle.numbers.proofs.Tests.{or-false}
-use Rattle.array.specs.Conditions.{badShape, badLength, badLevel}
-use Rattle.array.specs.Grid.{cellCount, lengthOf}
-use Rattle.array.proofs.Shapes.{shape-accepted, count-accepted, length-judged}
+use Rattle.array_spec.specs.Conditions.{badShape, badLength, badLevel}
+use Rattle.array_spec.specs.Grid.{cellCount, lengthOf}
+use Rattle.array_spec.proofs.Shapes.{shape-accepted, count-accepted, length-judged}
 use Rattle.lanes.specs.Lanes.{alongAxis}
 use Rattle.lanes.proofs.AlongAxis.{length-along}
 use Rattle.border.specs.Border.{Border}
 use Rattle.border.specs.Modes.{badConstantBy}
 use Rattle.pad_line.specs.Line.{badPad}
-use Rattle.filter_judge.specs.Judge.{badReach}
-use Rattle.uniform_line.specs.Mean.{means}
+use Rattle.min_max_judge.specs.Judge.{badReach}
+use Rattle.uniform_spec.specs.Mean.{means}
 use Rattle.axis_filter.specs.Lane.{Sweep}
-use Rattle.uniform_axis.specs.Averaging.{Averaging}
-use Rattle.uniform_judge.specs.Uniform.{paddedFor, uniform1d}
-use Rattle.uniform_judge.specs.Judge.{halfOver, badGridReach, uniform1dJudged, uniformJudged}
-use Rattle.uniform_judge.proofs.Sums.{levels-kept}
-use Rattle.uniform_judge.proofs.Window.{size-some, size-few}
+use Rattle.uniform.specs.Averaging.{Averaging}
+use Rattle.uniform_spec.specs.Uniform.{paddedFor, uniform1d}
+use Rattle.uniform_spec.specs.Judge.{halfOver, badGridReach, uniform1dJudged, uniformJudged}
+use Rattle.uniform_spec.proofs.Sums.{levels-kept}
+use Rattle.uniform_spec.proofs.Window.{size-some, size-few}
 use Rattle.uniform.specs.Pass.{Pass}
 
 -- ---- what the means along an axis suppose of a pass

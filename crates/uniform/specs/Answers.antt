@@ -7,8 +7,8 @@ use lib.IntN.{ℤ, pos}
 use lib.ListN.{length, replicate}
 use Rattle.numbers.specs.Refusal.{Answers}
 use Rattle.border.specs.Border.{Border}
-use Rattle.uniform_judge.specs.Uniform.{uniform}
-use Rattle.uniform_judge.specs.Judge.{uniformJudged}
+use Rattle.uniform_spec.specs.Uniform.{uniform}
+use Rattle.uniform_spec.specs.Judge.{uniformJudged}
 
 pub record UniformAnswers (b : Border ℤ) (size : ℕ) (ns : List ℕ) (cells second out : List ℤ) (r : ℕ) (second′ out′ : List ℤ) : Type 0 where
   pub filled : Answers (uniformJudged b size ns cells (length out) (length second)) (uniform b size ns cells) out r out′

@@ -8,11 +8,11 @@ use lib.IntN.{ℤ, pos}
 use lib.ListN.{length}
 use Rattle.numbers.specs.Lists.{anyOf}
 use Rattle.numbers.specs.Ranges.{outside}
-use Rattle.array.specs.Conditions.{badShape, badLevel}
-use Rattle.array.specs.Grid.{cellCount, lengthOf}
+use Rattle.array_spec.specs.Conditions.{badShape, badLevel}
+use Rattle.array_spec.specs.Grid.{cellCount, lengthOf}
 use Rattle.border.specs.Border.{Border}
 use Rattle.border.specs.Modes.{badConstantBy}
-use Rattle.filter_judge.specs.Judge.{badReach}
+use Rattle.min_max_judge.specs.Judge.{badReach}
 
 pub record Pass (b : Border ℤ) (size : ℕ) (ns : List ℕ) (a : ℕ) (cells out : List ℤ) : Type 0 where
   pub shape : badShape ns ≡ false

@@ -1,15 +1,21 @@
 // Uniform filters along one axis and along every axis (src/filters/uniform.rs; SciPy's uniform_filter1d and uniform_filter): the mean of each window, cut
 // toward zero.
+ghost use Rattle.uniform.specs.Rows.{UniformRows};
 ghost use mathlib.Core.Path.{_≡_};
 ghost use lib.ListN.{length};
 ghost use Rattle.numbers.specs.Refusal.{refusalOf, Answers};
 ghost use Rattle.border.specs.Modes.{borderOf};
-ghost use Rattle.uniform_judge.specs.Uniform.{uniform1d, uniform as uniformOf};
-ghost use Rattle.uniform_judge.specs.Judge.{uniform1dJudged, uniformJudged};
+ghost use Rattle.uniform_spec.specs.Uniform.{uniform1d, uniform as uniformOf};
+ghost use Rattle.uniform_spec.specs.Judge.{uniform1dJudged, uniformJudged};
 ghost use Rattle.uniform.specs.Pass.{Pass};
 ghost use Rattle.uniform.specs.Answers.{UniformAnswers};
-ghost use Rattle.uniform.specs.Rows.{UniformRows};
 use border::BorderMode;
+
+mod judge;
+mod lane_loop;
+
+pub use judge::judge_uniform;
+pub use judge::judge_uniform1d;
 
 // Fills out with the means along the axis.
 fn pass(data: &[i64], shape: &[usize], size: usize, axis: usize, mode: BorderMode, out: &mut [i64])
@@ -18,7 +24,7 @@ fn pass(data: &[i64], shape: &[usize], size: usize, axis: usize, mode: BorderMod
 {
     let left = size / 2;
     let right = size - left - 1;
-    uniform_axis::uniform_axis(mode, data, shape, axis, left, right, out);
+    crate::lane_loop::uniform_axis(mode, data, shape, axis, left, right, out);
 }
 
 // Fills out with the answer of an accepted grid call; second holds what a pass between leaves.
@@ -71,7 +77,7 @@ pub fn uniform_filter1d(
     ensures { λ r. ⌜ Answers (uniform1dJudged (borderOf mode) size (now (shape .entry)) axis (now («data» .entry)) (length (now (out .entry))))
         (uniform1d (borderOf mode) size (now (shape .entry)) axis (now («data» .entry))) (now (out .entry)) r (now (out .exit)) ⌝ }
 {
-    let refusal = uniform_judge::judge_uniform1d(data, shape, size, axis, mode, out.len());
+    let refusal = crate::judge::judge_uniform1d(data, shape, size, axis, mode, out.len());
     if refusal != 0 {
         return refusal;
     }
@@ -102,16 +108,16 @@ pub fn uniform_filter(
 ) -> u8
     ensures { λ r. ⌜ UniformAnswers (borderOf mode) size (now (shape .entry)) (now («data» .entry)) (now (second .entry)) (now (out .entry)) r (now (second .exit)) (now (out .exit)) ⌝ }
 {
-    let refusal = uniform_judge::judge_uniform(data, shape, size, mode, out.len(), second.len());
+    let refusal = crate::judge::judge_uniform(data, shape, size, mode, out.len(), second.len());
     if refusal != 0 {
         return refusal;
     }
     passes(data, shape, size, mode, second, out);
-    assign::fill(second, 0);
+    array::fill(second, 0);
     numbers::ACCEPTED
 }
 
-// Worked rows of what the calls answer: T6, an even window, two axes, and a refused call. Refuses nothing.
+// Worked rows of this crate's definitions: the lanes of an axis, the calls. Refuses nothing.
 pub fn rows()
     ensures { λ _. ⌜ UniformRows ⌝ }
 {}

@@ -13,8 +13,8 @@ use Rattle.numbers.specs.Ranges.{outsideZ}
 use Rattle.numbers.proofs.Quotient.{quot-fits, quot-asked, quot-given}
 use Rattle.numbers.proofs.Read as stored
 use Rattle.numbers.proofs.Size.{Size, size-inside, inside-sized, size-tested, fits-at, fits-size}
-use Rattle.line_sums.proofs.Computed.{read}
-use Rattle.uniform_line.specs.Mean.{cut}
+use Rattle.correlate_spec.proofs.Computed.{read}
+use Rattle.uniform_spec.specs.Mean.{cut}
 
 module _ (z : ℤ) (n : ℕ) (few : n ≤ 65) (small : outsideZ (negℤ (pos 2147483647)) (pos 2147483647) z ≡ false) where
   size : Size z 2147483647

@@ -8,8 +8,8 @@ use lib.ListN.{length, set}
 use Rattle.numbers.proofs.Tabulate.{length-tabulate, getD-tabulate}
 use Rattle.lanes.specs.Lanes.{laneBase, withLane}
 use Rattle.lanes.proofs.Stores.{Written, written-more, written-all}
-use Rattle.correlation.specs.WindowSum.{windowSum}
-use Rattle.uniform_line.specs.Mean.{cut, means}
+use Rattle.correlate_spec.specs.WindowSum.{windowSum}
+use Rattle.uniform_spec.specs.Mean.{cut, means}
 
 module _ (s : List ℤ) (size n : ℕ) where
   long : length (means s size n) ≡ n

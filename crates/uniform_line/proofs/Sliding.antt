@@ -10,12 +10,12 @@ use Rattle.numbers.specs.Lists.{anyOf}
 use Rattle.numbers.specs.Ranges.{outsideZ}
 use Rattle.numbers.proofs.Any.{none-any, every-imp}
 use Rattle.numbers.proofs.Size.{Size, size-le, inside-sized}
-use Rattle.array.proofs.Judged.{levels-sized}
-use Rattle.correlation.specs.WindowSum.{windowSum}
-use Rattle.line_sums.specs.Sizes.{Summable}
-use Rattle.line_sums.proofs.Computed.{read}
-use Rattle.line_sums.proofs.SlidingSum.{total-read}
-use Rattle.uniform_line.specs.Mean.{cut, Averaged}
+use Rattle.array_spec.proofs.Judged.{levels-sized}
+use Rattle.correlate_spec.specs.WindowSum.{windowSum}
+use Rattle.correlate_spec.specs.Sizes.{Summable}
+use Rattle.correlate_spec.proofs.Computed.{read}
+use Rattle.correlate_spec.proofs.SlidingSum.{total-read}
+use Rattle.uniform_spec.specs.Mean.{cut, Averaged}
 
 module _ {s : List ℤ} {size n : ℕ} (A : Averaged s size n) where
   -- a level is as large as a cell of a running sum may be

@@ -7,9 +7,8 @@ ghost use lib.IntN.{pos, negℤ};
 ghost use lib.ListN.{length};
 ghost use Rattle.numbers.specs.Ranges.{outsideZ};
 ghost use Rattle.lanes.specs.Lanes.{laneBase, withLane};
-ghost use Rattle.uniform_line.specs.Mean.{cut, means, Averaged};
-ghost use Rattle.uniform_line.specs.Rows.{UniformLineRows};
-use line_sums::first_sum;
+ghost use Rattle.uniform_spec.specs.Mean.{cut, means, Averaged};
+use correlate_line::first_sum;
 
 // The sum of a window over the number of its cells, cut toward zero.
 fn cut_wide(total: i64, size: usize) -> i64
@@ -67,8 +66,3 @@ pub fn uniform_lane(
         i += 1;
     }
 }
-
-// Worked rows of this crate's definitions. Refuses nothing.
-pub fn rows()
-    ensures { λ _. ⌜ UniformLineRows ⌝ }
-{}

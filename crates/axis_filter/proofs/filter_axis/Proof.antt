@@ -1,8 +1,8 @@
--- `axis_filter::filter_axis` meets its contract: neighbouring cells are 1 apart, and both ways leave the filtered lanes.
+-- `filter_axis` meets its contract: neighbouring cells are 1 apart, and both ways leave the filtered lanes.
 -- Assumes nothing.
 use native.Mathlib.Omega.{arith}
 use denote.Ref.{now}
-use Rattle.array.proofs.Shapes.{shape-accepted}
+use Rattle.array_spec.proofs.Shapes.{shape-accepted}
 use borrow.Author.Needs.{needs}
 use Rattle.axis_filter.proofs.filter_axis.Statement.{statement}
 use Rattle.axis_filter.proofs.filter_axis.Tie as tie

@@ -1,10 +1,10 @@
--- `axis_filter::filter_columns` meets its contract: an axis of an accepted shape has at most 1,024 cells.
+-- `filter_columns` meets its contract: an axis of an accepted shape has at most 1,024 cells.
 -- Assumes nothing.
 use Prim.Native.Nat.{ℕ, _≤_}
 use mathlib.Core.Path.{sym, subst, _∙_}
 use denote.Ref.{now}
 use lib.Seq.{length-take-le}
-use Rattle.array.proofs.Shapes.{shape-accepted}
+use Rattle.array_spec.proofs.Shapes.{shape-accepted}
 use borrow.Author.Needs.{needs}
 use Rattle.axis_filter.proofs.filter_columns.Statement.{statement}
 use Rattle.axis_filter.proofs.filter_columns.Tie as tie

@@ -1,4 +1,4 @@
--- `axis_filter::filter_lane` meets its contract: the padded lane, filtered.
+-- `filter_lane` meets its contract: the padded lane, filtered.
 -- Assumes nothing.
 use mathlib.Core.Path.{sym, subst}
 use mathlib.Core.List.{List}

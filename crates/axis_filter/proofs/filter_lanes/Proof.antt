@@ -1,4 +1,4 @@
--- `axis_filter::filter_lanes` meets its contract: the lanes below the one that the loop has reached are written.
+-- `filter_lanes` meets its contract: the lanes below the one that the loop has reached are written.
 -- Assumes nothing.
 use denote.Ref.{now}
 use Prim.Native.Nat.{_+_, _-_}

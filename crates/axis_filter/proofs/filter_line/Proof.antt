@@ -1,10 +1,10 @@
--- `axis_filter::filter_line` meets its contract: each arm calls the filter that it names.
+-- `filter_line` meets its contract: each arm calls the filter that it names.
 -- Assumes nothing.
 use mathlib.Core.Path.{_∙_}
 use lib.Signed.{leZ}
 use denote.Ref.{now}
 use Rattle.numbers.specs.Order.{atLeast}
-use Rattle.minlist.proofs.Served.{swept-filled}
+use Rattle.min_max_ring.proofs.Served.{swept-filled}
 use borrow.Author.Needs.{needs}
 use Rattle.axis_filter.proofs.filter_line.Statement.{statement}
 use Rattle.axis_filter.proofs.filter_line.Tie as tie

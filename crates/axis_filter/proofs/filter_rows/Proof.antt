@@ -1,4 +1,4 @@
--- `axis_filter::filter_rows` meets its contract: the lanes below the one that the loop has reached are written, each as a part of out.
+-- `filter_rows` meets its contract: the lanes below the one that the loop has reached are written, each as a part of out.
 -- Assumes nothing.
 use denote.Ref.{now}
 use Prim.Native.Nat.{_+_, _-_, _*_}

@@ -1,12 +1,12 @@
--- `axis_filter::rows` meets its contract: every row holds by computing.
+-- `rows` meets its contract: every row holds by computing.
 -- Assumes nothing.
 use mathlib.Core.Path.{refl}
 use Rattle.numbers.specs.Lists.{tabulate}
 use Rattle.numbers.specs.Windows.{windowOf}
 use Rattle.border.specs.Border.{cellFor, extendedLane}
 use Rattle.pad_line.specs.Line.{paddedAt, paddedLine}
-use Rattle.minlist.specs.Firsts.{firsts}
-use Rattle.correlation.specs.Weighed.{summed}
+use Rattle.min_max_ring.specs.Firsts.{firsts}
+use Rattle.correlate_spec.specs.Weighed.{summed}
 use Rattle.axis_filter.proofs.rows.Statement.{statement}
 use Rattle.axis_filter.proofs.rows.Tie as tie
 

@@ -1,4 +1,4 @@
--- `border::cell_after` meets its contract: in each arm the definition's difference is what `saturating_sub` ensures.
+-- `cell_after` meets its contract: in each arm the definition's difference is what `saturating_sub` ensures.
 -- Assumes nothing.
 use mathlib.Core.Path.{ap, _∙_}
 use Prim.Native.Nat.{_-_}

@@ -1,4 +1,4 @@
--- `border::cell_before` meets its contract: in each arm the cell is the definition's, its difference what `saturating_sub` ensures.
+-- `cell_before` meets its contract: in each arm the cell is the definition's, its difference what `saturating_sub` ensures.
 -- Assumes nothing.
 use borrow.Author.Needs.{needs}
 use Rattle.border.proofs.cell_before.Statement.{statement}

@@ -1,8 +1,8 @@
--- `border::rows` meets its contract: every row holds by computing.
+-- `rows` meets its contract: every row holds by computing.
 -- Assumes nothing.
 use mathlib.Core.Path.{refl}
-use Rattle.array.specs.Grid.{placeOf}
-use Rattle.array.specs.Conditions.{badLevel}
+use Rattle.array_spec.specs.Grid.{placeOf}
+use Rattle.array_spec.specs.Conditions.{badLevel}
 use Rattle.border.specs.Border.{cellFor, allInside, extendedLane, extendedGrid}
 use Rattle.border.proofs.rows.Statement.{statement}
 use Rattle.border.proofs.rows.Tie as tie

@@ -1,4 +1,4 @@
--- `codes::kernel_of` meets its contract: each return is the kernel that its code names.
+-- `kernel_of` meets its contract: each return is the kernel that its code names.
 -- Assumes nothing.
 use mathlib.Core.Path.{refl}
 use borrow.Author.Tests.{ne-eqb}

@@ -1,4 +1,4 @@
--- `codes::mode_of` meets its contract: each return is the border that its code names.
+-- `mode_of` meets its contract: each return is the border that its code names.
 -- Assumes nothing.
 use mathlib.Core.Path.{_≡_, refl}
 use borrow.Author.Tests.{ne-eqb}

@@ -1,4 +1,4 @@
--- `codes::mode_of_f64` meets its contract: each return is the border that its code names.
+-- `mode_of_f64` meets its contract: each return is the border that its code names.
 -- Assumes nothing.
 use mathlib.Core.Path.{refl}
 use borrow.Author.Tests.{ne-eqb}

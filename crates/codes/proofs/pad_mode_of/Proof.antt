@@ -1,4 +1,4 @@
--- `codes::pad_mode_of` meets its contract: each return is the padding mode that its code names.
+-- `pad_mode_of` meets its contract: each return is the padding mode that its code names.
 -- Assumes nothing.
 use mathlib.Core.Path.{_≡_, refl}
 use borrow.Author.Tests.{ne-eqb}

@@ -1,8 +1,8 @@
--- `codes::rows` meets its contract: every row holds by computing.
+-- `rows` meets its contract: every row holds by computing.
 -- Assumes nothing.
 use mathlib.Core.Path.{refl}
 use Rattle.numbers.specs.Lists.{tabulate}
-use Rattle.symmetry.specs.Class.{someDiffers}
+use Rattle.symmetry_spec.specs.Class.{someDiffers}
 use Rattle.codes.specs.Codes.{modeOf, modeOfF64, padModeOf, kernelOf, coded}
 use Rattle.codes.proofs.rows.Statement.{statement}
 use Rattle.codes.proofs.rows.Tie as tie

@@ -1,4 +1,4 @@
--- `codes::unknown_after` meets its contract: the number, or 100 where it is 0.
+-- `unknown_after` meets its contract: the number, or 100 where it is 0.
 -- Assumes nothing.
 use mathlib.Core.Path.{refl}
 use borrow.Author.Tests.{eq-eqb, ne-eqb}

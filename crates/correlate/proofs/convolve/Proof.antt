@@ -1,4 +1,4 @@
--- `correlate::convolve` meets its contract: refused by the judge's number, or the answer of an accepted call.
+-- `convolve` meets its contract: refused by the judge's number, or the answer of an accepted call.
 -- Assumes nothing.
 use mathlib.Core.Path.{_≡_, sym, ap, _∙_}
 use mathlib.Core.Bool.{true}
@@ -11,8 +11,8 @@ use mir.Val.{toZ, ofZ}
 use Rattle.numbers.specs.Refusal.{refusalOf}
 use Rattle.numbers.proofs.Refusal.{answers-refused, answers-accepted}
 use Rattle.border.specs.Modes.{borderOf}
-use Rattle.correlation.specs.Kernel.{convolveZ}
-use Rattle.kernel_judge.specs.Judge.{kernelJudged}
+use Rattle.correlate_spec.specs.Kernel.{convolveZ}
+use Rattle.correlate_judge.specs.KernelJudge.{kernelJudged}
 use Rattle.correlate.proofs.Accepted.{passed}
 use borrow.Author.Needs.{needs}
 use Rattle.correlate.proofs.convolve.Statement.{statement}

@@ -1,4 +1,4 @@
--- `correlate::convolve_cells` meets its contract: the weights are reversed and summed with the changed origin.
+-- `convolve_cells` meets its contract: the weights are reversed and summed with the changed origin.
 -- Assumes nothing.
 use mathlib.Core.Path.{_≡_, ap, _∙_}
 use mathlib.Core.Bool.{true}
@@ -8,9 +8,9 @@ use denote.Ref.{now}
 use mir.Syntax.{w64}
 use mir.Val.{toZ, ofZ}
 use Rattle.border.specs.Modes.{borderOf}
-use Rattle.origin.specs.Origin.{badOrigin}
-use Rattle.correlation.specs.Correlated.{changedOrigin}
-use Rattle.correlation.specs.Kernel.{sidesOf, sideOf, kernelLeft, kernelAnswer}
+use Rattle.window.specs.Origin.{badOrigin}
+use Rattle.correlate_spec.specs.Correlated.{changedOrigin}
+use Rattle.correlate_spec.specs.Kernel.{sidesOf, sideOf, kernelLeft, kernelAnswer}
 use Rattle.correlate.proofs.Accepted.{Passed, passed, suits-as, own-sides}
 use borrow.Author.Needs.{needs}
 use Rattle.correlate.proofs.convolve_cells.Statement.{statement}

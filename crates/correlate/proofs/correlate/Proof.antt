@@ -1,4 +1,4 @@
--- `correlate::correlate` meets its contract: refused by the judge's number, or the answer of an accepted call.
+-- `correlate` meets its contract: refused by the judge's number, or the answer of an accepted call.
 -- Assumes nothing.
 use mathlib.Core.Path.{_≡_, refl, sym, ap, _∙_}
 use mathlib.Core.Bool.{false}
@@ -10,8 +10,8 @@ use mir.Val.{toZ, ofZ}
 use Rattle.numbers.specs.Refusal.{refusalOf}
 use Rattle.numbers.proofs.Refusal.{answers-refused, answers-accepted}
 use Rattle.border.specs.Modes.{borderOf}
-use Rattle.correlation.specs.Kernel.{sidesOf, sideOf, kernelLeft, kernelAnswer}
-use Rattle.kernel_judge.specs.Judge.{kernelJudged}
+use Rattle.correlate_spec.specs.Kernel.{sidesOf, sideOf, kernelLeft, kernelAnswer}
+use Rattle.correlate_judge.specs.KernelJudge.{kernelJudged}
 use Rattle.correlate.proofs.Accepted.{Passed, passed, suits-as, own-sides}
 use borrow.Author.Needs.{needs}
 use Rattle.correlate.proofs.correlate.Statement.{statement}

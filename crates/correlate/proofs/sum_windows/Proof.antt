@@ -1,4 +1,4 @@
--- `correlate::sum_windows` meets its contract: an accepted origin has its pads, and the worker sums with them.
+-- `sum_windows` meets its contract: an accepted origin has its pads, and the worker sums with them.
 -- Assumes nothing.
 use Prim.Native.Nat.{ℕ, _/_}
 use mathlib.Core.Path.{_≡_, ap, _∙_}
@@ -6,9 +6,9 @@ use mir.Syntax.{w64}
 use mir.Val.{toZ, ofZ}
 use denote.Ref.{now}
 use Rattle.border.specs.Modes.{borderOf}
-use Rattle.origin.specs.Origin.{originPads}
-use Rattle.origin.proofs.Answered.{not-refused, left-is, right-is}
-use Rattle.correlation.specs.Kernel.{sidesOf, kernelLeft, kernelRight, kernelAnswer}
+use Rattle.window.specs.Origin.{originPads}
+use Rattle.window.proofs.Answered.{not-refused, left-is, right-is}
+use Rattle.correlate_spec.specs.Kernel.{sidesOf, kernelLeft, kernelRight, kernelAnswer}
 use Rattle.correlate.proofs.Accepted.{padded-as, exchanged}
 use borrow.Author.Needs.{needs}
 use Rattle.correlate.proofs.sum_windows.Statement.{statement}

@@ -1,4 +1,4 @@
--- `correlate1d::convolve_cells` meets its contract: one weight multiplies every cell, more are reversed and weighed with the changed origin.
+-- `convolve_cells` meets its contract: one weight multiplies every cell, more are reversed and weighed with the changed origin.
 -- Assumes nothing.
 use mathlib.Core.Path.{_≡_, ap, _∙_}
 use mathlib.Core.Bool.{true}
@@ -7,11 +7,11 @@ use denote.Ref.{now}
 use mir.Syntax.{w64}
 use mir.Val.{toZ, ofZ}
 use Rattle.border.specs.Modes.{borderOf}
-use Rattle.origin.specs.Origin.{badOrigin}
-use Rattle.filter_judge.proofs.Reach.{origin-accepted}
-use Rattle.correlation.specs.Correlated.{changedOrigin, correlate1dZ}
-use Rattle.symmetry.specs.declared.SymmetryState.the-variants.{NonSymmetric}
-use Rattle.correlation.specs.Weighed.{wholeOps}
+use Rattle.window.specs.Origin.{badOrigin}
+use Rattle.min_max_judge.proofs.Reach.{origin-accepted}
+use Rattle.correlate_spec.specs.Correlated.{changedOrigin, correlate1dZ}
+use Rattle.symmetry_spec.specs.declared.SymmetryState.the-variants.{NonSymmetric}
+use Rattle.correlate_spec.specs.Weighed.{wholeOps}
 use Rattle.correlate1d.proofs.Passed.{passed}
 use Rattle.correlate1d.proofs.Accepted.{scales-read, scaled-cells, weighs-accepted}
 use Rattle.correlate1d.proofs.Weighed.{weighs-as}

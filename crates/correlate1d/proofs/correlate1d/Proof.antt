@@ -1,4 +1,4 @@
--- `correlate1d::correlate1d` meets its contract: refused by the judge's number, or the answer of an accepted call.
+-- `correlate1d` meets its contract: refused by the judge's number, or the answer of an accepted call.
 -- Assumes nothing.
 use mathlib.Core.Path.{_≡_, sym, ap, _∙_}
 use mathlib.Core.Bool.{false}
@@ -10,7 +10,7 @@ use mir.Val.{toZ, ofZ}
 use Rattle.numbers.specs.Refusal.{refusalOf}
 use Rattle.numbers.proofs.Refusal.{answers-refused, answers-accepted}
 use Rattle.border.specs.Modes.{borderOf}
-use Rattle.correlation.specs.Correlated.{correlate1dZ}
+use Rattle.correlate_spec.specs.Correlated.{correlate1dZ}
 use Rattle.correlate_judge.specs.Judge.{correlateJudged}
 use borrow.Author.Needs.{needs}
 use Rattle.correlate1d.proofs.correlate1d.Statement.{statement}

@@ -1,4 +1,4 @@
--- `correlate1d::correlate_cells` meets its contract: one weight multiplies every cell, more are weighed.
+-- `correlate_cells` meets its contract: one weight multiplies every cell, more are weighed.
 -- Assumes nothing.
 use mathlib.Core.Path.{_≡_, sym, ap, subst, _∙_}
 use mathlib.Core.Bool.{false}
@@ -8,9 +8,9 @@ use denote.Ref.{now}
 use mir.Syntax.{w64}
 use mir.Val.{toZ, ofZ}
 use Rattle.border.specs.Modes.{borderOf}
-use Rattle.correlation.specs.Correlated.{correlate1dZ}
-use Rattle.symmetry.specs.declared.SymmetryState.the-variants.{NonSymmetric}
-use Rattle.correlation.specs.Weighed.{wholeOps}
+use Rattle.correlate_spec.specs.Correlated.{correlate1dZ}
+use Rattle.symmetry_spec.specs.declared.SymmetryState.the-variants.{NonSymmetric}
+use Rattle.correlate_spec.specs.Weighed.{wholeOps}
 use Rattle.correlate1d.specs.Weighs.{Weighs}
 use Rattle.correlate1d.proofs.Passed.{passed}
 use Rattle.correlate1d.proofs.Accepted.{scales-read, scaled-cells, weighs-accepted}

@@ -1,4 +1,4 @@
--- `correlate1d::rows` meets its contract: every row holds by computing.
+-- `rows` meets its contract: every row holds by computing.
 -- Assumes nothing.
 use mathlib.Core.Path.{refl}
 use Rattle.correlate1d.proofs.rows.Statement.{statement}

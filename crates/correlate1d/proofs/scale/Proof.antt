@@ -1,4 +1,4 @@
--- `correlate1d::scale` meets its contract: the output is filled from the front with products, each of which fits.
+-- `scale` meets its contract: the output is filled from the front with products, each of which fits.
 -- Assumes nothing.
 use mathlib.Core.Path.{_≡_, refl, sym, ap, _∙_}
 use Prim.Native.Nat.{_-_, _≤_}
@@ -12,8 +12,8 @@ use mir.Val.{toZ}
 use mir.ValLaws.{toZ-ofZ}
 use Rattle.numbers.specs.Lists.{tabulate}
 use Rattle.numbers.proofs.Stored.{Stored, front-none, front-more, front-all}
-use Rattle.correlation.proofs.Reversed.{map-table}
-use Rattle.line_sums.proofs.Computed.{computed-read}
+use Rattle.correlate_spec.proofs.Reversed.{map-table}
+use Rattle.correlate_spec.proofs.Computed.{computed-read}
 use Rattle.correlate1d.proofs.Stores.{scaled}
 use borrow.Author.Needs.{needs}
 use Rattle.correlate1d.proofs.scale.Statement.{statement}

@@ -1,4 +1,4 @@
--- `correlate1d::weigh` meets its contract: an accepted origin has its pads, and the lanes are filtered with them.
+-- `weigh` meets its contract: an accepted origin has its pads, and the lanes are filtered with them.
 -- Assumes nothing.
 use Prim.Native.Nat.{_-_, _/_}
 use mathlib.Core.Path.{_≡_, ap, _∙_}
@@ -6,10 +6,10 @@ use denote.Ref.{now}
 use lib.ListN.{length}
 use mir.Syntax.{w64}
 use mir.Val.{toZ, ofZ}
-use Rattle.origin.specs.Origin.{originPads}
-use Rattle.symmetry.specs.declared.SymmetryState.the-variants.{NonSymmetric}
-use Rattle.correlation.specs.Weighed.{wholeOps}
-use Rattle.filter_judge.proofs.Reach.{PadsAre, origin-refused, pads-are}
+use Rattle.window.specs.Origin.{originPads}
+use Rattle.symmetry_spec.specs.declared.SymmetryState.the-variants.{NonSymmetric}
+use Rattle.correlate_spec.specs.Weighed.{wholeOps}
+use Rattle.min_max_judge.proofs.Reach.{PadsAre, origin-refused, pads-are}
 use Rattle.correlate1d.proofs.Weighed.{window-origin, two-weights, sweep-weighed, weighing, weighed-answer}
 use borrow.Author.Needs.{needs}
 use Rattle.correlate1d.proofs.weigh.Statement.{statement}

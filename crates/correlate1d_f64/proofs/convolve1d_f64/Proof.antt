@@ -1,4 +1,4 @@
--- `correlate1d_f64::convolve1d_f64` meets its contract: refused by the judge's number, or the answer of an accepted call.
+-- `convolve1d_f64` meets its contract: refused by the judge's number, or the answer of an accepted call.
 -- Assumes nothing.
 use mathlib.Core.Path.{_≡_, sym, ap, _∙_}
 use mathlib.Core.Bool.{true}
@@ -11,7 +11,7 @@ use mir.Val.{toZ, ofZ}
 use Rattle.numbers.specs.Refusal.{refusalOf}
 use Rattle.numbers.proofs.Refusal.{answers-refused, answers-accepted}
 use Rattle.border.specs.Modes.{borderOfF64}
-use Rattle.correlation.specs.Correlated.{convolve1dF}
+use Rattle.correlate_spec.specs.Correlated.{convolve1dF}
 use Rattle.correlate_judge.specs.Judge.{correlateJudgedF}
 use Rattle.correlate1d.proofs.Passed.{passed-float}
 use borrow.Author.Needs.{needs}

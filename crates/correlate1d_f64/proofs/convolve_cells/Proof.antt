@@ -1,4 +1,4 @@
--- `correlate1d_f64::convolve_cells` meets its contract: one weight multiplies every cell, more are reversed and weighed with the changed origin.
+-- `convolve_cells` meets its contract: one weight multiplies every cell, more are reversed and weighed with the changed origin.
 -- Assumes nothing.
 use mathlib.Core.Path.{_≡_, ap, _∙_}
 use mathlib.Core.Bool.{true}
@@ -7,11 +7,11 @@ use denote.Ref.{now}
 use mir.Syntax.{w64}
 use mir.Val.{toZ, ofZ}
 use Rattle.border.specs.Modes.{borderOfF64}
-use Rattle.origin.specs.Origin.{badOrigin}
-use Rattle.filter_judge.proofs.Reach.{origin-accepted}
-use Rattle.symmetry.specs.Class.{classF}
-use Rattle.correlation.specs.Weighed.{floatOps}
-use Rattle.correlation.specs.Correlated.{changedOrigin, correlate1dF}
+use Rattle.window.specs.Origin.{badOrigin}
+use Rattle.min_max_judge.proofs.Reach.{origin-accepted}
+use Rattle.symmetry_spec.specs.Class.{classF}
+use Rattle.correlate_spec.specs.Weighed.{floatOps}
+use Rattle.correlate_spec.specs.Correlated.{changedOrigin, correlate1dF}
 use Rattle.correlate1d.proofs.Passed.{passed-float, placed-accepted}
 use Rattle.correlate1d.proofs.Stores.{one-turned}
 use Rattle.correlate1d.proofs.Weighed.{placed-as}

@@ -1,4 +1,4 @@
--- `correlate1d_f64::correlate_cells` meets its contract: one weight multiplies every cell, more are weighed.
+-- `correlate_cells` meets its contract: one weight multiplies every cell, more are weighed.
 -- Assumes nothing.
 use mathlib.Core.Path.{_≡_, refl, ap, _∙_}
 use mathlib.Core.Bool.{false}
@@ -8,9 +8,9 @@ use denote.Ref.{now}
 use mir.Syntax.{w64}
 use mir.Val.{toZ, ofZ}
 use Rattle.border.specs.Modes.{borderOfF64}
-use Rattle.symmetry.specs.Class.{classF}
-use Rattle.correlation.specs.Weighed.{floatOps}
-use Rattle.correlation.specs.Correlated.{correlate1dF}
+use Rattle.symmetry_spec.specs.Class.{classF}
+use Rattle.correlate_spec.specs.Weighed.{floatOps}
+use Rattle.correlate_spec.specs.Correlated.{correlate1dF}
 use Rattle.correlate1d.proofs.Passed.{passed-float, placed-accepted}
 use Rattle.correlate1d.proofs.Stores.{one-weight}
 use Rattle.correlate1d.proofs.Weighed.{placed-as}

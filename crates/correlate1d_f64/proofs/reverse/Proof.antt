@@ -1,4 +1,4 @@
--- `correlate1d_f64::reverse` meets its contract: the buffer is filled from the front with the weights from the last on.
+-- `reverse` meets its contract: the buffer is filled from the front with the weights from the last on.
 -- Assumes nothing.
 use mathlib.Core.Path.{_≡_, sym, ap, _∙_}
 use Prim.Native.Nat.{_-_, _≤_}
@@ -9,7 +9,7 @@ use lib.ListN.{length, getD}
 use denote.Ref.{now}
 use Rattle.numbers.specs.Lists.{tabulate}
 use Rattle.numbers.proofs.Stored.{Stored, front-none, front-more, front-all}
-use Rattle.correlation.proofs.Reversed.{reverse-table}
+use Rattle.correlate_spec.proofs.Reversed.{reverse-table}
 use borrow.Author.Needs.{needs}
 use Rattle.correlate1d_f64.proofs.reverse.Statement.{statement}
 use Rattle.correlate1d_f64.proofs.reverse.Tie as tie

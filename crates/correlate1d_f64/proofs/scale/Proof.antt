@@ -1,4 +1,4 @@
--- `correlate1d_f64::scale` meets its contract: the output is filled from the front with products.
+-- `scale` meets its contract: the output is filled from the front with products.
 -- Assumes nothing.
 use mathlib.Core.Path.{_≡_, refl, sym, ap, _∙_}
 use Prim.Native.Nat.{_-_, _≤_}
@@ -9,7 +9,7 @@ use lib.ListN.{length, getD}
 use denote.Ref.{now}
 use Rattle.numbers.specs.Lists.{tabulate}
 use Rattle.numbers.proofs.Stored.{Stored, front-none, front-more, front-all}
-use Rattle.correlation.proofs.Reversed.{map-table}
+use Rattle.correlate_spec.proofs.Reversed.{map-table}
 use borrow.Author.Needs.{needs}
 use Rattle.correlate1d_f64.proofs.scale.Statement.{statement}
 use Rattle.correlate1d_f64.proofs.scale.Tie as tie

@@ -1,4 +1,4 @@
--- `correlate1d_f64::weigh` meets its contract: an accepted origin has its pads, and the lanes are summed with them.
+-- `weigh` meets its contract: an accepted origin has its pads, and the lanes are summed with them.
 -- Assumes nothing.
 use Prim.Native.Nat.{_-_, _/_}
 use mathlib.Core.Path.{_≡_, ap, sym, _∙_}
@@ -7,13 +7,13 @@ use lib.Ieee.{nan}
 use lib.ListN.{length}
 use mir.Syntax.{w64}
 use mir.Val.{toZ, ofZ}
-use Rattle.origin.specs.Origin.{originPads}
-use Rattle.filter_judge.proofs.Reach.{PadsAre, origin-refused, pads-are}
-use Rattle.symmetry.specs.Class.{classF}
-use Rattle.symmetry.specs.declared.SymmetryState.{SymmetryState}
+use Rattle.window.specs.Origin.{originPads}
+use Rattle.min_max_judge.proofs.Reach.{PadsAre, origin-refused, pads-are}
+use Rattle.symmetry_spec.specs.Class.{classF}
+use Rattle.symmetry_spec.specs.declared.SymmetryState.{SymmetryState}
 use Rattle.border.specs.Modes.{borderOfF64}
-use Rattle.correlation.specs.Weighed.{floatOps}
-use Rattle.correlation.specs.Correlated.{correlatedLine}
+use Rattle.correlate_spec.specs.Weighed.{floatOps}
+use Rattle.correlate_spec.specs.Correlated.{correlatedLine}
 use Rattle.lanes.specs.Lanes.{alongAxis}
 use Rattle.correlate1d.proofs.Weighed.{window-origin, two-weights, pads-total, sweep-weighed, weighed-answer}
 use borrow.Author.Needs.{needs}

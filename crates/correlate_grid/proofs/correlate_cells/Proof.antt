@@ -1,4 +1,4 @@
--- `correlate_grid::correlate_cells` meets its contract: the sums on three axes are the answer.
+-- `correlate_cells` meets its contract: the sums on three axes are the answer.
 -- Assumes nothing.
 use Rattle.correlate_grid.proofs.Accepted.{laid-on, answered}
 use borrow.Author.Needs.{needs}

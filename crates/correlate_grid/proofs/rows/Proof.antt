@@ -1,10 +1,10 @@
--- `correlate_grid::rows` meets its contract: every row holds by computing.
+-- `rows` meets its contract: every row holds by computing.
 -- Assumes nothing.
 use mathlib.Core.Path.{refl}
 use Rattle.numbers.specs.Lists.{tabulate}
-use Rattle.array.specs.Grid.{placeOf, coordinate}
+use Rattle.array_spec.specs.Grid.{placeOf, coordinate}
 use Rattle.border.specs.Border.{cellFor, allInside, extendedGrid}
-use Rattle.correlation.specs.Weighed.{summed}
+use Rattle.correlate_spec.specs.Weighed.{summed}
 use Rattle.correlate_grid.specs.Axes.{sourceFor}
 use Rattle.correlate_grid.specs.ByRows.{rowSum, rowsTo}
 use Rattle.correlate_grid.proofs.rows.Statement.{statement}

@@ -1,4 +1,4 @@
--- `correlate_judge::judge_correlate` meets its contract: the grid's number, or the number of the weights and their place; condition 12 never holds.
+-- `judge_correlate` meets its contract: the grid's number, or the number of the weights and their place; condition 12 never holds.
 -- Assumes nothing.
 use mathlib.Core.Path.{_≡_, refl}
 use mir.Syntax.{w64}
@@ -6,7 +6,7 @@ use mir.Val.{toZ, ofZ}
 use lib.ListN.{length, drop}
 use denote.Ref.{now}
 use Rattle.numbers.specs.Refusal.{Judged}
-use Rattle.array.specs.Conditions.{badLevel}
+use Rattle.array_spec.specs.Conditions.{badLevel}
 use Rattle.border.specs.Modes.{borderOf}
 use Rattle.correlate_judge.specs.Judge.{badWeight, correlateJudged}
 use Rattle.correlate_judge.proofs.Chain.{grid-refused, grid-passed, levels-passed, weighed, sums-passed}

@@ -1,4 +1,4 @@
--- `correlate_judge::judge_correlate_f64` meets its contract: the grid's number, or the number of the weights and their place.
+-- `judge_correlate_f64` meets its contract: the grid's number, or the number of the weights and their place.
 -- Assumes nothing.
 use mathlib.Core.Path.{_≡_, ap, _∙_}
 use mir.Syntax.{w64}
@@ -6,7 +6,7 @@ use mir.Val.{toZ, ofZ}
 use lib.ListN.{length, drop}
 use denote.Ref.{now}
 use Rattle.numbers.specs.Refusal.{Judged}
-use Rattle.array.specs.Conditions.{badFloat}
+use Rattle.array_spec.specs.Conditions.{badFloat}
 use Rattle.border.specs.Modes.{borderOf, borderOfF64}
 use Rattle.border.specs.declared.BorderMode.{BorderMode}
 use Rattle.pad_line.specs.Line.{badPad}

@@ -1,4 +1,4 @@
--- `correlate_judge::judge_weighing` meets its contract: each return has the answers of the conditions on its way.
+-- `judge_weighing` meets its contract: each return has the answers of the conditions on its way.
 -- Assumes nothing.
 use mathlib.Core.Path.{_≡_, refl, ap, _∙_}
 use mathlib.Core.Bool.{false, not, _&&_}
@@ -8,10 +8,10 @@ use lib.Dec.{eqb}
 use denote.Ref.{now}
 use Rattle.numbers.specs.Ranges.{outside}
 use Rattle.numbers.proofs.Tests.{told}
-use Rattle.array.specs.Conditions.{badAxis}
-use Rattle.array.specs.Grid.{lengthOf}
+use Rattle.array_spec.specs.Conditions.{badAxis}
+use Rattle.array_spec.specs.Grid.{lengthOf}
 use Rattle.border.specs.Modes.{borderOf}
-use Rattle.filter_judge.specs.Judge.{windowOrigin, badReach}
+use Rattle.min_max_judge.specs.Judge.{windowOrigin, badReach}
 use Rattle.correlate_judge.specs.Judge.{appliedOrigin}
 use borrow.Author.Needs.{needs}
 use Rattle.correlate_judge.proofs.judge_weighing.Statement.{statement}

@@ -1,4 +1,4 @@
--- `correlate_line::correlate_line` meets its contract: raised or added to a row of 0, the sums are the plain ones.
+-- `correlate_line` meets its contract: raised or added to a row of 0, the sums are the plain ones.
 -- Assumes nothing.
 use Rattle.correlate_line.proofs.FromZero.{zero-addable, zero-added}
 use borrow.Author.Needs.{needs}

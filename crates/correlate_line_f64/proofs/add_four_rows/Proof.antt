@@ -1,4 +1,4 @@
--- `correlate_line_f64::add_four_rows` meets its contract: along the row, each cell gets its next four terms.
+-- `add_four_rows` meets its contract: along the row, each cell gets its next four terms.
 -- Assumes nothing.
 use mathlib.Core.Path.{_≡_, refl}
 use Prim.Native.Nat.{_+_, _-_, _≤_}
@@ -8,7 +8,7 @@ use lib.Dec.{ltb}
 use lib.Ieee.{nan}
 use lib.ListN.{length}
 use Rattle.numbers.proofs.Stored.{Stored, front-none, front-all}
-use Rattle.correlation.specs.Weighed.{floatOps, plainTo}
+use Rattle.correlate_spec.specs.Weighed.{floatOps, plainTo}
 use Rattle.correlate_line_f64.proofs.Turns.{four-stored}
 use borrow.Author.Needs.{needs}
 use Rattle.correlate_line_f64.proofs.add_four_rows.Statement.{statement}

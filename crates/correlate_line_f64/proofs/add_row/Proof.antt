@@ -1,4 +1,4 @@
--- `correlate_line_f64::add_row` meets its contract: along the row, each cell gets its next term.
+-- `add_row` meets its contract: along the row, each cell gets its next term.
 -- Assumes nothing.
 use mathlib.Core.Path.{_≡_, refl}
 use Prim.Native.Nat.{_+_, _-_, _≤_}
@@ -8,8 +8,8 @@ use lib.Ieee.{nan}
 use lib.ListN.{length}
 use Rattle.numbers.proofs.Stored.{Stored, front-none, front-all}
 use denote.Ref.{now}
-use Rattle.correlation.specs.Weighed.{floatOps, plainTo}
-use Rattle.correlation.proofs.Along.{plain-more}
+use Rattle.correlate_spec.specs.Weighed.{floatOps, plainTo}
+use Rattle.correlate_spec.proofs.Along.{plain-more}
 use borrow.Author.Needs.{needs}
 use Rattle.correlate_line_f64.proofs.add_row.Statement.{statement}
 use Rattle.correlate_line_f64.proofs.add_row.Tie as tie

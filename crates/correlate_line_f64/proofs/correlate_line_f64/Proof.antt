@@ -1,4 +1,4 @@
--- `correlate_line_f64::correlate_line_f64` meets its contract: each class has a line of its own.
+-- `correlate_line_f64` meets its contract: each class has a line of its own.
 -- Assumes nothing.
 use borrow.Author.Needs.{needs}
 use Rattle.correlate_line_f64.proofs.correlate_line_f64.Statement.{statement}

@@ -1,12 +1,12 @@
--- `correlate_line_f64::plain_line` meets its contract: from a row that is begun, each turn adds the terms of four weights to the whole row, and then of one.
+-- `plain_line` meets its contract: from a row that is begun, each turn adds the terms of four weights to the whole row, and then of one.
 -- Assumes nothing.
 use mathlib.Core.Path.{_≡_, refl, _∙_}
 use Prim.Native.Nat.{_-_, _≤_}
 use native.Mathlib.Omega.{arith}
 use denote.Ref.{now}
 use lib.ListN.{length}
-use Rattle.correlation.specs.Weighed.{floatOps, plainTo}
-use Rattle.correlation.proofs.Along.{Row, row-made, row-length, row-own, row-next, plain-end}
+use Rattle.correlate_spec.specs.Weighed.{floatOps, plainTo}
+use Rattle.correlate_spec.proofs.Along.{Row, row-made, row-length, row-own, row-next, plain-end}
 use borrow.Author.Needs.{needs}
 use Rattle.correlate_line_f64.proofs.plain_line.Statement.{statement}
 use Rattle.correlate_line_f64.proofs.plain_line.Tie as tie

@@ -1,4 +1,4 @@
--- `correlate_line_f64::start_four_rows` meets its contract: the row is filled from the front with sums of four terms.
+-- `start_four_rows` meets its contract: the row is filled from the front with sums of four terms.
 -- Assumes nothing.
 use mathlib.Core.Path.{_≡_, refl}
 use Prim.Native.Nat.{_-_, _≤_}
@@ -8,7 +8,7 @@ use lib.Dec.{ltb}
 use lib.Ieee.{nan, ofBits}
 use lib.ListN.{length}
 use Rattle.numbers.proofs.Stored.{Stored, front-none, front-more, front-all}
-use Rattle.correlation.specs.Weighed.{floatOps, plainTo}
+use Rattle.correlate_spec.specs.Weighed.{floatOps, plainTo}
 use Rattle.correlate_line_f64.proofs.Turns.{four-first}
 use borrow.Author.Needs.{needs}
 use Rattle.correlate_line_f64.proofs.start_four_rows.Statement.{statement}

@@ -1,4 +1,4 @@
--- `correlate_line_f64::start_row` meets its contract: the row is filled from the front with sums of one term.
+-- `start_row` meets its contract: the row is filled from the front with sums of one term.
 -- Assumes nothing.
 use mathlib.Core.Path.{_≡_, refl}
 use Prim.Native.Nat.{_-_, _≤_}
@@ -8,8 +8,8 @@ use lib.Dec.{ltb}
 use lib.Ieee.{nan, ofBits}
 use lib.ListN.{length}
 use Rattle.numbers.proofs.Stored.{Stored, front-none, front-more, front-all}
-use Rattle.correlation.specs.Weighed.{floatOps, plainTo}
-use Rattle.correlation.proofs.Along.{plain-one}
+use Rattle.correlate_spec.specs.Weighed.{floatOps, plainTo}
+use Rattle.correlate_spec.proofs.Along.{plain-one}
 use borrow.Author.Needs.{needs}
 use Rattle.correlate_line_f64.proofs.start_row.Statement.{statement}
 use Rattle.correlate_line_f64.proofs.start_row.Tie as tie

@@ -1,4 +1,4 @@
--- `gradient::filter` meets its contract: refused by the judge's number, or the passes' answer, and the second grid cleared.
+-- `filter` meets its contract: refused by the judge's number, or the passes' answer, and the second grid cleared.
 -- Assumes nothing.
 use Prim.Native.Nat.{ℕ}
 use mathlib.Core.Path.{_≡_, sym, ap, _∙_}
@@ -8,7 +8,7 @@ use lib.ListN.{length, replicate}
 use Rattle.numbers.specs.Refusal.{refusalOf}
 use Rattle.numbers.proofs.Refusal.{answers-refused, answers-accepted}
 use Rattle.border.specs.Modes.{borderOf}
-use Rattle.gradient_judge.specs.Judge.{gradientJudged}
+use Rattle.gradient_spec.specs.Judge.{gradientJudged}
 use borrow.Author.Needs.{needs}
 use Rattle.gradient.proofs.filter.Statement.{statement}
 use Rattle.gradient.proofs.filter.Tie as tie

@@ -1,4 +1,4 @@
--- `lane_cells::gather` meets its contract: the line is filled from the front with the cells of the lane.
+-- `gather` meets its contract: the line is filled from the front with the cells of the lane.
 -- Assumes nothing.
 use borrow.Author.Needs.{needs}
 use mathlib.Core.Path.{_≡_, refl}

@@ -1,4 +1,4 @@
--- `lane_cells::read_from` meets its contract: neighbouring cells are 1 apart.
+-- `read_from` meets its contract: neighbouring cells are 1 apart.
 -- Assumes nothing.
 use mathlib.Core.Path.{sym, ap, subst, _∙_}
 use Prim.Native.Nat.{ℕ, _+_, _*_, _<_}

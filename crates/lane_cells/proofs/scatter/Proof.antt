@@ -1,4 +1,4 @@
--- `lane_cells::scatter` meets its contract: the cells of the lane are written one after the other, and no other cell changes.
+-- `scatter` meets its contract: the cells of the lane are written one after the other, and no other cell changes.
 -- Assumes nothing.
 use borrow.Author.Needs.{needs}
 use mathlib.Core.Path.{_≡_, refl}

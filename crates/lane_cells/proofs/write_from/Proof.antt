@@ -1,4 +1,4 @@
--- `lane_cells::write_from` meets its contract: neighbouring cells are 1 apart.
+-- `write_from` meets its contract: neighbouring cells are 1 apart.
 -- Assumes nothing.
 use mathlib.Core.Path.{_≡_, sym, ap, subst, _∙_}
 use Prim.Native.Nat.{ℕ, _+_, _*_, _<_}

@@ -1,4 +1,4 @@
--- `lane_cells::write_lane` meets its contract: the first place tells whether the lane is inside.
+-- `write_lane` meets its contract: the first place tells whether the lane is inside.
 -- Assumes nothing.
 use denote.Ref.{now}
 use lib.IntN.{pos}

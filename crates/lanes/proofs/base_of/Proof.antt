@@ -1,4 +1,4 @@
--- `lanes::base_of` meets its contract: neighbouring cells and the first run of lanes by their laws, all others by the definition; no product wraps.
+-- `base_of` meets its contract: neighbouring cells and the first run of lanes by their laws, all others by the definition; no product wraps.
 -- Assumes nothing.
 use mathlib.Core.Path.{refl, sym, ap, _∙_}
 use Prim.Native.Nat.{ℕ, _^_, _<_}

@@ -1,4 +1,4 @@
--- `lanes::first_place` meets its contract: each early return has a reason why the lane is not inside, and past all of them it is; no product wraps.
+-- `first_place` meets its contract: each early return has a reason why the lane is not inside, and past all of them it is; no product wraps.
 -- Assumes nothing.
 use mathlib.Core.Path.{sym, _∙_}
 use Prim.Native.Nat.{ℕ, _-_, _*_, _≤_, _<_, _^_}

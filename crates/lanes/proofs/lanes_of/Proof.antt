@@ -1,4 +1,4 @@
--- `lanes::lanes_of` meets its contract: the count is 0 exactly where the shape is refused.
+-- `lanes_of` meets its contract: the count is 0 exactly where the shape is refused.
 -- Assumes nothing.
 use borrow.Author.Needs.{needs}
 use mathlib.Core.Path.{_≡_, sym, subst, _∙_}
@@ -7,11 +7,11 @@ use mathlib.Core.List.{List}
 use Prim.Native.Nat.{ℕ, _/_, _≤_, _<_}
 use native.Mathlib.Omega.{arith}
 use denote.Ref.{now}
-use Rattle.array.specs.Conditions.{badShape, gridCount}
+use Rattle.array_spec.specs.Conditions.{badShape, gridCount}
 use Rattle.lanes.specs.declared.Lanes.{Lanes}
 use Rattle.numbers.proofs.Tests.{cond-yes, cond-no}
-use Rattle.array.proofs.Places.{length-pos}
-use Rattle.array.proofs.Shapes.{shape-accepted, count-some, count-none, count-accepted}
+use Rattle.array_spec.proofs.Places.{length-pos}
+use Rattle.array_spec.proofs.Shapes.{shape-accepted, count-some, count-none, count-accepted}
 use Rattle.lanes.proofs.lanes_of.Statement.{statement}
 use Rattle.lanes.proofs.lanes_of.Tie as tie
 

@@ -1,4 +1,4 @@
--- `lanes::next_start` meets its contract: inside a run and at its end by their laws; no product wraps.
+-- `next_start` meets its contract: inside a run and at its end by their laws; no product wraps.
 -- Assumes nothing.
 use Prim.Native.Nat.{ℕ, _-_, _*_, _≤_, _<_, _^_}
 use native.Mathlib.Nat.{mul-le-mul}

@@ -1,8 +1,8 @@
--- `lanes::rows` meets its contract: every row holds by computing.
+-- `rows` meets its contract: every row holds by computing.
 -- Assumes nothing.
 use mathlib.Core.Path.{refl}
 use Rattle.numbers.specs.Lists.{tabulate}
-use Rattle.array.specs.Conditions.{badShape}
+use Rattle.array_spec.specs.Conditions.{badShape}
 use Rattle.lanes.specs.Lanes.{laneAt, withLane, laneInside, alongAxis}
 use Rattle.lanes.proofs.rows.Statement.{statement}
 use Rattle.lanes.proofs.rows.Tie as tie

@@ -1,4 +1,4 @@
--- `lanes::stride_of` meets its contract: the product of the lengths after the axis, of which there are at most two.
+-- `stride_of` meets its contract: the product of the lengths after the axis, of which there are at most two.
 -- Assumes nothing.
 use borrow.Author.Needs.{needs}
 use mathlib.Core.Path.{sym, ap, _∙_}
@@ -8,8 +8,8 @@ use native.Mathlib.Nat.{mul-le-mul}
 use native.Mathlib.Omega.{arith}
 use lib.ListN.{length}
 use denote.Ref.{now}
-use Rattle.array.specs.Grid.{strideOf}
-use Rattle.array.proofs.Shapes.{stride-zero, stride-one, stride-past}
+use Rattle.array_spec.specs.Grid.{strideOf}
+use Rattle.array_spec.proofs.Shapes.{stride-zero, stride-one, stride-past}
 use Rattle.lanes.proofs.stride_of.Statement.{statement}
 use Rattle.lanes.proofs.stride_of.Tie as tie
 

@@ -1,4 +1,4 @@
--- `median::bad_axes` meets its contract: each return has the answer of the condition on its way.
+-- `bad_axes` meets its contract: each return has the answer of the condition on its way.
 -- Assumes nothing.
 use Rattle.numbers.proofs.Tests.{told}
 use borrow.Author.Needs.{needs}

@@ -1,4 +1,4 @@
--- `median::bad_single` meets its contract: no axis before the one that the loop has reached has one cell.
+-- `bad_single` meets its contract: no axis before the one that the loop has reached has one cell.
 -- Assumes nothing.
 use mathlib.Core.Path.{_≡_, refl, sym}
 use Prim.Native.Nat.{_≤_, _-_}

@@ -1,4 +1,4 @@
--- `median::judge_median` meets its contract: each return has the answers of the conditions on its way.
+-- `judge_median` meets its contract: each return has the answers of the conditions on its way.
 -- Assumes nothing.
 use Rattle.numbers.proofs.Tests.{told}
 use borrow.Author.Needs.{needs}

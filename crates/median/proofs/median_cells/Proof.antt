@@ -1,4 +1,4 @@
--- `median::median_cells` meets its contract: the three lengths are the shape.
+-- `median_cells` meets its contract: the three lengths are the shape.
 -- Assumes nothing.
 use denote.Ref.{now}
 use Rattle.median.proofs.Accepted.{mask-laid, mask-answered}

@@ -1,4 +1,4 @@
--- `median::median_filter` meets its contract: refused by the judge's number, or the answer of an accepted call.
+-- `median_filter` meets its contract: refused by the judge's number, or the answer of an accepted call.
 -- Assumes nothing.
 use mathlib.Core.Path.{sym, _∙_}
 use Rattle.numbers.proofs.Refusal.{answers-refused, answers-accepted}

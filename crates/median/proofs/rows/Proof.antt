@@ -1,7 +1,7 @@
--- `median::rows` meets its contract: every row holds by computing.
+-- `rows` meets its contract: every row holds by computing.
 -- Assumes nothing.
 use mathlib.Core.Path.{refl}
-use Rattle.array.specs.Conditions.{badShape, gridCount}
+use Rattle.array_spec.specs.Conditions.{badShape, gridCount}
 use Rattle.median.proofs.rows.Statement.{statement}
 use Rattle.median.proofs.rows.Tie as tie
 

@@ -1,4 +1,4 @@
--- `pad::rows` meets its contract: every row holds by computing.
+-- `rows` meets its contract: every row holds by computing.
 -- Assumes nothing.
 use mathlib.Core.Path.{_≡_, refl}
 use mathlib.Core.Bool.{false, true≢false}
@@ -8,12 +8,12 @@ use native.Mathlib.Omega.{arith}
 use lib.IntN.{pos}
 use lib.ListN.{getD}
 use Rattle.numbers.specs.Rows.{wholes}
-use Rattle.pad_levels.specs.Pads.{middleFrom}
+use Rattle.pad_spec.specs.Pads.{middleFrom}
 use Rattle.numbers.specs.Lists.{tabulate}
-use Rattle.array.specs.Grid.{placeOf, coordinate}
+use Rattle.array_spec.specs.Grid.{placeOf, coordinate}
 use Rattle.border.specs.Border.{cellFor, extendedLane}
 use Rattle.pad_line.specs.Line.{paddedAt}
-use Rattle.pad_levels.specs.Levels.{levelTo}
+use Rattle.pad_spec.specs.Levels.{levelTo}
 use Rattle.pad.specs.Laid.{laidOver}
 use Rattle.pad.proofs.rows.Statement.{statement}
 use Rattle.pad.proofs.rows.Tie as tie

@@ -1,9 +1,9 @@
--- `pad_judge::bad_constant` meets its contract: under Constant it is what `bad_level` ensures of the level that the arm binds.
+-- `bad_constant` meets its contract: under Constant it is what `bad_level` ensures of the level that the arm binds.
 -- Assumes nothing.
 use mathlib.Core.Path.{_≡_, ap, _∙_}
 use mir.Syntax.{w64}
 use mir.Val.{toZ, ofZ}
-use Rattle.array.specs.Conditions.{badLevel}
+use Rattle.array_spec.specs.Conditions.{badLevel}
 use borrow.Author.Needs.{needs}
 use Rattle.pad_judge.proofs.bad_constant.Statement.{statement}
 use Rattle.pad_judge.proofs.bad_constant.Tie as tie

@@ -1,4 +1,4 @@
--- `pad_judge::bad_reach` meets its contract: no axis before the one that the loop has reached is refused.
+-- `bad_reach` meets its contract: no axis before the one that the loop has reached is refused.
 -- Assumes nothing.
 use mathlib.Core.Path.{_≡_, refl}
 use Prim.Native.Nat.{_-_, _≤_}
@@ -8,8 +8,8 @@ use denote.Ref.{now}
 use lib.ListN.{length, drop}
 use Rattle.numbers.specs.Lists.{tabulate, anyOf}
 use Rattle.numbers.proofs.Tests.{told}
-use Rattle.pad_levels.specs.Conditions.{badReachOn, badReach}
-use Rattle.pad_levels.proofs.Pairs.{axis-hit, axis-miss, axis-end}
+use Rattle.pad_spec.specs.Conditions.{badReachOn, badReach}
+use Rattle.pad_spec.proofs.PairOf.{axis-hit, axis-miss, axis-end}
 use Rattle.pad_judge.proofs.bad_reach.Statement.{statement}
 use Rattle.pad_judge.proofs.bad_reach.Tie as tie
 

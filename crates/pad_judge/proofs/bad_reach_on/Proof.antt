@@ -1,7 +1,7 @@
--- `pad_judge::bad_reach_on` meets its contract: the axis's length and pair are those of the definition.
+-- `bad_reach_on` meets its contract: the axis's length and pair are those of the definition.
 -- Assumes nothing.
 use denote.Ref.{now}
-use Rattle.pad_levels.proofs.Pairs.{reach-left, reach-right}
+use Rattle.pad_spec.proofs.PairOf.{reach-left, reach-right}
 use borrow.Author.Needs.{needs}
 use Rattle.pad_judge.proofs.bad_reach_on.Statement.{statement}
 use Rattle.pad_judge.proofs.bad_reach_on.Tie as tie

@@ -1,11 +1,11 @@
--- `pad_judge::judge` meets its contract: each return has the answers of the conditions on its way, and condition 12 never holds.
+-- `judge` meets its contract: each return has the answers of the conditions on its way, and condition 12 never holds.
 -- Assumes nothing.
 use denote.Ref.{now}
 use lib.ListN.{length}
 use Rattle.numbers.proofs.Tests.{told}
-use Rattle.pad_levels.specs.Conditions.{padsJudged}
-use Rattle.pad_levels.proofs.Chain.{grid-refused, grid-passed, shape-passed, levels-passed}
-use Rattle.pad_levels.proofs.Sizes.{no-bad-sums}
+use Rattle.pad_spec.specs.Conditions.{padsJudged}
+use Rattle.pad_spec.proofs.Chain.{grid-refused, grid-passed, shape-passed, levels-passed}
+use Rattle.pad_spec.proofs.Sizes.{no-bad-sums}
 use borrow.Author.Needs.{needs}
 use Rattle.pad_judge.proofs.judge.Statement.{statement}
 use Rattle.pad_judge.proofs.judge.Tie as tie

@@ -1,4 +1,4 @@
--- `pad_line::lane_fits` meets its contract: the line is measured part by part, so that no sum wraps, and the first place tells whether the lane is inside.
+-- `lane_fits` meets its contract: the line is measured part by part, so that no sum wraps, and the first place tells whether the lane is inside.
 -- Assumes nothing.
 use Prim.Native.Nat.{_+_}
 use native.Mathlib.Omega.{arith}

@@ -1,4 +1,4 @@
--- `pad_line::pad_from` meets its contract: the cells are read into the middle and extended.
+-- `pad_from` meets its contract: the cells are read into the middle and extended.
 -- Assumes nothing.
 use native.Mathlib.Omega.{arith}
 use borrow.Author.Needs.{needs}

@@ -1,4 +1,4 @@
--- `pad_line::pad_lane` meets its contract: every test that fails leaves the line; where all pass, the lane is padded from its first place on.
+-- `pad_lane` meets its contract: every test that fails leaves the line; where all pass, the lane is padded from its first place on.
 -- Assumes nothing.
 use borrow.Author.Needs.{needs}
 use borrow.Author.Tests.{not-true, not-false}

@@ -1,40 +1,14 @@
--- `pad_line::rows` meets its contract: every row holds by computing.
+-- `rows` meets its contract: the rows of each part.
 -- Assumes nothing.
-use mathlib.Core.Path.{refl}
-use Rattle.numbers.specs.Lists.{tabulate}
-use Rattle.numbers.specs.Windows.{windowOf}
-use Rattle.lanes.specs.Lanes.{laneAt, laneInside}
-use Rattle.border.specs.Border.{cellFor, extendedLane}
-use Rattle.pad_line.specs.Line.{paddedAt, paddedLine, padServes}
+use Rattle.pad_line.proofs.LineRows.{line-rows}
+use Rattle.pad_line.proofs.StepRows.{step-rows}
 use Rattle.pad_line.proofs.rows.Statement.{statement}
 use Rattle.pad_line.proofs.rows.Tie as tie
 
 returns : tie.Need-returns
-unfolding tabulate windowOf laneAt laneInside cellFor extendedLane paddedAt paddedLine padServes
 returns c = record {
-  three-mirror = refl;
-  three-nearest = refl;
-  three-reflect = refl;
-  three-wrap = refl;
-  three-constant = refl;
-  unequal-reflect = refl;
-  unequal-wrap = refl;
-  unequal-constant = refl;
-  no-pads = refl;
-  bad-mirror = refl;
-  bad-reflect = refl;
-  bad-wrap = refl;
-  bad-nearest = refl;
-  bad-constant = refl;
-  one-cell = refl;
-  last-window = refl;
-  past-window = refl;
-  down-reflect = refl;
-  down-nearest = refl;
-  down-past = refl;
-  down-short = refl;
-  down-bad-left = refl;
-  down-bad-right = refl;
+  lines = line-rows;
+  steps = step-rows;
 }
 
 pub rows-spec : {M : Type 1} → statement M

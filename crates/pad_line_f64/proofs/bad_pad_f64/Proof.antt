@@ -1,4 +1,4 @@
--- `pad_line_f64::bad_pad_f64` meets its contract: each arm answers the definition's test; under Mirror a lane of no cells is told apart, since n − 1 is then 0.
+-- `bad_pad_f64` meets its contract: each arm answers the definition's test; under Mirror a lane of no cells is told apart, since n − 1 is then 0.
 -- Assumes nothing.
 use mathlib.Core.Path.{_≡_, refl, ap}
 use Prim.Native.Nat.{_-_}

@@ -1,4 +1,4 @@
--- `pad_line_f64::pad_from_f64` meets its contract: the cells are read into the middle and extended.
+-- `pad_from_f64` meets its contract: the cells are read into the middle and extended.
 -- Assumes nothing.
 use native.Mathlib.Omega.{arith}
 use borrow.Author.Needs.{needs}

@@ -1,4 +1,4 @@
--- `pad_line_f64::rows` meets its contract: every row holds by computing.
+-- `rows` meets its contract: every row holds by computing.
 -- Assumes nothing.
 use mathlib.Core.Path.{refl}
 use Rattle.numbers.specs.Lists.{tabulate}

@@ -2,7 +2,7 @@
 -- Assumes nothing.
 use mathlib.Core.Path.{refl}
 use lib.Ieee.{ofBits, toBits, isNan}
-use Rattle.text.specs.Reading.{numeralFrom}
+use Rattle.text_spec.specs.Reading.{numeralFrom}
 use Rattle.text_f64.proofs.rows.Statement.{statement}
 use Rattle.text_f64.proofs.rows.Tie as tie
 

@@ -1,7 +1,7 @@
--- `uniform::pass` meets its contract: a window of size cells is its pads and the cell itself.
+-- `pass` meets its contract: a window of size cells is its pads and the cell itself.
 -- Assumes nothing.
 use native.Mathlib.Omega.{arith}
-use Rattle.uniform_judge.proofs.Window.{size-some}
+use Rattle.uniform_spec.proofs.Window.{size-some}
 use Rattle.uniform.proofs.Accepted.{pass-sweep, pass-averaging, pass-filled}
 use borrow.Author.Needs.{needs}
 use Rattle.uniform.proofs.pass.Statement.{statement}

@@ -1,4 +1,4 @@
--- `uniform::passes` meets its contract: every pass is accepted, and the passes are those of the answer.
+-- `passes` meets its contract: every pass is accepted, and the passes are those of the answer.
 -- Assumes nothing.
 use mathlib.Core.Path.{_≡_, _∙_}
 use mathlib.Core.List.{List}
@@ -9,7 +9,7 @@ use lib.IntN.{ℤ}
 use lib.ListN.{length}
 use Rattle.lanes.proofs.Passes.{one-pass, two-passes, three-passes}
 use Rattle.border.specs.Modes.{borderOf}
-use Rattle.uniform_judge.specs.Uniform.{uniform1d}
+use Rattle.uniform_spec.specs.Uniform.{uniform1d}
 use Rattle.uniform.proofs.Accepted.{Filtered, filtered, between-input, pass-accepted, between-pass, three-axes}
 use borrow.Author.Needs.{needs}
 use Rattle.uniform.proofs.passes.Statement.{statement}

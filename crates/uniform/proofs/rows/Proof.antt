@@ -1,24 +1,14 @@
--- `uniform::rows` meets its contract: every row holds by computing.
+-- `rows` meets its contract: the rows of each part.
 -- Assumes nothing.
-use mathlib.Core.Path.{refl}
-use Rattle.numbers.specs.Lists.{tabulate}
-use Rattle.array.specs.Conditions.{badShape, gridCount, badLevel}
-use Rattle.lanes.specs.Lanes.{laneAt, alongAxis}
-use Rattle.border.specs.Border.{cellFor, extendedLane}
-use Rattle.pad_line.specs.Line.{paddedAt, paddedLine}
-use Rattle.correlation.specs.Weighed.{summed}
+use Rattle.uniform.proofs.LaneRows.{lane-rows}
+use Rattle.uniform.proofs.CallRows.{call-rows}
 use Rattle.uniform.proofs.rows.Statement.{statement}
 use Rattle.uniform.proofs.rows.Tie as tie
 
 returns : tie.Need-returns
-unfolding badShape gridCount badLevel tabulate laneAt alongAxis cellFor extendedLane paddedAt paddedLine summed
 returns c = record {
-  t6-line = refl;
-  t6-grid = refl;
-  even = refl;
-  both = refl;
-  half-over = refl;
-  half-along = refl;
+  lanes = lane-rows;
+  calls = call-rows;
 }
 
 pub rows-spec : {M : Type 1} → statement M

@@ -1,4 +1,4 @@
--- `uniform::uniform_filter` meets its contract: refused by the judge's number, or the passes' answer, and the second grid cleared.
+-- `uniform_filter` meets its contract: refused by the judge's number, or the passes' answer, and the second grid cleared.
 -- Assumes nothing.
 use mathlib.Core.Path.{ap, _∙_}
 use Prim.Native.Nat.{ℕ}

@@ -1,4 +1,4 @@
--- `uniform::uniform_filter1d` meets its contract: refused by the judge's number, or the pass.
+-- `uniform_filter1d` meets its contract: refused by the judge's number, or the pass.
 -- Assumes nothing.
 use mathlib.Core.Path.{sym, _∙_}
 use denote.Ref.{now}

@@ -1,6 +1,6 @@
--- `uniform_line::cut_mean` meets its contract: a sum that passes both tests fits 32 bits.
+-- `cut_mean` meets its contract: a sum that passes both tests fits 32 bits.
 -- Assumes nothing.
-use Rattle.line_sums.proofs.Computed.{read}
+use Rattle.correlate_spec.proofs.Computed.{read}
 use Rattle.uniform_line.proofs.Narrow.{tested, cut-read}
 use borrow.Author.Needs.{needs}
 use Rattle.uniform_line.proofs.cut_mean.Statement.{statement}

@@ -1,4 +1,4 @@
--- `uniform_line::cut_narrow` meets its contract: sum and size fit 32 bits, and so does the quotient, which is cut toward zero.
+-- `cut_narrow` meets its contract: sum and size fit 32 bits, and so does the quotient, which is cut toward zero.
 -- Assumes nothing.
 use Rattle.uniform_line.proofs.Narrow.{narrow-fits, narrow-asked, wide-fits, narrow-read}
 use borrow.Author.Needs.{needs}

@@ -1,4 +1,4 @@
--- `uniform_line::cut_wide` meets its contract: the machine's quotient is cut toward zero, and fits.
+-- `cut_wide` meets its contract: the machine's quotient is cut toward zero, and fits.
 -- Assumes nothing.
 use native.Mathlib.Omega.{arith}
 use mir.Syntax.{w64}

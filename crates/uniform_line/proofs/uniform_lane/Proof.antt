@@ -1,4 +1,4 @@
--- `uniform_line::uniform_lane` meets its contract. The loop's invariant: `sum` is the sum of the cells that the windows before and at `i` share, and the means
+-- `uniform_lane` meets its contract. The loop's invariant: `sum` is the sum of the cells that the windows before and at `i` share, and the means
 -- before `i` are written to the lane. The measure is what is left of the lane.
 -- Assumes nothing.
 use mathlib.Core.Path.{_≡_, _∙_}
@@ -12,9 +12,9 @@ use mir.Val.{toZ}
 use Rattle.numbers.proofs.Read.{read}
 use Rattle.lanes.proofs.Cells.{index-in}
 use Rattle.lanes.proofs.Stores.{Written, written-none}
-use Rattle.correlation.specs.WindowSum.{windowSum}
-use Rattle.line_sums.proofs.SlidingSum.{sum-computed, left-computed, left-read}
-use Rattle.uniform_line.specs.Mean.{means}
+use Rattle.correlate_spec.specs.WindowSum.{windowSum}
+use Rattle.correlate_spec.proofs.SlidingSum.{sum-computed, left-computed, left-read}
+use Rattle.uniform_spec.specs.Mean.{means}
 use Rattle.uniform_line.proofs.Sliding.{cells, first-summable, mean-read}
 use Rattle.uniform_line.proofs.OnLane.{means-more, means-all}
 use borrow.Author.Needs.{needs}

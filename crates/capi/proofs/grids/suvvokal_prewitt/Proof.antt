@@ -4,7 +4,7 @@ use mathlib.Core.Path.{_≡_, refl}
 use mir.Syntax.{w64}
 use mir.Val.{toZ, ofZ}
 use borrow.Author.Needs.{needs}
-use Rattle.gradient_judge.specs.Gradient.{prewittWeights}
+use Rattle.gradient_spec.specs.Gradient.{prewittWeights}
 use Rattle.codes.proofs.Coded.{two-known, two-unknown}
 use Rattle.capi.proofs.grids.suvvokal_prewitt.Statement.{statement}
 use Rattle.capi.proofs.grids.suvvokal_prewitt.Tie as tie

@@ -4,7 +4,7 @@ use mathlib.Core.Path.{_≡_, ap, sym, _∙_}
 use mathlib.Core.Bool.{Bool, true}
 use mir.Syntax.{w64}
 use mir.Val.{toZ, ofZ}
-use Rattle.correlation.specs.Correlated.{changedOrigin}
+use Rattle.correlate_spec.specs.Correlated.{changedOrigin}
 use Rattle.correlate_judge.specs.Judge.{appliedOrigin}
 use Rattle.correlate_judge.proofs.Changed.{negation-fits, odd-read, shift-fits, even-read}
 use borrow.Author.Needs.{needs}

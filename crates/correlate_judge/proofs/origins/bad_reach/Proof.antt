@@ -7,9 +7,9 @@ use mir.Val.{toZ, ofZ}
 use lib.Dec.{eqb}
 use lib.IntN.{ℤ}
 use Rattle.border.specs.Modes.{borderOf}
-use Rattle.origin.specs.Origin.{badOrigin}
-use Rattle.filter_judge.specs.Judge.{windowOrigin, badReach}
-use Rattle.filter_judge.proofs.Reach.{single-cell, origin-accepted}
+use Rattle.window.specs.Origin.{badOrigin}
+use Rattle.min_max_judge.specs.Judge.{windowOrigin, badReach}
+use Rattle.min_max_judge.proofs.Reach.{single-cell, origin-accepted}
 use Rattle.correlate_judge.specs.Judge.{appliedOrigin}
 use Rattle.correlate_judge.proofs.Changed.{applied-range}
 use borrow.Author.Needs.{needs}

@@ -10,9 +10,9 @@ use mir.Val.{toZ, ofZ}
 use lib.IntN.{ℤ}
 use lib.ListN.{length}
 use Rattle.numbers.specs.Refusal.{refusalOf}
-use Rattle.array.proofs.Shapes.{shape-accepted}
-use Rattle.filter_judge.specs.Judge.{callOf, filterJudged}
-use Rattle.min_max1d.specs.Lane.{orderOf}
+use Rattle.array_spec.proofs.Shapes.{shape-accepted}
+use Rattle.min_max_judge.specs.Judge.{callOf, filterJudged}
+use Rattle.min_max.specs.Lane.{orderOf}
 use Rattle.min_max.specs.Filters.{filterAnswer}
 use Rattle.min_max.proofs.EveryAxis.{Filtered, filtered, between-input, pass-accepted, between-pass, one-pass, two-passes, three-passes}
 use Rattle.min_max.proofs.every_axis.passes.Statement.{statement}

@@ -5,7 +5,7 @@ use mathlib.Core.Path.{sym}
 use lib.ListN.{length}
 use lib.Seq.{length-take-le}
 use denote.Ref.{now}
-use Rattle.array.proofs.Shapes.{shape-accepted}
+use Rattle.array_spec.proofs.Shapes.{shape-accepted}
 use Rattle.pad.proofs.Accepted.{passed}
 use borrow.Author.Needs.{needs}
 use Rattle.pad.proofs.calls.lay.Statement.{statement}

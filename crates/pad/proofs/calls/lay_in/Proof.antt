@@ -3,7 +3,7 @@
 use mathlib.Core.Path.{_≡_, _∙_}
 use lib.ListN.{length}
 use denote.Ref.{now}
-use Rattle.pad_levels.specs.Pads.{leftsOf, rightsOf}
+use Rattle.pad_spec.specs.Pads.{leftsOf, rightsOf}
 use Rattle.pad.proofs.Accepted.{Passed, passed, filling-set, lent-set}
 use Rattle.pad.proofs.Started.{laid-started}
 use borrow.Author.Needs.{needs}

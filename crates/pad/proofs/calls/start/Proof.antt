@@ -3,7 +3,7 @@
 use mathlib.Core.Path.{_≡_, ap}
 use mir.Syntax.{w64}
 use mir.Val.{toZ, ofZ}
-use Rattle.pad_levels.specs.Levels.{keepsRim}
+use Rattle.pad_spec.specs.Levels.{keepsRim}
 use Rattle.pad.proofs.Started.{none-started, rest-started, constant-started}
 use borrow.Author.Needs.{needs}
 use Rattle.pad.proofs.calls.start.Statement.{statement}

@@ -1,0 +1,129 @@
+// Conditions 1, 2, 3 and 8 of a refusal, a function for each, for every argument there is.
+ghost use mathlib.Core.Path.{_≡_};
+ghost use mathlib.Core.List.{[], _∷_};
+ghost use lib.ListN.{length};
+ghost use Rattle.numbers.specs.Lists.{anyOf};
+ghost use Rattle.numbers.specs.Refusal.{refusalOf};
+ghost use Rattle.array_spec.specs.Conditions.{badShape, badLength, badLevel, badFloat, badAxis, gridJudgedBy, gridJudged};
+use crate::shapes::cell_count;
+
+// Condition 1: not 1 to 3 axes, a length outside 1..1,024, or over 8,192 cells.
+// Refused are no axis, 1,025 and 128 128; accepted are 1,024 and 8 1,024.
+pub fn bad_shape(shape: &[usize]) -> bool
+    ensures { λ r. ⌜ r ≡ badShape (now (shape .entry)) ⌝ }
+{
+    cell_count(shape) == 0
+}
+
+// Condition 2: a lent grid of `len` cells does not have the shape's cell count. Of 2 3 only 6 cells pass.
+// Where condition 1 refuses the shape the count is 0.
+pub fn bad_length(shape: &[usize], len: usize) -> bool
+    ensures { λ r. ⌜ r ≡ badLength (now (shape .entry)) len ⌝ }
+{
+    len != cell_count(shape)
+}
+
+// Condition 3 of one whole level: outside -(2^31 - 1)..2^31 - 1. -2147483648 is outside.
+pub fn bad_level(z: i64) -> bool
+    ensures { λ r. ⌜ r ≡ badLevel z ⌝ }
+{
+    if z < -2147483647 {
+        return true;
+    }
+    if 2147483647 < z {
+        return true;
+    }
+    false
+}
+
+// Condition 3 of a grid of whole levels: some level is outside.
+pub fn bad_levels(data: &[i64]) -> bool
+    ensures { λ r. ⌜ r ≡ anyOf badLevel (now («data» .entry)) ⌝ }
+{
+    crate::level_range::any_outside(data)
+}
+
+// Condition 3 of one float level: not finite. -0.0 and subnormal numbers are finite.
+pub fn bad_level_f64(x: f64) -> bool
+    ensures { λ r. ⌜ r ≡ badFloat x ⌝ }
+{
+    // A finite number less itself is 0; an infinity less itself is a NaN, and so is a NaN.
+    x - x != 0.0
+}
+
+// Condition 3 of a grid of float levels: some level is not finite.
+pub fn bad_levels_f64(data: &[f64]) -> bool
+    ensures { λ r. ⌜ r ≡ anyOf badFloat (now («data» .entry)) ⌝ }
+{
+    // No early return, so that the loop is compiled to vector code.
+    let mut bad: usize = 0;
+    let mut k = 0;
+    while k < data.len() {
+        let x = data[k];
+        if bad_level_f64(x) {
+            bad += 1;
+        }
+        k += 1;
+    }
+    0 < bad
+}
+
+// Condition 8: the axis number is not below the axis count. Of 2 3 axis 1 passes and axis 2 does not.
+pub fn bad_axis(shape: &[usize], axis: usize) -> bool
+    ensures { λ r. ⌜ r ≡ badAxis (now (shape .entry)) axis ⌝ }
+{
+    shape.len() <= axis
+}
+
+// Conditions 1 and 2 in rising order, of a grid of `len` cells and two lent grids.
+fn judge_lengths(shape: &[usize], len: usize, out: usize, second: usize) -> u8
+    ensures { λ r. ⌜ r ≡ refusalOf ((badShape (now (shape .entry)), 1) ∷ (anyOf (badLength (now (shape .entry))) (len ∷ out ∷ second ∷ []), 2) ∷ []) ⌝ }
+{
+    if bad_shape(shape) {
+        return numbers::SHAPE;
+    }
+    if bad_length(shape, len) {
+        return numbers::LENGTH;
+    }
+    if bad_length(shape, out) {
+        return numbers::LENGTH;
+    }
+    if bad_length(shape, second) {
+        return numbers::LENGTH;
+    }
+    numbers::ACCEPTED
+}
+
+// Conditions 1, 2 and 3 of a grid of whole levels, in rising order: the number of the first that holds, or 0.
+//
+// * `data` - the cells of the grid.
+// * `shape` - the length of each axis.
+// * `out`, `second` - the lengths of the lent grids; a call that is lent one grid hands in its length twice.
+//
+// Refuses: 1, 2, 3. Of the cells 1 2 3 the shape 2 2 gives 2, whatever is lent.
+pub fn judge_grid(data: &[i64], shape: &[usize], out: usize, second: usize) -> u8
+    ensures { λ r. ⌜ r ≡ refusalOf (gridJudged (now (shape .entry)) (now («data» .entry)) (length (now («data» .entry)) ∷ out ∷ second ∷ [])) ⌝ }
+{
+    let refusal = judge_lengths(shape, data.len(), out, second);
+    if refusal != 0 {
+        return refusal;
+    }
+    if bad_levels(data) {
+        return numbers::LEVEL;
+    }
+    numbers::ACCEPTED
+}
+
+// The same of a grid of float levels. A NaN as the only cell of the shape 1 gives 3, -0.0 gives 0.
+pub fn judge_grid_f64(data: &[f64], shape: &[usize], out: usize, second: usize) -> u8
+    ensures { λ r. ⌜ r ≡ refusalOf (gridJudgedBy badFloat (now (shape .entry)) (now («data» .entry)) (length (now («data» .entry)) ∷ out ∷ second ∷ [])) ⌝ }
+{
+    let refusal = judge_lengths(shape, data.len(), out, second);
+    if refusal != 0 {
+        return refusal;
+    }
+    if bad_levels_f64(data) {
+        return numbers::LEVEL;
+    }
+    numbers::ACCEPTED
+}

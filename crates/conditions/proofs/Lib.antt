@@ -1,3 +1,0 @@
--- Laws of the conditions.
-pub mod Finite
-pub mod Levels

@@ -1,0 +1,45 @@
+-- `raised_line` meets its contract: the row of starts is made of the cells as they are, the sums of the raised ones.
+-- Assumes nothing.
+use mathlib.Core.Path.{refl}
+use Rattle.correlate_line.proofs.RaisedStart.{raisable}
+use Rattle.correlate_line.proofs.RaisedSums.{raised-set, raised-sums}
+use borrow.Author.Needs.{needs}
+use Rattle.correlate_line.proofs.raised.raised_line.Statement.{statement}
+use Rattle.correlate_line.proofs.raised.raised_line.Tie as tie
+
+raise-of-requires : tie.Need-raise-of-requires
+raise-of-requires c κs = search needs
+
+start-row-requires : tie.Need-start-row-requires
+start-row-requires c κs = let s = c .before .before .before in raisable refl (s .pre .0) (s .pre .1) (c .before .before .raise-of .ensures)
+
+raise-cells-requires : tie.Need-raise-cells-requires
+raise-cells-requires c κs = search needs
+
+add-raised-requires : tie.Need-add-raised-requires
+add-raised-requires c κs =
+    let s = c .before .before .before .before .before .before .before .before .before .before in
+    raised-set (c .before .before .before .raise-cells .ensures) (raisable refl (s .pre .0) (s .pre .1) (c .before .before .before .before .before .before .before .before .before .raise-of .ensures)) (c .before .before .before .before .before .before .start-row .ensures)
+
+same-length : tie.Need-same-length
+same-length c = search needs
+
+same-length-2 : tie.Need-same-length-2
+same-length-2 c = search needs
+
+returns : tie.Need-returns
+returns c =
+    let s = c .before .before .before .before .before .before .before .before .before .before .before .before in
+    raised-sums (c .before .before .before .before .before .raise-cells .ensures) (raisable refl (s .pre .0) (s .pre .1) (c .before .before .before .before .before .before .before .before .before .before .before .raise-of .ensures)) (c .before .before .before .before .before .before .before .before .start-row .ensures) (c .before .add-raised .ensures)
+
+pub raised-line-spec : {M : Type 1} → statement M
+raised-line-spec =
+    tie.close
+    (tie.spec
+    raise-of-requires
+    start-row-requires
+    raise-cells-requires
+    add-raised-requires
+    same-length
+    same-length-2
+    returns)

@@ -1,0 +1,42 @@
+-- `rows` meets its contract: every row holds by computing.
+-- Assumes nothing.
+use mathlib.Core.Path.{refl}
+use lib.Ieee.{add, sub, mul, lt}
+use Rattle.numbers.specs.Lists.{tabulate}
+use Rattle.array_spec.specs.Grid.{placeOf, coordinate}
+use Rattle.lanes.specs.Lanes.{laneAt, alongAxis}
+use Rattle.border.specs.Border.{cellFor, extendedLane, allInside, extendedGrid}
+use Rattle.pad_line.specs.Line.{paddedAt, paddedLine}
+use Rattle.symmetry_spec.specs.Class.{someDiffers, exceeds}
+use Rattle.correlate_spec.specs.Weighed.{summed}
+use Rattle.correlate_spec.specs.Correlated.{correlatedBy}
+use Rattle.correlate_spec.specs.Kernel.{kernelSum, kernelAnswer}
+use Rattle.correlate_spec.proofs.rows.Statement.{statement}
+use Rattle.correlate_spec.proofs.rows.Tie as tie
+
+returns : tie.Need-returns
+unfolding tabulate summed add mul alongAxis laneAt paddedAt paddedLine extendedLane cellFor correlatedBy someDiffers exceeds sub lt placeOf coordinate allInside extendedGrid kernelSum kernelAnswer
+returns c = record {
+  padded = refl;
+  symmetric = refl;
+  anti = refl;
+  t2 = refl;
+  t3 = refl;
+  moved = refl;
+  one-weight = refl;
+  float = refl;
+  near = refl;
+  from-zero = refl;
+  from-middle = refl;
+  sides = refl;
+  side = refl;
+  left-pads = refl;
+  right-pads = refl;
+  t8 = refl;
+  no-left = refl;
+  three-axes = refl;
+  one-cell = refl;
+}
+
+pub rows-spec : {M : Type 1} → statement M
+rows-spec = tie.close (tie.spec returns)

@@ -1,6 +1,0 @@
--- The weighted sum of a window, over any element.
-pub mod Weighed
-pub mod WindowSum
-pub mod Correlated
-pub mod Kernel
-pub mod Rows

@@ -1,7 +1,0 @@
-// The weighted sum of a window: its definitions over any element, and the laws of the loops that compute it.
-ghost use Rattle.correlation.specs.Rows.{CorrelationRows};
-
-// Worked rows of this crate's definitions. Refuses nothing.
-pub fn rows()
-    ensures { λ _. ⌜ CorrelationRows ⌝ }
-{}

@@ -1,0 +1,165 @@
+-- An accepted call: what each condition says, that every pass can be weighed, and that the passes, one after the other, are its answer.
+-- Assumes nothing.
+use Prim.Native.Nat.{ℕ, zero, suc, _*_, _^_, _≤_, _<_}
+use mathlib.Core.Path.{_≡_, refl, sym, ap, subst, _∙_}
+use mathlib.Core.Bool.{false}
+use mathlib.Core.List.{List, [], _∷_}
+use native.Mathlib.Omega.{arith}
+use borrow.Author.Tests.{ltb-true, not-false}
+use lib.Dec.{eqb, ltb}
+use lib.IntN.{ℤ, pos}
+use lib.ListN.{length}
+use Rattle.numbers.specs.Lists.{anyOf}
+use Rattle.numbers.specs.Refusal.{refusalOf}
+use Rattle.numbers.proofs.Any.{any-none, none-any, every-at, every-imp}
+use Rattle.numbers.proofs.Refusal.{judged-all}
+use Rattle.numbers.proofs.Size.{Size, Sized, size-le, inside-sized, tested-sized}
+use Rattle.numbers.proofs.Tests.{or-no, cond-ind}
+use Rattle.array_spec.specs.Conditions.{badShape, badLength, badLevel}
+use Rattle.array_spec.specs.Grid.{cellCount, lengthOf}
+use Rattle.array_spec.proofs.Judged.{levels-sized}
+use Rattle.array_spec.proofs.Shapes.{count-accepted, length-judged}
+use Rattle.border.specs.Border.{Border}
+use Rattle.border.specs.Modes.{badConstantBy}
+use Rattle.window.specs.Origin.{badOrigin}
+use Rattle.pad_line.specs.Line.{badPad}
+use Rattle.pad_line.proofs.Sizes.{SizedBorder, constant-sized}
+use Rattle.min_max_judge.specs.Judge.{badReach}
+use Rattle.correlate_spec.specs.Correlated.{correlate1dZ}
+use Rattle.correlate_spec.proofs.Bounds.{border-le, length-answer}
+use Rattle.correlate_judge.specs.Judge.{badWeight}
+use Rattle.correlate1d.specs.Weighs.{Weighs}
+use Rattle.correlate1d.proofs.Accepted.{small-constant, small-sized}
+use Rattle.gradient_spec.specs.Gradient.{difference, gradientTo, gradient}
+use Rattle.gradient_spec.specs.Judge.{ThreeSmall, gradientJudged}
+use Rattle.gradient_spec.proofs.Sums.{pass-sized}
+use Rattle.gradient.specs.Others.{firstOther, lastOther}
+
+-- ---- what an accepted call has passed
+pub record Accepted (b : Border ℤ) (ns : List ℕ) (axis : ℕ) (cells : List ℤ) (out second : ℕ) : Type 0 where
+  pub shape : badShape ns ≡ false
+  pub input : length cells ≡ cellCount ns
+  pub output : out ≡ cellCount ns
+  pub between : second ≡ cellCount ns
+  pub levels : anyOf badLevel cells ≡ false
+  pub along : axis < length ns
+  pub level : badConstantBy badLevel b ≡ false
+  pub reach : anyOf (λ n. badPad b n 1) ns ≡ false
+
+pub accepted : (smooth : List ℤ) (b : Border ℤ) (ns : List ℕ) (axis : ℕ) (cells : List ℤ) (out second : ℕ) → refusalOf (gradientJudged smooth b ns axis cells out second) ≡ 0
+    → Accepted b ns axis cells out second
+accepted smooth b ns axis cells out second e =
+    let p = judged-all (gradientJudged smooth b ns axis cells out second) (tt, (tt, (tt, (tt, (tt, (tt, (tt, tt))))))) e in
+    let q = any-none (badLength ns) (length cells ∷ out ∷ second ∷ []) (p .1 .0) in
+    record {
+      shape = p .0;
+      input = length-judged ns (length cells) (q .0) ∙ count-accepted ns (p .0);
+      output = length-judged ns out (q .1 .0) ∙ count-accepted ns (p .0);
+      between = length-judged ns second (q .1 .1 .0) ∙ count-accepted ns (p .0);
+      levels = p .1 .1 .0;
+      along = ltb-true axis (length ns) (not-false (ltb axis (length ns)) (p .1 .1 .1 .0));
+      level = p .1 .1 .1 .1 .0;
+      reach = p .1 .1 .1 .1 .1 .0;
+    }
+
+-- ---- a grid between two passes, of levels and a constant of size at most p
+pub record Between (b : Border ℤ) (ns : List ℕ) (p : ℕ) (g : List ℤ) : Type 0 where
+  pub count : length g ≡ cellCount ns
+  pub constant : SizedBorder p b
+  pub sizes : Sized p g
+
+-- weights of a pass are no heavier than condition 6 accepts
+small-weights : (w : List ℤ) → ThreeSmall w → anyOf badWeight w ≡ false
+unfolding badWeight
+small-weights w S = none-any badWeight w (every-imp (λ x. Size x 2) _ w (λ x s. inside-sized 65535 x (size-le s (omega arith))) (tested-sized 2 w (S .small)))
+
+centred : badOrigin 3 (pos 0) ≡ false
+unfolding badOrigin
+centred = refl
+
+module _ {b : Border ℤ} {ns : List ℕ} {axis : ℕ} {cells : List ℤ} {out second : ℕ} (A : Accepted b ns axis cells out second) where
+  pub between-input : Between b ns 2147483647 cells
+  between-input = record { count = A .input; constant = constant-sized b (A .level); sizes = levels-sized cells (A .levels) }
+
+  module _ {w : List ℤ} (S : ThreeSmall w) {p : ℕ} {g : List ℤ} (B : Between b ns p g) where
+    pad-filled : (a : ℕ) → a < length ns → badPad b (lengthOf ns a) 1 ≡ false
+    pad-filled a h = every-at (λ n. badPad b n 1 ≡ false) ns 1 (any-none (λ n. badPad b n 1) ns (A .reach)) a h
+
+    -- a pass along any axis can be weighed, into any grid of as many cells
+    pub weighs-pass : p ≤ 2 ^ 38 → {held : List ℤ} {a : ℕ} → length held ≡ cellCount ns → a < length ns → Weighs b ns a (pos 0) w g held
+    weighs-pass l {held} {a} e h = record {
+      placed = record {
+        shape = A .shape;
+        axis = h;
+        count = B .count;
+        same = e ∙ sym (B .count);
+        more = omega (arith, S .three);
+        few = omega (arith, S .three);
+        origin = ap (λ n. badOrigin n (pos 0)) (S .three) ∙ centred;
+        reach = ap (λ n. badReach b n (pos 0) (lengthOf ns a)) (S .three) ∙ or-no (badPad b (lengthOf ns a) 1) (badPad b (lengthOf ns a) 1) (pad-filled a h) (pad-filled a h);
+      };
+      weights = small-weights w S;
+      level = small-constant b (A .level);
+      levels = small-sized g (B .sizes) l;
+      narrow = λ h. absurd (omega (arith, S .three));
+    }
+
+    pub between-pass : (a : ℕ) {new : List ℤ} → new ≡ correlate1dZ b (pos 0) w ns a g → Between b ns (6 * p) new
+    between-pass a {new} e = record {
+      count = ap length e ∙ length-answer b (pos 0) w ns a g ∙ B .count;
+      constant = border-le b (B .constant) (omega arith);
+      sizes = subst (Sized (6 * p)) (sym e) (pass-sized b S ns p a g (B .constant) (B .sizes));
+    }
+
+-- ---- the axes beside the axis of the difference
+pub first-in : (axis n : ℕ) → 1 < n → firstOther axis < n
+first-in axis n h = cond-ind (eqb axis 0) 1 0 (λ x. x < n) (λ t. h) (λ t. omega arith)
+
+pub last-in : (axis n : ℕ) → 2 < n → lastOther axis < n
+last-in axis n h = cond-ind (eqb axis 2) 1 2 (λ x. x < n) (λ t. omega arith) (λ t. h)
+
+-- ---- one, two and three passes are the answer
+module _ (smooth : List ℤ) (b : Border ℤ) (ns : List ℕ) (cells : List ℤ) where
+  pass : ℕ → List ℤ → List ℤ
+  pass a g = correlate1dZ b (pos 0) smooth ns a g
+
+  start : ℕ → List ℤ
+  start axis = correlate1dZ b (pos 0) difference ns axis cells
+
+  whole : (axis n : ℕ) → length ns ≡ n → gradientTo smooth b ns axis cells n ≡ gradient smooth b ns axis cells
+  whole axis n e = ap (gradientTo smooth b ns axis cells) (sym e)
+
+  one : (axis : ℕ) → axis < 1 → start axis ≡ gradientTo smooth b ns axis cells 1
+  unfolding gradientTo start pass
+  one zero h = refl
+  one (suc k) h = absurd (omega arith)
+
+  two : (axis : ℕ) → axis < 2 → pass (firstOther axis) (start axis) ≡ gradientTo smooth b ns axis cells 2
+  unfolding gradientTo start pass
+  two zero h = refl
+  two (suc zero) h = refl
+  two (suc (suc k)) h = absurd (omega arith)
+
+  three : (axis : ℕ) → axis < 3 → pass (lastOther axis) (pass (firstOther axis) (start axis)) ≡ gradientTo smooth b ns axis cells 3
+  unfolding gradientTo start pass
+  three zero h = refl
+  three (suc zero) h = refl
+  three (suc (suc zero)) h = refl
+  three (suc (suc (suc k))) h = absurd (omega arith)
+
+  module _ {axis : ℕ} (a : axis < length ns) {x : List ℤ} (p : x ≡ correlate1dZ b (pos 0) difference ns axis cells) where
+    pub one-pass : length ns ≡ 1 → x ≡ gradient smooth b ns axis cells
+    unfolding start
+    one-pass n = p ∙ one axis (omega (arith, n, a)) ∙ whole axis 1 n
+
+    module _ {y : List ℤ} {f : ℕ} (e : f ≡ firstOther axis) (q : y ≡ correlate1dZ b (pos 0) smooth ns f x) where
+      second-grid : y ≡ pass (firstOther axis) (start axis)
+      unfolding pass start
+      second-grid = q ∙ (λ j. correlate1dZ b (pos 0) smooth ns (e j) (p j))
+
+      pub two-passes : length ns ≡ 2 → y ≡ gradient smooth b ns axis cells
+      two-passes n = second-grid ∙ two axis (omega (arith, n, a)) ∙ whole axis 2 n
+
+      pub three-passes : {z : List ℤ} {l : ℕ} → length ns ≡ 3 → l ≡ lastOther axis → z ≡ correlate1dZ b (pos 0) smooth ns l y → z ≡ gradient smooth b ns axis cells
+      unfolding pass
+      three-passes n d r = r ∙ (λ j. correlate1dZ b (pos 0) smooth ns (d j) (second-grid j)) ∙ three axis (omega (arith, n, a)) ∙ whole axis 3 n

@@ -1,0 +1,2 @@
+-- Laws, leaves first.
+pub mod EachPass

@@ -1,0 +1,50 @@
+// The judge of `prewitt` and `sobel`: the conditions in rising order, before anything is stored.
+ghost use mathlib.Core.Path.{_≡_};
+ghost use Rattle.numbers.specs.Refusal.{refusalOf};
+ghost use Rattle.border.specs.Modes.{borderOf};
+ghost use Rattle.gradient_spec.specs.Judge.{passesJudged, GradientNumber};
+use border::BorderMode;
+
+// Conditions 8, 9 and 11 of the passes, in rising order.
+fn judge_passes(shape: &[usize], axis: usize, mode: BorderMode) -> u8
+    ensures { λ r. ⌜ r ≡ refusalOf (passesJudged (borderOf mode) (now (shape .entry)) axis) ⌝ }
+{
+    if array::bad_axis(shape, axis) {
+        return numbers::AXIS;
+    }
+    if border::bad_constant(mode) {
+        return numbers::CONSTANT;
+    }
+    if min_max_judge::bad_reach_any(mode, shape, 3, 0) {
+        return numbers::REACH;
+    }
+    numbers::ACCEPTED
+}
+
+// The number of a `prewitt` or `sobel` call, which fills its output where that is 0.
+//
+// * `data` - the cells of the grid, in row-major order.
+// * `shape` - the length of each axis.
+// * `axis` - the axis of the difference.
+// * `mode` - the border of every pass.
+// * `out`, `second` - how many cells the lent output and the lent second grid have.
+//
+// Returns 0, or the lowest number of a condition that holds: 1 (shape), 2 (a length), 3 (a level), 8 (axis), 9 (constant) or
+// 11 (the border cannot fill a pad of one cell on some axis). 12 never occurs: no sum of a pass over accepted levels leaves 64 bits.
+// Writes nothing and refuses nothing itself. Cells of the shape 4 1 under Mirror give 11 along both axes.
+pub fn judge_gradient(
+    data: &[i64],
+    shape: &[usize],
+    axis: usize,
+    mode: BorderMode,
+    out: usize,
+    second: usize,
+) -> u8
+    ensures { λ r. ⌜ GradientNumber (borderOf mode) (now (shape .entry)) axis (now («data» .entry)) out second r ⌝ }
+{
+    let refusal = array::judge_grid(data, shape, out, second);
+    if refusal != 0 {
+        return refusal;
+    }
+    judge_passes(shape, axis, mode)
+}

@@ -1,3 +1,0 @@
--- The axes along which the passes of a gradient go.
-pub mod Others
-pub mod Rows

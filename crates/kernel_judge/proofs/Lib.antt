@@ -1,3 +1,0 @@
--- Laws, leaves first.
-pub mod Equal
-pub mod Chain

@@ -1,0 +1,33 @@
+-- `write_lane_f64` meets its contract: the first place tells whether the lane is inside.
+-- Assumes nothing.
+use denote.Ref.{now}
+use lib.Ieee.{nan}
+use Rattle.lanes.proofs.FirstPlace.{write-none, write-room, write-some}
+use borrow.Author.Needs.{needs}
+use Rattle.lane_cells.proofs.float.write_lane_f64.Statement.{statement}
+use Rattle.lane_cells.proofs.float.write_lane_f64.Tie as tie
+
+first-place-requires : tie.Need-first-place-requires
+first-place-requires c κs = search needs
+
+returns : tie.Need-returns
+returns c = let f = c .before in let a = f .before .before .before .args in write-none nan (a .stride) (a .lane) (now (a .line)) (now (a .grid)) _ (f .first-place .ensures) (c .if1 .taken)
+
+write-from-f64-requires : tie.Need-write-from-f64-requires
+write-from-f64-requires c κs =
+    let f = c .before .before in
+    let a = f .before .before .before .args in
+    write-room nan (a .stride) (a .lane) (now (a .line)) (now (a .grid)) _ (f .first-place .ensures) (c .before .if1 .left)
+
+same-length : tie.Need-same-length
+same-length c = search needs
+
+returns-2 : tie.Need-returns-2
+returns-2 c =
+    let t = c .before .before .before .before in
+    let f = t .before in
+    let a = f .before .before .before .args in
+    write-some nan (a .stride) (a .lane) (now (a .line)) (now (a .grid)) _ (f .first-place .ensures) (t .if1 .left) (c .before .before .write-from-f64 .ensures)
+
+pub write-lane-f64-spec : {M : Type 1} → statement M
+write-lane-f64-spec = tie.close (tie.spec first-place-requires returns write-from-f64-requires same-length returns-2)

@@ -1,3 +1,0 @@
--- Laws of levels raised above zero, and of a line in two halves.
-pub mod Raising
-pub mod Halves

@@ -1,3 +1,0 @@
--- Levels near 0.
-pub mod Near
-pub mod Rows

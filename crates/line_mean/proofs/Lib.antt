@@ -1,2 +1,0 @@
--- Laws of the lifted sum of a line.
-pub mod Lifting

@@ -1,2 +1,0 @@
--- The sum of a line of levels near 0.
-pub mod NearSum

@@ -1,0 +1,98 @@
+-- An accepted one-axis call as the workers do it: a copy where the window is one cell, else every lane of the axis with the call's pads.
+-- Assumes nothing.
+use mathlib.Core.Path.{_≡_, refl, sym, ap, subst, _∙_}
+use mathlib.Core.Bool.{Bool, false, not, _&&_, _||_}
+use mathlib.Core.List.{List}
+use Prim.Native.Nat.{ℕ, _+_, _≤_, _<_}
+use native.Mathlib.Omega.{arith}
+use borrow.Author.Tests.{eq-eqb, ne-eqb, ltb-true, ltb-false, not-false}
+use lib.Dec.{ltb}
+use lib.IntN.{ℤ, pos, natAbs}
+use lib.ListN.{length}
+use Rattle.numbers.proofs.Tests.{or-false, cond-yes}
+use Rattle.array_spec.specs.Assign.{copied}
+use Rattle.lanes.specs.Lanes.{alongAxis}
+use Rattle.border.specs.Border.{Border}
+use Rattle.pad_line.specs.Line.{badPad, paddedLine}
+use Rattle.min_max_ring.specs.Firsts.{firsts}
+use Rattle.min_max_spec.specs.Call.{Call, alone, leftPad, rightPad, axisLength, numberOf}
+use Rattle.min_max_spec.specs.Run.{answerOf}
+use Rattle.min_max_spec.proofs.Passed.{Passed, passed, passed-lengths}
+use Rattle.axis_filter.specs.Lane.{filteredLane, Sweep}
+use Rattle.axis_filter.specs.Filter.{filtered, Supposed}
+use Rattle.axis_filter.specs.declared.LineFilter.{LineFilter}
+use Rattle.min_max.specs.Lane.{orderOf, extremesOf, lineFilterOf}
+use Rattle.min_max.specs.declared.extreme.Extreme.{Extreme}
+use Rattle.min_max.specs.declared.extreme.Extreme.the-variants.{Least, Greatest}
+use Rattle.min_max.proofs.ByLanes.{lineOf, answer-lanes, answer-copied, pads-size}
+
+-- ---- the extremes, as a line filter
+pub extremes-supposed : (e : Extreme) {f : LineFilter} (w : List ℤ) (size : ℕ) (b : Border ℤ) (cells : List ℤ) → f ≡ lineFilterOf e → 1 < size → Supposed f w size b cells
+extremes-supposed e {f} w size b cells q h = subst (λ (x : LineFilter). Supposed x w size b cells) (sym q) (go e)
+  where
+    go : (e : Extreme) → Supposed (lineFilterOf e) w size b cells
+    go Least = h
+    go Greatest = h
+
+pub extremes-filtered : (e : Extreme) {f : LineFilter} (w : List ℤ) (b : Border ℤ) (l g : ℕ) (ns : List ℕ) (a : ℕ) (cells : List ℤ) → f ≡ lineFilterOf e
+    → alongAxis (pos 0) (filteredLane (pos 0) (filtered f w (l + g + 1)) b l g) ns a cells ≡ alongAxis (pos 0) (extremesOf (orderOf e) b l g) ns a cells
+extremes-filtered e {f} w b l g ns a cells q = ap (λ (x : LineFilter). alongAxis (pos 0) (filteredLane (pos 0) (filtered x w (l + g + 1)) b l g) ns a cells) q ∙ go e
+  where
+    go : (e : Extreme) → alongAxis (pos 0) (filteredLane (pos 0) (filtered (lineFilterOf e) w (l + g + 1)) b l g) ns a cells ≡ alongAxis (pos 0) (extremesOf (orderOf e) b l g) ns a cells
+    go Least = refl
+    go Greatest = refl
+
+module _ (le : ℤ → ℤ → Bool) (cells : List ℤ) (c : Call) (accept : numberOf cells c ≡ 0) where
+  P : Passed cells c
+  P = passed cells c accept
+
+  same : length (c .out) ≡ length cells
+  same = passed-lengths P .1 ∙ sym (passed-lengths P .0)
+
+  pub copied-answer : {out : List ℤ} → c .size ≡ 1 → out ≡ copied cells (c .out) → out ≡ answerOf le cells c
+  copied-answer one e =
+      e ∙ cond-yes _ cells (c .out) (eq-eqb (length cells) (length (c .out)) (sym same)) ∙ sym (answer-copied le cells c accept (eq-eqb (c .size) 1 one))
+
+  module _ (more : c .size ≡ 1 → ⊥) where
+    padded : alone c ≡ false
+    padded = ne-eqb (c .size) 1 more
+
+    fills : (badPad (c .border) (axisLength c) (natAbs (leftPad c)) ≡ false) × (badPad (c .border) (axisLength c) (natAbs (rightPad c)) ≡ false)
+    fills =
+        let l = badPad (c .border) (axisLength c) (natAbs (leftPad c)) in
+        let r = badPad (c .border) (axisLength c) (natAbs (rightPad c)) in
+        or-false l r (ap (λ t. not t && (l || r)) (sym padded) ∙ P .pads)
+
+    sizes : (1 ≤ c .size) × (c .size ≤ 65)
+    sizes = let p = or-false (ltb (c .size) 1) (ltb 65 (c .size)) (P .size) in (omega (arith, ltb-false (c .size) 1 (p .0)), omega (arith, ltb-false 65 (c .size) (p .1)))
+
+    module _ {l g : ℕ} (L : l ≡ natAbs (leftPad c)) (G : g ≡ natAbs (rightPad c)) where
+      total : l + g + 1 ≡ c .size
+      total = (λ j. L j + G j + 1) ∙ pads-size cells c P padded
+
+      wide : 0 < l + g
+      wide = some (l + g) (λ z. more (sym total ∙ ap (λ x. x + 1) z))
+        where
+          some : (k : ℕ) → (k ≡ 0 → ⊥) → 0 < k
+          some k h = omega arith
+
+      pub sweep-accepted : Sweep (c .border) (c .shape) (c .axis) l g cells (c .out)
+      sweep-accepted = record {
+        shape = P .shape;
+        axis = ltb-true (c .axis) (length (c .shape)) (not-false (ltb (c .axis) (length (c .shape))) (P .axis));
+        count = passed-lengths P .0;
+        same = same;
+        fills-left = ap (badPad (c .border) (axisLength c)) L ∙ fills .0;
+        fills-right = ap (badPad (c .border) (axisLength c)) G ∙ fills .1;
+        narrow = omega (arith, total, sizes .1);
+      }
+
+      pub window-wide : 1 < l + g + 1
+      window-wide = omega (arith, wide)
+
+      lines : (s : List ℤ) → extremesOf le (c .border) l g s ≡ lineOf le c s
+      unfolding firsts
+      lines s = (λ j. firsts le (paddedLine (pos 0) (c .border) (L j) (G j) s) (total j) (length s))
+
+      pub swept-answer : {out : List ℤ} → out ≡ alongAxis (pos 0) (extremesOf le (c .border) l g) (c .shape) (c .axis) cells → out ≡ answerOf le cells c
+      swept-answer e = e ∙ ap (λ (f : List ℤ → List ℤ). alongAxis (pos 0) f (c .shape) (c .axis) cells) (λ j s. lines s j) ∙ sym (answer-lanes le cells c accept padded)

@@ -1,0 +1,138 @@
+// The one-axis forms: the call is judged, and every lane of its axis is swept.
+ghost use mathlib.Core.Path.{_≡_};
+ghost use lib.Signed.{leZ};
+ghost use Rattle.numbers.specs.Order.{atLeast};
+ghost use Rattle.numbers.specs.Refusal.{Answers};
+ghost use Rattle.min_max_spec.specs.Call.{callJudged, numberOf};
+ghost use Rattle.min_max_spec.specs.Run.{answerOf};
+ghost use Rattle.min_max_judge.specs.Judge.{callOf};
+ghost use Rattle.min_max.specs.Lane.{orderOf, lineFilterOf};
+use crate::extreme::Extreme;
+use axis_filter::LineFilter;
+use border::BorderMode;
+use window::Origin;
+
+// The line filter that finds the extremes; it reads no weights.
+fn line_filter(extreme: Extreme) -> LineFilter
+    ensures { λ r. ⌜ r ≡ lineFilterOf extreme ⌝ }
+{
+    match extreme {
+        Extreme::Least => LineFilter::Least,
+        Extreme::Greatest => LineFilter::Greatest,
+    }
+}
+
+// Fills out with the answer of an accepted one-axis call; the grid forms make one pass for each axis.
+//
+// * `extreme` - which level of a window is kept.
+// * `data`, `shape`, `size`, `axis`, `mode`, `origin`, `out` - as in `minimum_filter1d`.
+//
+// Supposes the number 0, and refuses nothing. 4 2 7 1 with Least and size 3 along axis 0 under Reflect and origin 0 gives 2 2 1 1.
+pub(crate) fn pass(
+    extreme: Extreme,
+    data: &[i64],
+    shape: &[usize],
+    size: usize,
+    axis: usize,
+    mode: BorderMode,
+    origin: isize,
+    out: &mut [i64],
+)
+    requires { ⌜ numberOf (now «data») (callOf (now shape) size axis mode origin (now out)) ≡ 0 ⌝ }
+    ensures { λ _. ⌜ now (out .exit) ≡ answerOf (orderOf extreme) (now («data» .entry)) (callOf (now (shape .entry)) size axis mode origin (now (out .entry))) ⌝ }
+{
+    if size == 1 {
+        array::copy(data, out);
+        return;
+    }
+    match window::origin_check(size, origin) {
+        Origin::Refused => {}
+        Origin::Pads(left, right) => axis_filter::filter_axis(
+            line_filter(extreme),
+            &data[..0],
+            mode,
+            data,
+            shape,
+            axis,
+            left,
+            right,
+            out,
+        ),
+    }
+}
+
+// Judges a one-axis call, and fills out where it is accepted.
+fn filter1d(
+    extreme: Extreme,
+    data: &[i64],
+    shape: &[usize],
+    size: usize,
+    axis: usize,
+    mode: BorderMode,
+    origin: isize,
+    out: &mut [i64],
+) -> u8
+    ensures { λ r. ⌜ Answers (callJudged (now («data» .entry)) (callOf (now (shape .entry)) size axis mode origin (now (out .entry))))
+        (answerOf (orderOf extreme) (now («data» .entry)) (callOf (now (shape .entry)) size axis mode origin (now (out .entry)))) (now (out .entry)) r (now (out .exit)) ⌝ }
+{
+    let refusal = min_max_judge::judge_call(data, shape, size, axis, mode, origin, out);
+    if refusal != 0 {
+        return refusal;
+    }
+    pass(extreme, data, shape, size, axis, mode, origin, out);
+    numbers::ACCEPTED
+}
+
+// Fills each cell of out with the least level of its window along one axis; SciPy's minimum_filter1d.
+//
+// * `data` - the cells of the grid, in row-major order.
+// * `shape` - the length of each axis.
+// * `size` - the length of the window; on a window of 1 no origin is read and nothing is padded.
+// * `axis` - the axis that is swept.
+// * `mode` - the border.
+// * `origin` - moves the window of cell i to i - size / 2 - origin.
+// * `out` - as long as data; kept as it was where the call is refused.
+//
+// Returns 0, or the lowest number of a condition that holds: 1 (shape), 2 (a length), 3 (a level), 5 (size), 7 (origin), 8 (axis),
+// 9 (constant) or 11 (the border cannot fill a pad).
+// 2 1 4 3 5 with size 3 along axis 0 under Reflect and origin 0 gives 1 1 1 3 3.
+pub fn minimum_filter1d(
+    data: &[i64],
+    shape: &[usize],
+    size: usize,
+    axis: usize,
+    mode: BorderMode,
+    origin: isize,
+    out: &mut [i64],
+) -> u8
+    ensures { λ r. ⌜ Answers (callJudged (now («data» .entry)) (callOf (now (shape .entry)) size axis mode origin (now (out .entry))))
+        (answerOf leZ (now («data» .entry)) (callOf (now (shape .entry)) size axis mode origin (now (out .entry)))) (now (out .entry)) r (now (out .exit)) ⌝ }
+{
+    filter1d(Extreme::Least, data, shape, size, axis, mode, origin, out)
+}
+
+// As `minimum_filter1d`, with the greatest level; SciPy's maximum_filter1d.
+// 2 1 4 3 5 with size 3 along axis 0 under Reflect and origin 0 gives 2 4 4 5 5.
+pub fn maximum_filter1d(
+    data: &[i64],
+    shape: &[usize],
+    size: usize,
+    axis: usize,
+    mode: BorderMode,
+    origin: isize,
+    out: &mut [i64],
+) -> u8
+    ensures { λ r. ⌜ Answers (callJudged (now («data» .entry)) (callOf (now (shape .entry)) size axis mode origin (now (out .entry))))
+        (answerOf atLeast (now («data» .entry)) (callOf (now (shape .entry)) size axis mode origin (now (out .entry)))) (now (out .entry)) r (now (out .exit)) ⌝ }
+{
+    filter1d(
+        Extreme::Greatest,
+        data,
+        shape,
+        size,
+        axis,
+        mode,
+        origin,
+        out,
+    )
+}

@@ -1,3 +1,0 @@
--- Laws.
-pub mod ByLanes
-pub mod OnePass

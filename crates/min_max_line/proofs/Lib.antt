@@ -1,0 +1,2 @@
+-- What the loop over windows of three cells rests on.
+pub mod Three

@@ -1,0 +1,56 @@
+// What the ring of MINLIST rests on: its pair, its places, and the lines that it serves. The two hot functions over it are in
+// crates of their own, `minimum_line` and `maximum_line`, and keep the ring in their locals.
+//
+// MINLIST: Richard Harter, "The minimum on a sliding window algorithm". The ring holds levels of the window, each with the cell
+// at which it dies, from the front, the least of the window, to the back, the cell read last.
+ghost use mathlib.Core.Path.{_≡_};
+ghost use Rattle.min_max_ring.specs.Firsts.{serving};
+ghost use Rattle.min_max_ring.specs.Ring.{placeOf};
+ghost use Rattle.min_max_ring.specs.Rows.{MinlistRows};
+
+// A level of the window, and the cell at whose reading it leaves the window: one window's length after its own.
+pub struct Pair {
+    pub val: i64,
+    pub death: usize,
+}
+
+// The place of the ring that is k places from its array's start, at most once round the end: 64 is place 64, 65 is place 0.
+// Refuses nothing.
+pub fn place(k: usize) -> usize
+    ensures { λ r. ⌜ r ≡ placeOf k ⌝ }
+{
+    if k < 65 {
+        return k;
+    }
+    k - 65
+}
+
+// Whether the ring serves a line: windows of 2 to 65 cells, at most 1,088 cells, and a cell of output for each window.
+//
+// * `n` - the cells of the line.
+// * `len` - the cells of a window.
+// * `m` - the cells of the output.
+//
+// A line of 6 cells with windows of 3 has 4 windows: (6, 3, 4) is served, (6, 3, 6) is not. Refuses nothing.
+pub fn serves(n: usize, len: usize, m: usize) -> bool
+    ensures { λ r. ⌜ r ≡ serving n len m ⌝ }
+{
+    if len < 2 {
+        return false;
+    }
+    if 65 < len {
+        return false;
+    }
+    if 1088 < n {
+        return false;
+    }
+    if n + 1 < len {
+        return false;
+    }
+    m == n + 1 - len
+}
+
+// Worked rows of this crate's definitions. Refuses nothing.
+pub fn rows()
+    ensures { λ _. ⌜ MinlistRows ⌝ }
+{}

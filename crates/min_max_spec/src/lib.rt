@@ -1,0 +1,14 @@
+// One-axis minimum and maximum calls as definitions, and the rule on the order of axes.
+ghost use Rattle.min_max_spec.specs.Order.{OrderOfAxes};
+ghost use Rattle.min_max_spec.specs.Rows.{SweepsRows};
+
+// The rule on the order of axes: one-axis minimum calls, or maximum calls, that sweep each axis once leave each cell the least,
+// or greatest, level of its box in the grid that the list starts with, in any order, and each call gets the same number anywhere.
+pub fn order_of_axes()
+    ensures { λ _. ⌜ OrderOfAxes ⌝ }
+{}
+
+// Worked rows of this crate's definitions. Refuses nothing.
+pub fn rows()
+    ensures { λ _. ⌜ SweepsRows ⌝ }
+{}

@@ -1,2 +1,0 @@
--- Laws of numbers that may be raised, leaves first.
-pub mod RaisedLists

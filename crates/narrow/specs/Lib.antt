@@ -1,2 +1,0 @@
--- Numbers that may be raised.
-pub mod Narrow

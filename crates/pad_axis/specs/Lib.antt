@@ -1,3 +1,0 @@
--- What padding fills a lane with.
-pub mod Fill
-pub mod Rows

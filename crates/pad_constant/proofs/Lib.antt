@@ -1,2 +1,0 @@
--- Laws of the gaps between the rows of a grid.
-pub mod Gaps

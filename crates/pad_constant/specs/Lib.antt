@@ -1,2 +1,0 @@
--- A padded grid around its middle.
-pub mod Around

@@ -1,3 +1,0 @@
--- Laws of the lanes of a padded grid.
-pub mod Lanes
-pub mod OneLane

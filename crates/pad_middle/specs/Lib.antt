@@ -1,2 +1,0 @@
--- Where the rows of a grid start in a padded one.
-pub mod RowStarts

@@ -1,2 +1,0 @@
--- Laws of the test of whether a place is in the middle.
-pub mod InMiddle

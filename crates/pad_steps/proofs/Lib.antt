@@ -1,4 +1,0 @@
--- Laws of the rims that are copied.
-pub mod CopiedRims
-pub mod Steps
-pub mod LaneByLane

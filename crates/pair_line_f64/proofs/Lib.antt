@@ -1,2 +1,0 @@
--- Laws of the sums by pairs.
-pub mod Turns

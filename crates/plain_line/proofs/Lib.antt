@@ -1,3 +1,0 @@
--- Laws of the sums that are added to a row, leaves first.
-pub mod Turns
-pub mod Passes

@@ -1,2 +1,0 @@
--- Weighted sums added to what a row holds.
-pub mod Added

@@ -1,2 +1,0 @@
--- Weighted sums of raised numbers.
-pub mod Raised

@@ -1,2 +1,0 @@
--- Products of raised numbers.
-pub mod Products

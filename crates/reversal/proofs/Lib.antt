@@ -1,1 +1,0 @@
--- No law of its own: a list reversed as a table is `correlation`'s.

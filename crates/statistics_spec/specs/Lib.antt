@@ -1,0 +1,4 @@
+-- One level out of a line of whole levels.
+pub mod Sorting
+pub mod Statistics
+pub mod Rows

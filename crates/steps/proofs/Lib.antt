@@ -1,2 +1,0 @@
--- Laws of cells copied by steps.
-pub mod StepByStep

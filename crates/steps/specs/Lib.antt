@@ -1,3 +1,0 @@
--- Cells copied by steps.
-pub mod Steps
-pub mod Rows

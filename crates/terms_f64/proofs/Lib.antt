@@ -1,2 +1,0 @@
--- A law of joined pairs.
-pub mod Told

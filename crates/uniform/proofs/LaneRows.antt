@@ -1,0 +1,13 @@
+-- The worked rows of the lanes of an axis: each holds by computing.
+-- Assumes nothing.
+use mathlib.Core.Path.{refl}
+use Rattle.numbers.specs.Lists.{tabulate}
+use Rattle.lanes.specs.Lanes.{laneAt, alongAxis}
+use Rattle.border.specs.Border.{cellFor, extendedLane}
+use Rattle.pad_line.specs.Line.{paddedAt, paddedLine}
+use Rattle.correlate_spec.specs.Weighed.{summed}
+use Rattle.uniform.specs.LaneRows.{LaneRows}
+
+pub lane-rows : LaneRows
+unfolding tabulate laneAt alongAxis cellFor extendedLane paddedAt paddedLine summed
+lane-rows = record { mean = refl; down = refl }

@@ -1,0 +1,137 @@
+// The judge of `uniform_filter1d` and `uniform_filter`: the conditions in rising order, before anything is stored.
+ghost use mathlib.Core.Path.{_≡_};
+ghost use mathlib.Core.Bool.{false};
+ghost use lib.IntN.{pos};
+ghost use Rattle.numbers.specs.Lists.{anyOf};
+ghost use Rattle.numbers.specs.Ranges.{outside};
+ghost use Rattle.numbers.specs.Refusal.{refusalOf};
+ghost use Rattle.border.specs.Modes.{borderOf};
+ghost use Rattle.min_max_judge.specs.Judge.{badReach};
+ghost use Rattle.uniform_spec.specs.Judge.{badGridReach, alongJudged, axesJudged, uniform1dJudged, uniformJudged};
+use border::BorderMode;
+
+// Condition 11 of a lane of n cells: the border cannot fill one of the pads of a centred window.
+fn bad_window(mode: BorderMode, n: usize, size: usize) -> bool
+    requires { ⌜ outside 1 65 size ≡ false ⌝ }
+    ensures { λ r. ⌜ r ≡ badReach (borderOf mode) size (pos 0) n ⌝ }
+{
+    min_max_judge::bad_reach(mode, n, size, 0)
+}
+
+// Condition 11 of a lane of n cells in the grid form: the same, or half the window is longer than the lane.
+fn bad_grid_window(mode: BorderMode, n: usize, size: usize) -> bool
+    requires { ⌜ outside 1 65 size ≡ false ⌝ }
+    ensures { λ r. ⌜ r ≡ badGridReach (borderOf mode) size n ⌝ }
+{
+    if bad_window(mode, n, size) {
+        return true;
+    }
+    n < size / 2
+}
+
+// Condition 11 of a grid: a lane of some axis has it.
+fn bad_grid(mode: BorderMode, shape: &[usize], size: usize) -> bool
+    requires { ⌜ outside 1 65 size ≡ false ⌝ }
+    ensures { λ r. ⌜ r ≡ anyOf (badGridReach (borderOf mode) size) (now (shape .entry)) ⌝ }
+{
+    let mut a = 0;
+    while a < shape.len() {
+        let n = shape[a];
+        if bad_grid_window(mode, n, size) {
+            return true;
+        }
+        a += 1;
+    }
+    false
+}
+
+// Conditions 5, 8, 9 and 11 of a window along one axis.
+fn judge_along(shape: &[usize], size: usize, axis: usize, mode: BorderMode) -> u8
+    ensures { λ r. ⌜ r ≡ refusalOf (alongJudged (borderOf mode) size (now (shape .entry)) axis) ⌝ }
+{
+    if min_max_judge::bad_size(size) {
+        return numbers::KERNEL;
+    }
+    if array::bad_axis(shape, axis) {
+        return numbers::AXIS;
+    }
+    if border::bad_constant(mode) {
+        return numbers::CONSTANT;
+    }
+    let n = array::len_of(shape, axis);
+    if bad_window(mode, n, size) {
+        return numbers::REACH;
+    }
+    numbers::ACCEPTED
+}
+
+// Conditions 5, 9 and 11 of a window along every axis.
+fn judge_axes(shape: &[usize], size: usize, mode: BorderMode) -> u8
+    ensures { λ r. ⌜ r ≡ refusalOf (axesJudged (borderOf mode) size (now (shape .entry))) ⌝ }
+{
+    if min_max_judge::bad_size(size) {
+        return numbers::KERNEL;
+    }
+    if border::bad_constant(mode) {
+        return numbers::CONSTANT;
+    }
+    if bad_grid(mode, shape, size) {
+        return numbers::REACH;
+    }
+    numbers::ACCEPTED
+}
+
+// The number of a call of uniform_filter1d, which fills its output where that is 0.
+//
+// * `data` - the cells of the grid, in row-major order.
+// * `shape` - the length of each axis.
+// * `size` - the length of the window.
+// * `axis` - the axis along which the windows lie.
+// * `mode` - the border.
+// * `out` - how many cells the lent output has.
+//
+// Returns 0, or the lowest number of a condition that holds: 1 (shape), 2 (a length), 3 (a level), 5 (size), 8 (axis), 9 (constant) or
+// 11 (the border cannot fill a pad). 12 never occurs: no sum of accepted levels leaves 64 bits. Writes nothing and refuses nothing itself.
+// Three cells under Mirror with size 5 give 0, with size 7 11.
+pub fn judge_uniform1d(
+    data: &[i64],
+    shape: &[usize],
+    size: usize,
+    axis: usize,
+    mode: BorderMode,
+    out: usize,
+) -> u8
+    ensures { λ r. ⌜ r ≡ refusalOf (uniform1dJudged (borderOf mode) size (now (shape .entry)) axis (now («data» .entry)) out) ⌝ }
+{
+    let refusal = array::judge_grid(data, shape, out, out);
+    if refusal != 0 {
+        return refusal;
+    }
+    judge_along(shape, size, axis, mode)
+}
+
+// The number of a call of uniform_filter, which sweeps every axis and fills its output where that is 0.
+//
+// * `data`, `shape`, `mode`, `out` - as in `judge_uniform1d`.
+// * `size` - the length of the window on every axis.
+// * `second` - how many cells the second lent grid has.
+//
+// Returns 0, or the lowest number of a condition that holds: 1 (shape), 2 (a length), 3 (a level), 5 (size), 9 (constant) or 11 (the border cannot
+// fill a pad of some axis, or under every border half the size is over the length of some axis). 12 never occurs. Writes nothing and refuses nothing
+// itself. One cell under Nearest with size 3 gives 0, with size 5 11.
+pub fn judge_uniform(
+    data: &[i64],
+    shape: &[usize],
+    size: usize,
+    mode: BorderMode,
+    out: usize,
+    second: usize,
+) -> u8
+    ensures { λ r. ⌜ r ≡ refusalOf (uniformJudged (borderOf mode) size (now (shape .entry)) (now («data» .entry)) out second) ⌝ }
+{
+    let refusal = array::judge_grid(data, shape, out, second);
+    if refusal != 0 {
+        return refusal;
+    }
+    judge_axes(shape, size, mode)
+}

@@ -1,2 +1,0 @@
--- Laws of lanes whose means are taken.
-pub mod Averaged

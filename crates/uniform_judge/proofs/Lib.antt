@@ -1,4 +1,0 @@
--- Laws, leaves first.
-pub mod Window
-pub mod Sums
-pub mod Chain

@@ -1,0 +1,38 @@
+-- The worked rows of grids and refusals: each holds by computing.
+-- Assumes nothing.
+use mathlib.Core.Path.{refl}
+use Rattle.numbers.specs.Lists.{tabulate}
+use Rattle.array_spec.specs.Conditions.{badShape, gridCount, badLevel}
+use Rattle.lanes.specs.Lanes.{laneAt, alongAxis}
+use Rattle.border.specs.Border.{cellFor, extendedLane}
+use Rattle.pad_line.specs.Line.{paddedAt, paddedLine}
+use Rattle.correlate_spec.specs.Weighed.{summed}
+use Rattle.uniform_spec.specs.JudgeRows.{JudgeRows}
+
+pub judge-rows : JudgeRows
+unfolding badShape gridCount badLevel tabulate laneAt alongAxis cellFor extendedLane paddedAt paddedLine summed
+judge-rows = record {
+  t6 = refl;
+  t6-grid = refl;
+  sums = refl;
+  even = refl;
+  down = refl;
+  across = refl;
+  both = refl;
+  twice = refl;
+  sizes = refl;
+  grid-sizes = refl;
+  axis-1 = refl;
+  constants = refl;
+  grid-constants = refl;
+  axis-first = refl;
+  reaches = refl;
+  grid-reaches = refl;
+  halves = refl;
+  one-cell = refl;
+  any-axis = refl;
+  beyond-one = refl;
+  beyond-later = refl;
+  grids = refl;
+  grid-grids = refl;
+}

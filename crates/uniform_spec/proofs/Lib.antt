@@ -1,0 +1,6 @@
+-- Laws, leaves first.
+pub mod Window
+pub mod Sums
+pub mod Chain
+pub mod JudgeRows
+pub mod MeanRows

@@ -1,0 +1,10 @@
+-- The worked rows of the means of a line: each holds by computing.
+-- Assumes nothing.
+use mathlib.Core.Path.{refl}
+use Rattle.numbers.specs.Lists.{tabulate}
+use Rattle.correlate_spec.specs.Weighed.{summed}
+use Rattle.uniform_spec.specs.MeanRows.{MeanRows}
+
+pub mean-rows : MeanRows
+unfolding tabulate summed
+mean-rows = record { sums = refl; cuts = refl; t6 = refl; alone = refl }

@@ -1,0 +1,35 @@
+-- The answer to an origin that condition 7 accepts, of a window along one axis or of a grid kernel: it is not Refused, and its pads are the two sums.
+-- Assumes nothing.
+use Prim.Native.Nat.{ℕ}
+use mathlib.Core.Path.{_≡_, sym, ap, _∙_}
+use mathlib.Core.Bool.{false}
+use native.Mathlib.Omega.{arith}
+use lib.IntN.{ℤ, pos, natAbs, _+ℤ_, _-ℤ_}
+use Rattle.numbers.proofs.Tests.{cond-no}
+use Rattle.window.specs.Origin.{badOrigin, originPads, refusalOfOrigin}
+use Rattle.window.specs.declared.origin.Origin.{Origin}
+use Rattle.window.specs.declared.origin.Origin.the-variants.{Pads, Refused}
+
+abbrev first : Origin → ℕ
+first (Pads x y) = x
+first Refused = 0
+
+abbrev last : Origin → ℕ
+last (Pads x y) = y
+last Refused = 0
+
+module _ (len left right : ℕ) (o : ℤ) (h : badOrigin len o ≡ false) {r : Origin} (e : r ≡ originPads len left right o) where
+  given : r ≡ Pads (natAbs (pos left +ℤ o)) (natAbs (pos right -ℤ o))
+  given = e ∙ cond-no (badOrigin len o) Refused (Pads (natAbs (pos left +ℤ o)) (natAbs (pos right -ℤ o))) h
+
+  pub not-refused : r ≡ Refused → ⊥
+  not-refused q = clash (ap refusalOfOrigin (sym q ∙ given))
+    where
+      clash : _≡_ {A = ℕ} 7 0 → ⊥
+      clash z = omega arith
+
+  pub left-is : {l g : ℕ} → r ≡ Pads l g → l ≡ natAbs (pos left +ℤ o)
+  left-is q = ap first (sym q ∙ given)
+
+  pub right-is : {l g : ℕ} → r ≡ Pads l g → g ≡ natAbs (pos right -ℤ o)
+  right-is q = ap last (sym q ∙ given)

@@ -1,0 +1,30 @@
+-- The origin of a window, and the pads that it gives.
+--   badOrigin len origin                 7: origin outside −floor(len/2)..floor((len − 1)/2); at length 0 every origin
+--   originPads len left right origin     Refused, or the pads: left + origin and right − origin
+--   refusalOfOrigin o                    the number of the answer o: 0, accepted, or 7
+--   signedOf s                           the signed number that a sign and a size stand for
+use Prim.Native.Nat.{ℕ, _/_}
+use mathlib.Core.Bool.{Bool, cond}
+use lib.IntN.{ℤ, pos, negsuc, negℤ, natAbs, _+ℤ_, _-ℤ_}
+use lib.Signed.{shrZ}
+use Rattle.numbers.specs.Ranges.{outsideZ}
+use Rattle.window.specs.declared.origin.Origin.{Origin}
+use Rattle.window.specs.declared.origin.Origin.the-variants.{Pads, Refused}
+use Rattle.window.specs.declared.origin.Shift.{Shift}
+use Rattle.window.specs.declared.origin.Shift.the-variants.{On, Back}
+
+-- shrZ .. 2 is the half, rounded down
+unfoldable pub badOrigin : ℕ → ℤ → Bool
+badOrigin len origin = outsideZ (negℤ (pos (len / 2))) (shrZ (pos len -ℤ pos 1) 2) origin
+
+-- no sum is negative where the origin is accepted
+abbrev pub originPads : ℕ → ℕ → ℕ → ℤ → Origin
+originPads len left right origin = cond (badOrigin len origin) Refused (Pads (natAbs (pos left +ℤ origin)) (natAbs (pos right -ℤ origin)))
+
+abbrev pub refusalOfOrigin : Origin → ℕ
+refusalOfOrigin (Pads l r) = 0
+refusalOfOrigin Refused = 7
+
+abbrev pub signedOf : Shift → ℤ
+signedOf (On k) = pos k
+signedOf (Back k) = negsuc k
