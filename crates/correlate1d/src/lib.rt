@@ -98,7 +98,7 @@ fn convolve_cells(
         scale(data, weights[0], out);
         return;
     }
-    crate::reversal::reverse(weights, turned);
+    reversal::reverse(weights, turned);
     let applied = correlate_judge::applied_origin(weights.len(), origin, true);
     weigh(data, shape, turned, axis, mode, applied, out);
 }

@@ -43,7 +43,7 @@ fn weigh(
 {
     match window::origin_check(weights.len(), origin) {
         Origin::Refused => {}
-        Origin::Pads(left, right) => crate::lane_loop::correlate_axis_f64(
+        Origin::Pads(left, right) => lane_loop::correlate_axis_f64(
             weights,
             symmetry::symmetry_state_f64(weights),
             mode,

@@ -6,8 +6,8 @@ ghost use Rattle.symmetry_spec.specs.declared.SymmetryState.the-variants.{NonSy
 ghost use Rattle.correlate_spec.specs.Weighed.{wholeOps, weighedLine};
 ghost use Rattle.correlate_spec.specs.Sizes.{Weighable};
 ghost use Rattle.correlate_line.specs.Narrow.{Narrow};
-use crate::raised::raised_line;
 use array::fill;
+use raised::raised_line;
 
 mod narrow;
 mod plain;

@@ -6,10 +6,10 @@ ghost use Rattle.numbers.specs.Lists.{tabulate};
 ghost use Rattle.symmetry_spec.specs.declared.SymmetryState.the-variants.{NonSymmetric};
 ghost use Rattle.correlate_spec.specs.Weighed.{floatOps, plainTo, weighedLine};
 ghost use Rattle.correlate_spec.specs.Lengths.{Windows};
-use crate::pairs::pair_line_f64;
-use crate::terms::four_more;
-use crate::terms::four_weights;
+use pairs::pair_line_f64;
 use symmetry_spec::SymmetryState;
+use terms::four_more;
+use terms::four_weights;
 
 mod pairs;
 mod terms;

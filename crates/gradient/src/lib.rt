@@ -25,11 +25,11 @@ fn filter(
     requires { ⌜ ThreeSmall (now smooth) ⌝ }
     ensures { λ r. ⌜ GradientAnswers (now (smooth .entry)) (borderOf mode) (now (shape .entry)) axis (now («data» .entry)) (now (second .entry)) (now (out .entry)) r (now (second .exit)) (now (out .exit)) ⌝ }
 {
-    let refusal = crate::judge::judge_gradient(data, shape, axis, mode, out.len(), second.len());
+    let refusal = judge::judge_gradient(data, shape, axis, mode, out.len(), second.len());
     if refusal != 0 {
         return refusal;
     }
-    crate::passes::passes(smooth, data, shape, axis, mode, second, out);
+    passes::passes(smooth, data, shape, axis, mode, second, out);
     array::fill(second, 0);
     numbers::ACCEPTED
 }

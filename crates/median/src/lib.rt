@@ -62,7 +62,7 @@ fn median_cells(mask: &[bool], shape: &[usize], out: &mut [bool])
     let planes = array::len_of(shape, 0);
     let rows = array::len_of(shape, 1);
     let n = array::len_of(shape, 2);
-    crate::row::median_rows(mask, planes, rows, n, out);
+    row::median_rows(mask, planes, rows, n, out);
 }
 
 // The median of each cell and its neighbours on three axes: true where more than floor((cells - 1)/2) of them are true.

@@ -83,7 +83,7 @@ pub fn judge(
     if bad_constant(mode) {
         return numbers::CONSTANT;
     }
-    if crate::count::bad_pads(shape, pads, count, out) {
+    if count::bad_pads(shape, pads, count, out) {
         return numbers::PADS;
     }
     if bad_reach(mode, shape, pads, count) {

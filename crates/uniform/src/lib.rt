@@ -24,7 +24,7 @@ fn pass(data: &[i64], shape: &[usize], size: usize, axis: usize, mode: BorderMod
 {
     let left = size / 2;
     let right = size - left - 1;
-    crate::lane_loop::uniform_axis(mode, data, shape, axis, left, right, out);
+    lane_loop::uniform_axis(mode, data, shape, axis, left, right, out);
 }
 
 // Fills out with the answer of an accepted grid call; second holds what a pass between leaves.
@@ -77,7 +77,7 @@ pub fn uniform_filter1d(
     ensures { λ r. ⌜ Answers (uniform1dJudged (borderOf mode) size (now (shape .entry)) axis (now («data» .entry)) (length (now (out .entry))))
         (uniform1d (borderOf mode) size (now (shape .entry)) axis (now («data» .entry))) (now (out .entry)) r (now (out .exit)) ⌝ }
 {
-    let refusal = crate::judge::judge_uniform1d(data, shape, size, axis, mode, out.len());
+    let refusal = judge::judge_uniform1d(data, shape, size, axis, mode, out.len());
     if refusal != 0 {
         return refusal;
     }
@@ -108,7 +108,7 @@ pub fn uniform_filter(
 ) -> u8
     ensures { λ r. ⌜ UniformAnswers (borderOf mode) size (now (shape .entry)) (now («data» .entry)) (now (second .entry)) (now (out .entry)) r (now (second .exit)) (now (out .exit)) ⌝ }
 {
-    let refusal = crate::judge::judge_uniform(data, shape, size, mode, out.len(), second.len());
+    let refusal = judge::judge_uniform(data, shape, size, mode, out.len(), second.len());
     if refusal != 0 {
         return refusal;
     }
