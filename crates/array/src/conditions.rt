@@ -1,7 +1,6 @@
 // Conditions 1, 2, 3 and 8 of a refusal, a function for each, for every argument there is.
 ghost use mathlib.Core.Path.{_≡_};
 ghost use mathlib.Core.List.{[], _∷_};
-ghost use lib.ListN.{length};
 ghost use Rattle.numbers.specs.Lists.{anyOf};
 ghost use Rattle.numbers.specs.Refusal.{refusalOf};
 ghost use Rattle.array_spec.specs.Conditions.{badShape, badLength, badLevel, badFloat, badAxis, gridJudgedBy, gridJudged};
@@ -21,6 +20,23 @@ pub fn bad_length(shape: &[usize], len: usize) -> bool
     ensures { λ r. ⌜ r ≡ badLength (now (shape .entry)) len ⌝ }
 {
     len != cell_count(shape)
+}
+
+// Condition 2 of several grids: one of them does not have the shape's cell count. Of 2 3 the lengths 6 6 pass, 6 5 do not.
+//
+// * `lent` - the length of each grid.
+pub fn bad_lengths(shape: &[usize], lent: &[usize]) -> bool
+    ensures { λ r. ⌜ r ≡ anyOf (badLength (now (shape .entry))) (now (lent .entry)) ⌝ }
+{
+    let count = cell_count(shape);
+    let mut k = 0;
+    while k < lent.len() {
+        if lent[k] != count {
+            return true;
+        }
+        k += 1;
+    }
+    false
 }
 
 // Condition 3 of one whole level: outside -(2^31 - 1)..2^31 - 1. -2147483648 is outside.
@@ -75,9 +91,9 @@ pub fn bad_axis(shape: &[usize], axis: usize) -> bool
     shape.len() <= axis
 }
 
-// Conditions 1 and 2 in rising order, of a grid of `len` cells and two lent grids.
-fn judge_lengths(shape: &[usize], len: usize, out: usize, second: usize) -> u8
-    ensures { λ r. ⌜ r ≡ refusalOf ((badShape (now (shape .entry)), 1) ∷ (anyOf (badLength (now (shape .entry))) (len ∷ out ∷ second ∷ []), 2) ∷ []) ⌝ }
+// Conditions 1 and 2 in rising order, of a grid of `len` cells and the lent grids.
+fn judge_lengths(shape: &[usize], len: usize, lent: &[usize]) -> u8
+    ensures { λ r. ⌜ r ≡ refusalOf ((badShape (now (shape .entry)), 1) ∷ (anyOf (badLength (now (shape .entry))) (len ∷ now (lent .entry)), 2) ∷ []) ⌝ }
 {
     if bad_shape(shape) {
         return numbers::SHAPE;
@@ -85,26 +101,24 @@ fn judge_lengths(shape: &[usize], len: usize, out: usize, second: usize) -> u8
     if bad_length(shape, len) {
         return numbers::LENGTH;
     }
-    if bad_length(shape, out) {
-        return numbers::LENGTH;
-    }
-    if bad_length(shape, second) {
+    if bad_lengths(shape, lent) {
         return numbers::LENGTH;
     }
     numbers::ACCEPTED
 }
 
 // Conditions 1, 2 and 3 of a grid of whole levels, in rising order: the number of the first that holds, or 0.
+// 1 and 2 are answered before a level is read.
 //
 // * `data` - the cells of the grid.
 // * `shape` - the length of each axis.
-// * `out`, `second` - the lengths of the lent grids; a call that is lent one grid hands in its length twice.
+// * `lent` - the length of each grid that is lent besides.
 //
 // Refuses: 1, 2, 3. Of the cells 1 2 3 the shape 2 2 gives 2, whatever is lent.
-pub fn judge_grid(data: &[i64], shape: &[usize], out: usize, second: usize) -> u8
-    ensures { λ r. ⌜ r ≡ refusalOf (gridJudged (now (shape .entry)) (now («data» .entry)) (length (now («data» .entry)) ∷ out ∷ second ∷ [])) ⌝ }
+pub fn judge_grid(data: &[i64], shape: &[usize], lent: &[usize]) -> u8
+    ensures { λ r. ⌜ r ≡ refusalOf (gridJudged (now (shape .entry)) (now («data» .entry)) (now (lent .entry))) ⌝ }
 {
-    let refusal = judge_lengths(shape, data.len(), out, second);
+    let refusal = judge_lengths(shape, data.len(), lent);
     if refusal != 0 {
         return refusal;
     }
@@ -115,10 +129,10 @@ pub fn judge_grid(data: &[i64], shape: &[usize], out: usize, second: usize) -> u
 }
 
 // The same of a grid of float levels. A NaN as the only cell of the shape 1 gives 3, -0.0 gives 0.
-pub fn judge_grid_f64(data: &[f64], shape: &[usize], out: usize, second: usize) -> u8
-    ensures { λ r. ⌜ r ≡ refusalOf (gridJudgedBy badFloat (now (shape .entry)) (now («data» .entry)) (length (now («data» .entry)) ∷ out ∷ second ∷ [])) ⌝ }
+pub fn judge_grid_f64(data: &[f64], shape: &[usize], lent: &[usize]) -> u8
+    ensures { λ r. ⌜ r ≡ refusalOf (gridJudgedBy badFloat (now (shape .entry)) (now («data» .entry)) (now (lent .entry))) ⌝ }
 {
-    let refusal = judge_lengths(shape, data.len(), out, second);
+    let refusal = judge_lengths(shape, data.len(), lent);
     if refusal != 0 {
         return refusal;
     }

@@ -43,9 +43,9 @@ pub fn fill(out: &mut [i64], level: i64)
 //
 // Refuses: 1, 2, 3. The rows 1 2 / 3 4 are copied; of the cells 1 2 3 the shape 2 2 gives 2.
 pub fn assign(data: &[i64], shape: &[usize], out: &mut [i64]) -> u8
-    ensures { λ r. ⌜ Answers (gridJudged (now (shape .entry)) (now («data» .entry)) (length (now («data» .entry)) ∷ length (now (out .entry)) ∷ [])) (now («data» .entry)) (now (out .entry)) r (now (out .exit)) ⌝ }
+    ensures { λ r. ⌜ Answers (gridJudged (now (shape .entry)) (now («data» .entry)) (length (now (out .entry)) ∷ [])) (now («data» .entry)) (now (out .entry)) r (now (out .exit)) ⌝ }
 {
-    let refusal = judge_grid(data, shape, out.len(), out.len());
+    let refusal = judge_grid(data, shape, &[out.len()]);
     if refusal != 0 {
         return refusal;
     }

@@ -7,6 +7,7 @@ mod shapes;
 
 pub use conditions::bad_axis;
 pub use conditions::bad_length;
+pub use conditions::bad_lengths;
 pub use conditions::bad_level;
 pub use conditions::bad_level_f64;
 pub use conditions::bad_levels;

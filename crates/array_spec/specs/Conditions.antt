@@ -5,8 +5,9 @@
 --   badLevel z         3: a whole level outside −(2^31 − 1)..2^31 − 1
 --   badFloat x         3: a float level that is not finite
 --   badAxis ns a       8: an axis number not below the axis count
---   gridJudgedBy bad ns cells lengths   conditions 1, 2 (of every lent grid's length) and 3, the test bad of one level, in rising order
---   gridJudged ns cells lengths         the same of whole levels
+--   gridJudgedBy bad ns cells lent   conditions 1, 2 (of the grid and of each lent grid, by the list of their lengths) and 3, the
+--                      test bad of one level, in rising order
+--   gridJudged ns cells lent         the same of whole levels
 -- Conditions 1 and 3 of a whole list are tests of any member: anyOf badLevel, anyOf badFloat.
 use Prim.Native.Nat.{ℕ, _-_, _^_}
 use mathlib.Core.Bool.{Bool, true, false, not, _||_, cond}
@@ -41,7 +42,7 @@ abbrev pub badAxis : List ℕ → ℕ → Bool
 badAxis ns a = not (ltb a (length ns))
 
 abbrev pub gridJudgedBy : {A : Type 0} → (A → Bool) → List ℕ → List A → List ℕ → Judged
-gridJudgedBy bad ns cells lengths = (badShape ns, 1) ∷ (anyOf (badLength ns) lengths, 2) ∷ (anyOf bad cells, 3) ∷ []
+gridJudgedBy bad ns cells lent = (badShape ns, 1) ∷ (anyOf (badLength ns) (length cells ∷ lent), 2) ∷ (anyOf bad cells, 3) ∷ []
 
 abbrev pub gridJudged : List ℕ → List ℤ → List ℕ → Judged
-gridJudged ns cells lengths = gridJudgedBy badLevel ns cells lengths
+gridJudged ns cells lent = gridJudgedBy badLevel ns cells lent

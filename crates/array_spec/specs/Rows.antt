@@ -54,8 +54,9 @@ pub record ArrayRows : Type 0 where
   -- copies
   pub copy : copied (wholes (1 ∷ 2 ∷ [])) (wholes (8 ∷ 9 ∷ [])) ≡ wholes (1 ∷ 2 ∷ [])
   pub copy-other : copied (wholes (1 ∷ [])) (wholes (8 ∷ 9 ∷ [])) ≡ wholes (8 ∷ 9 ∷ [])
-  -- the shape is judged before the lengths, the lengths before the levels
-  pub numbers : refusalOf (gridJudged [] [] (0 ∷ 1 ∷ [])) ∷ refusalOf (gridJudged (2 ∷ []) (wholes (1 ∷ [])) (1 ∷ 2 ∷ [])) ∷ refusalOf (gridJudged (1 ∷ []) (pos (2 ^ 31) ∷ []) (1 ∷ 2 ∷ [])) ∷ refusalOf (gridJudged (1 ∷ []) (pos (2 ^ 31) ∷ []) (1 ∷ 1 ∷ [])) ∷ refusalOf (gridJudged (1 ∷ []) (pos 1 ∷ []) (1 ∷ 1 ∷ [])) ∷ []
+  -- the shape is judged before the lengths, the lengths before the levels; the grid's own length is wrong, the last of two that are lent, none
+  pub numbers : refusalOf (gridJudged [] [] (1 ∷ [])) ∷ refusalOf (gridJudged (2 ∷ []) (wholes (1 ∷ [])) (2 ∷ [])) ∷ refusalOf (gridJudged (1 ∷ []) (pos (2 ^ 31) ∷ []) (1 ∷ 2 ∷ []))
+      ∷ refusalOf (gridJudged (1 ∷ []) (pos (2 ^ 31) ∷ []) []) ∷ refusalOf (gridJudged (1 ∷ []) (pos 1 ∷ []) (1 ∷ 1 ∷ [])) ∷ []
       ≡ 1 ∷ 2 ∷ 2 ∷ 3 ∷ 0 ∷ []
   -- the same of floats: a NaN, −0.0
-  pub float-numbers : map (λ x. refusalOf (gridJudgedBy badFloat (1 ∷ []) (x ∷ []) (1 ∷ 1 ∷ []))) (nan ∷ fin true 0 (pos 0) ∷ []) ≡ 3 ∷ 0 ∷ []
+  pub float-numbers : map (λ x. refusalOf (gridJudgedBy badFloat (1 ∷ []) (x ∷ []) (1 ∷ []))) (nan ∷ fin true 0 (pos 0) ∷ []) ≡ 3 ∷ 0 ∷ []

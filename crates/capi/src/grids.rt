@@ -1,9 +1,11 @@
 // The calls on whole grids; those that make several passes are lent a second grid.
 ghost use mathlib.Core.Bool.{true, false};
+ghost use mathlib.Core.List.{[], _∷_};
+ghost use lib.IntN.{pos};
 ghost use lib.ListN.{length};
 ghost use lib.Signed.{leZ};
 ghost use Rattle.numbers.specs.Order.{atLeast};
-ghost use Rattle.numbers.specs.Refusal.{Answers};
+ghost use Rattle.numbers.specs.Refusal.{Answers, ScratchAnswers};
 ghost use Rattle.border.specs.Modes.{borderOf};
 ghost use Rattle.min_max_judge.specs.Judge.{callOf, filterJudged};
 ghost use Rattle.correlate_spec.specs.Kernel.{correlateZ, convolveZ};
@@ -13,7 +15,7 @@ ghost use Rattle.gradient_spec.specs.Judge.{gradientJudged};
 ghost use Rattle.uniform_spec.specs.Uniform.{uniform as uniformOf};
 ghost use Rattle.uniform_spec.specs.Judge.{uniformJudged};
 ghost use Rattle.min_max.specs.Filters.{filterAnswer};
-ghost use Rattle.codes.specs.Codes.{modeOf, unknownBorder, coded, TwoAnswers};
+ghost use Rattle.codes.specs.Codes.{modeOf, unknownBorder, coded};
 
 // The sums of each window times the weights of a grid kernel; the call `correlate`.
 //
@@ -110,8 +112,8 @@ pub extern "C" fn suvvokal_prewitt(
     second: &mut [i64],
     out: &mut [i64],
 ) -> u8
-    ensures { λ r. ⌜ TwoAnswers (coded (gradientJudged prewittWeights (borderOf (modeOf code constant)) (now (shape .entry)) axis (now («data» .entry)) (length (now (out .entry))) (length (now (second .entry)))) (unknownBorder code))
-        (gradientOf prewittWeights (borderOf (modeOf code constant)) (now (shape .entry)) axis (now («data» .entry))) (now (second .entry)) (now (out .entry)) r (now (second .exit)) (now (out .exit)) ⌝ }
+    ensures { λ r. ⌜ ScratchAnswers (pos 0) (coded (gradientJudged prewittWeights (borderOf (modeOf code constant)) (now (shape .entry)) axis (now («data» .entry)) (length (now (out .entry))) (length (now (second .entry)))) (unknownBorder code))
+        (gradientOf prewittWeights (borderOf (modeOf code constant)) (now (shape .entry)) axis (now («data» .entry))) (now (out .entry)) (now (second .entry) ∷ []) r (now (out .exit)) (now (second .exit) ∷ []) ⌝ }
 {
     let mode = codes::mode_of(code, constant);
     if 4 < code {
@@ -132,8 +134,8 @@ pub extern "C" fn suvvokal_sobel(
     second: &mut [i64],
     out: &mut [i64],
 ) -> u8
-    ensures { λ r. ⌜ TwoAnswers (coded (gradientJudged sobelWeights (borderOf (modeOf code constant)) (now (shape .entry)) axis (now («data» .entry)) (length (now (out .entry))) (length (now (second .entry)))) (unknownBorder code))
-        (gradientOf sobelWeights (borderOf (modeOf code constant)) (now (shape .entry)) axis (now («data» .entry))) (now (second .entry)) (now (out .entry)) r (now (second .exit)) (now (out .exit)) ⌝ }
+    ensures { λ r. ⌜ ScratchAnswers (pos 0) (coded (gradientJudged sobelWeights (borderOf (modeOf code constant)) (now (shape .entry)) axis (now («data» .entry)) (length (now (out .entry))) (length (now (second .entry)))) (unknownBorder code))
+        (gradientOf sobelWeights (borderOf (modeOf code constant)) (now (shape .entry)) axis (now («data» .entry))) (now (out .entry)) (now (second .entry) ∷ []) r (now (out .exit)) (now (second .exit) ∷ []) ⌝ }
 {
     let mode = codes::mode_of(code, constant);
     if 4 < code {
@@ -163,8 +165,8 @@ pub extern "C" fn suvvokal_uniform_filter(
     second: &mut [i64],
     out: &mut [i64],
 ) -> u8
-    ensures { λ r. ⌜ TwoAnswers (coded (uniformJudged (borderOf (modeOf code constant)) size (now (shape .entry)) (now («data» .entry)) (length (now (out .entry))) (length (now (second .entry)))) (unknownBorder code))
-        (uniformOf (borderOf (modeOf code constant)) size (now (shape .entry)) (now («data» .entry))) (now (second .entry)) (now (out .entry)) r (now (second .exit)) (now (out .exit)) ⌝ }
+    ensures { λ r. ⌜ ScratchAnswers (pos 0) (coded (uniformJudged (borderOf (modeOf code constant)) size (now (shape .entry)) (now («data» .entry)) (length (now (out .entry))) (length (now (second .entry)))) (unknownBorder code))
+        (uniformOf (borderOf (modeOf code constant)) size (now (shape .entry)) (now («data» .entry))) (now (out .entry)) (now (second .entry) ∷ []) r (now (out .exit)) (now (second .exit) ∷ []) ⌝ }
 {
     let mode = codes::mode_of(code, constant);
     if 4 < code {
@@ -196,8 +198,8 @@ pub extern "C" fn suvvokal_minimum_filter(
     second: &mut [i64],
     out: &mut [i64],
 ) -> u8
-    ensures { λ r. ⌜ TwoAnswers (coded (filterJudged (now («data» .entry)) (callOf (now (shape .entry)) size 0 (modeOf code constant) origin (now (out .entry))) (length (now (second .entry)))) (unknownBorder code))
-        (filterAnswer leZ (callOf (now (shape .entry)) size 0 (modeOf code constant) origin (now (out .entry))) (now («data» .entry))) (now (second .entry)) (now (out .entry)) r (now (second .exit)) (now (out .exit)) ⌝ }
+    ensures { λ r. ⌜ ScratchAnswers (pos 0) (coded (filterJudged (now («data» .entry)) (callOf (now (shape .entry)) size 0 (modeOf code constant) origin (now (out .entry))) (length (now (second .entry)))) (unknownBorder code))
+        (filterAnswer leZ (callOf (now (shape .entry)) size 0 (modeOf code constant) origin (now (out .entry))) (now («data» .entry))) (now (out .entry)) (now (second .entry) ∷ []) r (now (out .exit)) (now (second .exit) ∷ []) ⌝ }
 {
     let mode = codes::mode_of(code, constant);
     if 4 < code {
@@ -227,8 +229,8 @@ pub extern "C" fn suvvokal_maximum_filter(
     second: &mut [i64],
     out: &mut [i64],
 ) -> u8
-    ensures { λ r. ⌜ TwoAnswers (coded (filterJudged (now («data» .entry)) (callOf (now (shape .entry)) size 0 (modeOf code constant) origin (now (out .entry))) (length (now (second .entry)))) (unknownBorder code))
-        (filterAnswer atLeast (callOf (now (shape .entry)) size 0 (modeOf code constant) origin (now (out .entry))) (now («data» .entry))) (now (second .entry)) (now (out .entry)) r (now (second .exit)) (now (out .exit)) ⌝ }
+    ensures { λ r. ⌜ ScratchAnswers (pos 0) (coded (filterJudged (now («data» .entry)) (callOf (now (shape .entry)) size 0 (modeOf code constant) origin (now (out .entry))) (length (now (second .entry)))) (unknownBorder code))
+        (filterAnswer atLeast (callOf (now (shape .entry)) size 0 (modeOf code constant) origin (now (out .entry))) (now («data» .entry))) (now (out .entry)) (now (second .entry) ∷ []) r (now (out .exit)) (now (second .exit) ∷ []) ⌝ }
 {
     let mode = codes::mode_of(code, constant);
     if 4 < code {

@@ -6,15 +6,13 @@ use mathlib.Core.Bool.{Bool, true, false, cond}
 use mathlib.Core.List.{List, [], _∷_}
 use Prim.Native.Nat.{ℕ, _≤_, _<_}
 use native.Mathlib.Omega.{arith}
-use borrow.Author.Tests.{lt-ltb, le-ltb, eqb-false, ne-eqb}
+use borrow.Author.Tests.{lt-ltb, le-ltb, eqb-false}
 use lib.Dec.{T, eqb, ltb}
-use lib.IntN.{ℤ, pos}
-use lib.ListN.{length, replicate}
 use Rattle.numbers.specs.Lists.{Every}
-use Rattle.numbers.specs.Refusal.{Judged, refusalOf, Answers}
-use Rattle.numbers.proofs.Refusal.{judged-append}
+use Rattle.numbers.specs.Refusal.{Judged, refusalOf, Answers, ScratchAnswers}
+use Rattle.numbers.proofs.Refusal.{judged-append, answers-refused, scratch-refused}
 use Rattle.numbers.proofs.Tests.{cond-yes, cond-no}
-use Rattle.codes.specs.Codes.{coded, TwoAnswers}
+use Rattle.codes.specs.Codes.{coded}
 
 -- a last condition that does not hold changes no number
 number-known : (js : Judged) (u : Bool) → u ≡ false → refusalOf js ≡ refusalOf (coded js u)
@@ -47,17 +45,15 @@ module _ {A : Type 0} (js : Judged) {levels held : List A} (n : ℕ) {code : ℕ
 
   pub answers-unknown : (q : ℕ) {r : ℕ} → Every (λ j. T (ltb 0 (j .1))) js → n < code → q ≡ refusalOf js → r ≡ cond (eqb q 0) 100 q
       → Answers (coded js (ltb n code)) levels held r held
-  answers-unknown q {r} p h e f = record {
-    number = number-unknown js (ltb n code) p e f (lt-ltb n code h);
-    cells = sym (cond-no (eqb r 0) levels held (ne-eqb r 0 (never-accepted q f)));
-  }
+  answers-unknown q {r} p h e f = answers-refused (coded js (ltb n code)) levels held r (number-unknown js (ltb n code) p e f (lt-ltb n code h)) (never-accepted q f)
 
--- the same of both lent grids
-module _ (js : Judged) {levels second out : List ℤ} (n : ℕ) {code : ℕ} where
-  pub two-known : {r : ℕ} {second′ out′ : List ℤ} → code ≤ n → Answers js levels out r out′ → Answers js (replicate (length second) (pos 0)) second r second′
-      → TwoAnswers (coded js (ltb n code)) levels second out r second′ out′
-  two-known h a b = record { filled = answers-known js n h a; cleared = answers-known js n h b }
+-- the same of a call that is lent scratch grids besides
+module _ {A : Type 0} (zero : A) (js : Judged) {levels held : List A} {scratch : List (List A)} (n : ℕ) {code : ℕ} where
+  pub scratch-known : {r : ℕ} {left : List A} {scratch′ : List (List A)} → code ≤ n → ScratchAnswers zero js levels held scratch r left scratch′
+      → ScratchAnswers zero (coded js (ltb n code)) levels held scratch r left scratch′
+  scratch-known h a = record { filled = answers-known js n h (a .filled); cleared = a .cleared }
 
-  pub two-unknown : (q : ℕ) {r : ℕ} → Every (λ j. T (ltb 0 (j .1))) js → n < code → q ≡ refusalOf js → r ≡ cond (eqb q 0) 100 q
-      → TwoAnswers (coded js (ltb n code)) levels second out r second out
-  two-unknown q p h e f = record { filled = answers-unknown js n q p h e f; cleared = answers-unknown js n q p h e f }
+  pub scratch-unknown : (q : ℕ) {r : ℕ} → Every (λ j. T (ltb 0 (j .1))) js → n < code → q ≡ refusalOf js → r ≡ cond (eqb q 0) 100 q
+      → ScratchAnswers zero (coded js (ltb n code)) levels held scratch r held scratch
+  scratch-unknown q {r} p h e f =
+      scratch-refused zero (coded js (ltb n code)) levels held scratch r (number-unknown js (ltb n code) p e f (lt-ltb n code h)) (never-accepted q f)

@@ -9,15 +9,13 @@
 --   unknownKernel code     whether a code names no kernel
 --   coded js unknown       what a call refuses, and last an unknown code
 --   codeOf class           the code of a symmetry class: 0 NonSymmetric, 1 Symmetric, 2 AntiSymmetric
---   TwoAnswers             the promise of a call with a second grid: its number, the output, and the second grid, which an accepted call leaves all 0
 use Prim.Native.Nat.{ℕ}
 use mathlib.Core.Bool.{Bool, cond}
-use mathlib.Core.List.{List, [], _∷_, _++_}
+use mathlib.Core.List.{[], _∷_, _++_}
 use lib.Dec.{ltb, eqb}
 use lib.Ieee.{Float}
-use lib.IntN.{ℤ, pos}
-use lib.ListN.{length, replicate}
-use Rattle.numbers.specs.Refusal.{Judged, Answers}
+use lib.IntN.{ℤ}
+use Rattle.numbers.specs.Refusal.{Judged}
 use Rattle.border.specs.declared.BorderMode.{BorderMode}
 use Rattle.border.specs.declared.BorderMode.the-variants as Whole
 use Rattle.border.specs.declared.BorderModeF64.{BorderModeF64}
@@ -61,7 +59,3 @@ abbrev pub codeOf : SymmetryState → ℕ
 codeOf NonSymmetric = 0
 codeOf Symmetric = 1
 codeOf AntiSymmetric = 2
-
-pub record TwoAnswers (js : Judged) (levels second out : List ℤ) (r : ℕ) (second′ out′ : List ℤ) : Type 0 where
-  pub filled : Answers js levels out r out′
-  pub cleared : Answers js (replicate (length second) (pos 0)) second r second′

@@ -1,20 +1,19 @@
 -- An accepted call with a grid kernel: what the worker supposes holds of the weights and the origin as they are applied.
 -- Assumes nothing.
-use Prim.Native.Nat.{ℕ, _+_, _/_, _≤_, _<_}
-use mathlib.Core.Path.{_≡_, refl, sym, ap, subst, _∙_}
-use mathlib.Core.Bool.{Bool, false, _||_}
+use Prim.Native.Nat.{ℕ, _+_, _/_, _<_}
+use mathlib.Core.Path.{_≡_, sym, ap, subst, _∙_}
+use mathlib.Core.Bool.{Bool, false}
 use mathlib.Core.List.{List, [], _∷_}
 use native.Mathlib.Omega.{arith}
 use lib.IntN.{ℤ}
-use lib.ListN.{length}
+use lib.ListN.{length, drop}
 use Rattle.numbers.specs.Lists.{anyOf}
 use Rattle.numbers.specs.Refusal.{refusalOf}
 use Rattle.numbers.proofs.Any.{any-none, every-at}
-use Rattle.numbers.proofs.Refusal.{judged-all}
 use Rattle.numbers.proofs.Tests.{or-false}
-use Rattle.array_spec.specs.Conditions.{badShape, badLevel}
+use Rattle.array_spec.specs.Conditions.{badLevel}
 use Rattle.array_spec.specs.Grid.{cellCount, lengthOf}
-use Rattle.array_spec.proofs.Judged.{Judged, grid-judged}
+use Rattle.array_spec.proofs.Judged.{PassedGrid, lent-same, grid-passed}
 use Rattle.border.specs.Border.{Border}
 use Rattle.border.specs.Modes.{badConstantBy}
 use Rattle.window.specs.Origin.{badOrigin}
@@ -34,10 +33,7 @@ kernel-pads side o h = pads-sum (side / 2) (side / 2) o (kernel-accepted side o 
 
 -- what the conditions say of a call that they accept
 pub record Passed (turned : Bool) (b : Border ℤ) (o : ℤ) (sides : List ℕ) (w : List ℤ) (ns : List ℕ) (cells : List ℤ) (out : ℕ) : Type 0 where
-  pub shape : badShape ns ≡ false
-  pub count : length cells ≡ cellCount ns
-  pub lent : out ≡ length cells
-  pub levels : anyOf badLevel cells ≡ false
+  pub grid : PassedGrid badLevel ns cells (out ∷ [])
   pub equal : Equal ns sides (length w)
   pub weights : anyOf badWeight w ≡ false
   pub origin : badOrigin (sideOf sides) o ≡ false
@@ -47,17 +43,13 @@ pub record Passed (turned : Bool) (b : Border ℤ) (o : ℤ) (sides : List ℕ) 
 module _ (turned : Bool) (b : Border ℤ) (o : ℤ) (sides : List ℕ) (w : List ℤ) (ns : List ℕ) (cells : List ℤ) (out : ℕ) where
   pub passed : refusalOf (kernelJudged turned b o sides w ns cells out) ≡ 0 → Passed turned b o sides w ns cells out
   passed z =
-      let J = judged-all (kernelJudged turned b o sides w ns cells out) (tt, (tt, (tt, (tt, (tt, (tt, (tt, (tt, (tt, tt))))))))) z in
-      let G = grid-judged badLevel ns cells (length cells ∷ out ∷ []) (simp (J .0, J .1 .0, J .1 .1 .0) refl) in record {
-        shape = J .0;
-        count = G .lent .0;
-        lent = G .lent .1 .0 ∙ sym (G .lent .0);
-        levels = J .1 .1 .0;
-        equal = kernel-equal ns sides (length w) (J .0) (J .1 .1 .1 .0);
-        weights = J .1 .1 .1 .1 .0;
-        origin = J .1 .1 .1 .1 .1 .0;
-        level = J .1 .1 .1 .1 .1 .1 .0;
-        reach = J .1 .1 .1 .1 .1 .1 .1 .0;
+      let J = grid-passed badLevel ns cells (out ∷ []) (drop 3 (kernelJudged turned b o sides w ns cells out)) (tt, (tt, (tt, (tt, (tt, (tt, tt)))))) z in record {
+        grid = J .0;
+        equal = kernel-equal ns sides (length w) (J .0 .shape) (J .1 .0);
+        weights = J .1 .1 .0;
+        origin = J .1 .1 .1 .0;
+        level = J .1 .1 .1 .1 .0;
+        reach = J .1 .1 .1 .1 .1 .0;
       }
 
 -- ---- the worker's own words, of the weights as they are applied
@@ -77,9 +69,9 @@ module _ {turned : Bool} {b : Border ℤ} {o : ℤ} {sides : List ℕ} {w : List
   pub kernelled-accepted : Kernelled b ns side (kernelLeft side applied) (kernelRight side applied) (appliedWeights turned w) cells out
   unfolding badWeight
   kernelled-accepted = record {
-    shape = P .shape;
-    count = P .count;
-    same = P .lent;
+    shape = P .grid .shape;
+    count = P .grid .count;
+    same = lent-same (P .grid);
     some = P .equal .some;
     narrow = P .equal .narrow;
     many = applied-length turned w ∙ P .equal .many ∙ ap cellCount (P .equal .same);
@@ -89,7 +81,7 @@ module _ {turned : Bool} {b : Border ℤ} {o : ℤ} {sides : List ℕ} {w : List
     fills-right = λ a h. fills a h .1;
     weights = applied-weights badWeight turned w (P .weights);
     level = P .level;
-    levels = P .levels;
+    levels = P .grid .levels;
   }
 
   -- the kernel's own shape for that of its first side

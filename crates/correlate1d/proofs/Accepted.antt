@@ -13,7 +13,7 @@ use Rattle.numbers.specs.Lists.{anyOf}
 use Rattle.numbers.proofs.Any.{any-none, none-any, every-at, every-imp}
 use Rattle.numbers.proofs.Size.{Size, Sized, size-inside, size-le, inside-sized, fits-size}
 use Rattle.array_spec.specs.Conditions.{badLevel}
-use Rattle.array_spec.proofs.Judged.{levels-sized}
+use Rattle.array_spec.proofs.Judged.{lent-same, levels-sized}
 use Rattle.border.specs.Border.{Border, constant, along}
 use Rattle.border.specs.Modes.{badConstantBy}
 use Rattle.correlate_spec.proofs.Computed.{read}
@@ -36,7 +36,7 @@ small-sized {p} cells h l = none-any tooLarge cells (every-imp (λ x. Size x p) 
 
 module _ {turned : Bool} {b : Border ℤ} {o : ℤ} {w : List ℤ} {ns : List ℕ} {a : ℕ} {cells : List ℤ} (out : List ℤ) (P : Passed badLevel badWeight turned b o w ns a cells (length out)) where
   pub scales-accepted : Scales cells (getD w 0 (pos 0)) out
-  scales-accepted = record { same = P .lent; levels = P .levels; weight = every-at (λ x. badWeight x ≡ false) w (pos 0) (any-none badWeight w (P .weights)) 0 (P .some) }
+  scales-accepted = record { same = lent-same (P .grid); levels = P .grid .levels; weight = every-at (λ x. badWeight x ≡ false) w (pos 0) (any-none badWeight w (P .weights)) 0 (P .some) }
 
   -- the only weight, as it is read
   weight-read : read (getD w 0 (pos 0)) ≡ getD w 0 (pos 0)
@@ -55,6 +55,6 @@ module _ {turned : Bool} {b : Border ℤ} {o : ℤ} {w : List ℤ} {ns : List �
       placed = placed-accepted out P more;
       weights = applied-weights badWeight turned w (P .weights);
       level = small-constant b (P .level);
-      levels = small-sized cells (levels-sized cells (P .levels)) (omega arith);
-      narrow = λ h. (P .level, P .levels);
+      levels = small-sized cells (levels-sized cells (P .grid .levels)) (omega arith);
+      narrow = λ h. (P .level, P .grid .levels);
     }

@@ -1,15 +1,13 @@
--- The refusal chain of a call with a grid kernel: no sum of accepted levels and weights leaves 64 bits, so condition 12 is not asked about.
+-- No sum of accepted levels and weights leaves 64 bits, so condition 12 is not asked about.
 -- Assumes nothing.
 use Prim.Native.Nat.{ℕ, _+_, _*_, _^_, _<_}
-use mathlib.Core.Path.{_≡_, sym, _∙_}
+use mathlib.Core.Path.{_≡_}
 use mathlib.Core.Bool.{Bool, false}
-use mathlib.Core.List.{List, [], _∷_, _++_}
+use mathlib.Core.List.{List}
 use native.Mathlib.Omega.{arith}
 use lib.IntN.{ℤ}
 use lib.ListN.{length}
 use Rattle.numbers.specs.Lists.{anyOf}
-use Rattle.numbers.specs.Refusal.{refusalOf}
-use Rattle.numbers.proofs.Refusal.{judged-all, chain-ends}
 use Rattle.array_spec.specs.Conditions.{badShape, badLevel}
 use Rattle.array_spec.proofs.Judged.{levels-sized}
 use Rattle.border.specs.Border.{Border}
@@ -19,19 +17,13 @@ use Rattle.correlate_spec.proofs.KernelSizes.{kernel-within}
 use Rattle.correlate_judge.specs.Judge.{badWeight, appliedWeights}
 use Rattle.correlate_judge.proofs.Applied.{applied-length, applied-weights}
 use Rattle.correlate_judge.proofs.Sums.{weights-sized}
-use Rattle.correlate_judge.specs.KernelJudge.{badKernel, kernelPlaced, badKernelSums}
+use Rattle.correlate_judge.specs.KernelJudge.{badKernel, badKernelSums}
 use Rattle.correlate_judge.proofs.Equal.{kernel-equal}
 
-module _ (turned : Bool) (b : Border ℤ) (o : ℤ) (sides : List ℕ) (w : List ℤ) (ns : List ℕ) (cells : List ℤ) (e : badShape ns ≡ false) (l : anyOf badLevel cells ≡ false) where
-  no-bad-sums : badKernel ns sides (length w) ≡ false → anyOf badWeight w ≡ false → badConstantBy badLevel b ≡ false → badKernelSums turned b o sides w ns cells ≡ false
-  no-bad-sums h k c =
-      kernel-within 2147483647 65535 b (constant-sized b c) (appliedWeights turned w) (weights-sized (appliedWeights turned w) (applied-weights badWeight turned w k)) ns cells (levels-sized cells l) _ sides small
-    where
-      small : (0 + length (appliedWeights turned w) * 1) * (2147483647 * 65535) < 2 ^ 63
-      small = omega (arith, applied-length turned w, kernel-equal ns sides (length w) e h .few)
-
-  pub sums-passed : {r : ℕ} → r ≡ refusalOf (kernelPlaced turned b o sides w ns) → r ≡ refusalOf (kernelPlaced turned b o sides w ns ++ ((badKernelSums turned b o sides w ns cells, 12) ∷ []))
-  sums-passed q = chain-ends (kernelPlaced turned b o sides w ns) (badKernelSums turned b o sides w ns cells) 12 (tt, (tt, (tt, (tt, (tt, tt))))) q (λ z. none (sym q ∙ z))
-    where
-      none : refusalOf (kernelPlaced turned b o sides w ns) ≡ 0 → badKernelSums turned b o sides w ns cells ≡ false
-      none z = let p = judged-all (kernelPlaced turned b o sides w ns) (tt, (tt, (tt, (tt, (tt, tt))))) z in no-bad-sums (p .0) (p .1 .0) (p .1 .1 .1 .0)
+pub no-bad-sums : (turned : Bool) (b : Border ℤ) (o : ℤ) (sides : List ℕ) (w : List ℤ) (ns : List ℕ) (cells : List ℤ) → badShape ns ≡ false → anyOf badLevel cells ≡ false
+    → badKernel ns sides (length w) ≡ false → anyOf badWeight w ≡ false → badConstantBy badLevel b ≡ false → badKernelSums turned b o sides w ns cells ≡ false
+no-bad-sums turned b o sides w ns cells e l h k c =
+    kernel-within 2147483647 65535 b (constant-sized b c) (appliedWeights turned w) (weights-sized (appliedWeights turned w) (applied-weights badWeight turned w k)) ns cells (levels-sized cells l) _ sides small
+  where
+    small : (0 + length (appliedWeights turned w) * 1) * (2147483647 * 65535) < 2 ^ 63
+    small = omega (arith, applied-length turned w, kernel-equal ns sides (length w) e h .few)

@@ -52,12 +52,12 @@ badSums turned b o w ns a cells = anyOf beyond (correlate1dZ b (appliedOrigin tu
 
 abbrev pub correlateJudged : Bool → Border ℤ → ℤ → List ℤ → List ℕ → ℕ → List ℤ → ℕ → Judged
 correlateJudged turned b o w ns a cells out =
-    gridJudged ns cells (length cells ∷ out ∷ []) ++ weightsJudged badWeight w ++ placeJudged badLevel turned b o (length w) ns a
+    gridJudged ns cells (out ∷ []) ++ weightsJudged badWeight w ++ placeJudged badLevel turned b o (length w) ns a
     ++ ((badSums turned b o w ns a cells, 12) ∷ [])
 
 abbrev pub correlateJudgedF : Bool → Border Float → ℤ → List Float → List ℕ → ℕ → List Float → ℕ → Judged
 correlateJudgedF turned b o w ns a cells out =
-    gridJudgedBy badFloat ns cells (length cells ∷ out ∷ []) ++ weightsJudged badFloat w ++ placeJudged badFloat turned b o (length w) ns a
+    gridJudgedBy badFloat ns cells (out ∷ []) ++ weightsJudged badFloat w ++ placeJudged badFloat turned b o (length w) ns a
 
 abbrev pub kindOf : BorderModeF64 → BorderMode
 kindOf (F64.Constant c) = Whole.Constant (pos 0)

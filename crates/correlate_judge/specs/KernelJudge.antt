@@ -49,4 +49,4 @@ badKernelSums turned b o sides w ns cells = anyOf beyond (correlateZ b (appliedO
 
 abbrev pub kernelJudged : Bool → Border ℤ → ℤ → List ℕ → List ℤ → List ℕ → List ℤ → ℕ → Judged
 kernelJudged turned b o sides w ns cells out =
-    gridJudged ns cells (length cells ∷ out ∷ []) ++ kernelPlaced turned b o sides w ns ++ ((badKernelSums turned b o sides w ns cells, 12) ∷ [])
+    gridJudged ns cells (out ∷ []) ++ kernelPlaced turned b o sides w ns ++ ((badKernelSums turned b o sides w ns cells, 12) ∷ [])

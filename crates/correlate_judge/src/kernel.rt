@@ -65,7 +65,7 @@ pub fn judge_kernel(
 ) -> u8
     ensures { λ r. ⌜ r ≡ refusalOf (kernelJudged turned (borderOf mode) origin (now (sides .entry)) (now (weights .entry)) (now (shape .entry)) (now («data» .entry)) out) ⌝ }
 {
-    let refusal = array::judge_grid(data, shape, out, out);
+    let refusal = array::judge_grid(data, shape, &[out]);
     if refusal != 0 {
         return refusal;
     }

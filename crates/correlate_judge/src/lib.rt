@@ -86,7 +86,7 @@ pub fn judge_correlate(
 ) -> u8
     ensures { λ r. ⌜ r ≡ refusalOf (correlateJudged turned (borderOf mode) origin (now (weights .entry)) (now (shape .entry)) axis (now («data» .entry)) out) ⌝ }
 {
-    let refusal = array::judge_grid(data, shape, out, out);
+    let refusal = array::judge_grid(data, shape, &[out]);
     if refusal != 0 {
         return refusal;
     }
@@ -109,7 +109,7 @@ pub fn judge_correlate_f64(
 ) -> u8
     ensures { λ r. ⌜ r ≡ refusalOf (correlateJudgedF turned (borderOfF64 mode) origin (now (weights .entry)) (now (shape .entry)) axis (now («data» .entry)) out) ⌝ }
 {
-    let refusal = array::judge_grid_f64(data, shape, out, out);
+    let refusal = array::judge_grid_f64(data, shape, &[out]);
     if refusal != 0 {
         return refusal;
     }

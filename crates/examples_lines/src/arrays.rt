@@ -14,6 +14,8 @@ fn two_axes(shape: &[usize]) {
     counted(shape);
     test(array::bad_length(shape, 6));
     test(array::bad_length(shape, 5));
+    test(array::bad_lengths(shape, &[6, 6]));
+    test(array::bad_lengths(shape, &[6, 5]));
     test(array::bad_axis(shape, 1));
     test(array::bad_axis(shape, 2));
 }
@@ -61,9 +63,9 @@ pub(crate) fn levels_outside() {
 }
 
 pub(crate) fn judges() {
-    line(array::judge_grid(&[1, 2, 3], &[2, 2], 4, 4) as usize);
-    line(array::judge_grid_f64(&[0.0 / 0.0], &[1], 1, 1) as usize);
-    line(array::judge_grid_f64(&[-0.0], &[1], 1, 1) as usize);
+    line(array::judge_grid(&[1, 2, 3], &[2, 2], &[4]) as usize);
+    line(array::judge_grid_f64(&[0.0 / 0.0], &[1], &[1]) as usize);
+    line(array::judge_grid_f64(&[-0.0], &[1], &[1]) as usize);
 }
 
 // Cells for a grid of 2 times 2; a refused call leaves the output.

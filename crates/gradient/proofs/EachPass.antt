@@ -8,17 +8,15 @@ use native.Mathlib.Omega.{arith}
 use borrow.Author.Tests.{ltb-true, not-false}
 use lib.Dec.{eqb, ltb}
 use lib.IntN.{ℤ, pos}
-use lib.ListN.{length}
+use lib.ListN.{length, drop}
 use Rattle.numbers.specs.Lists.{anyOf}
 use Rattle.numbers.specs.Refusal.{refusalOf}
 use Rattle.numbers.proofs.Any.{any-none, none-any, every-at, every-imp}
-use Rattle.numbers.proofs.Refusal.{judged-all}
 use Rattle.numbers.proofs.Size.{Size, Sized, size-le, inside-sized, tested-sized}
 use Rattle.numbers.proofs.Tests.{or-no, cond-ind}
-use Rattle.array_spec.specs.Conditions.{badShape, badLength, badLevel}
+use Rattle.array_spec.specs.Conditions.{badLevel}
 use Rattle.array_spec.specs.Grid.{cellCount, lengthOf}
-use Rattle.array_spec.proofs.Judged.{levels-sized}
-use Rattle.array_spec.proofs.Shapes.{count-accepted, length-judged}
+use Rattle.array_spec.proofs.Judged.{PassedGrid, grid-passed, levels-sized}
 use Rattle.border.specs.Border.{Border}
 use Rattle.border.specs.Modes.{badConstantBy}
 use Rattle.window.specs.Origin.{badOrigin}
@@ -37,11 +35,7 @@ use Rattle.gradient.specs.Others.{firstOther, lastOther}
 
 -- ---- what an accepted call has passed
 pub record Accepted (b : Border ℤ) (ns : List ℕ) (axis : ℕ) (cells : List ℤ) (out second : ℕ) : Type 0 where
-  pub shape : badShape ns ≡ false
-  pub input : length cells ≡ cellCount ns
-  pub output : out ≡ cellCount ns
-  pub between : second ≡ cellCount ns
-  pub levels : anyOf badLevel cells ≡ false
+  pub grid : PassedGrid badLevel ns cells (out ∷ second ∷ [])
   pub along : axis < length ns
   pub level : badConstantBy badLevel b ≡ false
   pub reach : anyOf (λ n. badPad b n 1) ns ≡ false
@@ -49,18 +43,8 @@ pub record Accepted (b : Border ℤ) (ns : List ℕ) (axis : ℕ) (cells : List 
 pub accepted : (smooth : List ℤ) (b : Border ℤ) (ns : List ℕ) (axis : ℕ) (cells : List ℤ) (out second : ℕ) → refusalOf (gradientJudged smooth b ns axis cells out second) ≡ 0
     → Accepted b ns axis cells out second
 accepted smooth b ns axis cells out second e =
-    let p = judged-all (gradientJudged smooth b ns axis cells out second) (tt, (tt, (tt, (tt, (tt, (tt, (tt, tt))))))) e in
-    let q = any-none (badLength ns) (length cells ∷ out ∷ second ∷ []) (p .1 .0) in
-    record {
-      shape = p .0;
-      input = length-judged ns (length cells) (q .0) ∙ count-accepted ns (p .0);
-      output = length-judged ns out (q .1 .0) ∙ count-accepted ns (p .0);
-      between = length-judged ns second (q .1 .1 .0) ∙ count-accepted ns (p .0);
-      levels = p .1 .1 .0;
-      along = ltb-true axis (length ns) (not-false (ltb axis (length ns)) (p .1 .1 .1 .0));
-      level = p .1 .1 .1 .1 .0;
-      reach = p .1 .1 .1 .1 .1 .0;
-    }
+    let p = grid-passed badLevel ns cells (out ∷ second ∷ []) (drop 3 (gradientJudged smooth b ns axis cells out second)) (tt, (tt, (tt, (tt, tt)))) e in
+    record { grid = p .0; along = ltb-true axis (length ns) (not-false (ltb axis (length ns)) (p .1 .0)); level = p .1 .1 .0; reach = p .1 .1 .1 .0 }
 
 -- ---- a grid between two passes, of levels and a constant of size at most p
 pub record Between (b : Border ℤ) (ns : List ℕ) (p : ℕ) (g : List ℤ) : Type 0 where
@@ -79,7 +63,7 @@ centred = refl
 
 module _ {b : Border ℤ} {ns : List ℕ} {axis : ℕ} {cells : List ℤ} {out second : ℕ} (A : Accepted b ns axis cells out second) where
   pub between-input : Between b ns 2147483647 cells
-  between-input = record { count = A .input; constant = constant-sized b (A .level); sizes = levels-sized cells (A .levels) }
+  between-input = record { count = A .grid .count; constant = constant-sized b (A .level); sizes = levels-sized cells (A .grid .levels) }
 
   module _ {w : List ℤ} (S : ThreeSmall w) {p : ℕ} {g : List ℤ} (B : Between b ns p g) where
     pad-filled : (a : ℕ) → a < length ns → badPad b (lengthOf ns a) 1 ≡ false
@@ -89,7 +73,7 @@ module _ {b : Border ℤ} {ns : List ℕ} {axis : ℕ} {cells : List ℤ} {out s
     pub weighs-pass : p ≤ 2 ^ 38 → {held : List ℤ} {a : ℕ} → length held ≡ cellCount ns → a < length ns → Weighs b ns a (pos 0) w g held
     weighs-pass l {held} {a} e h = record {
       placed = record {
-        shape = A .shape;
+        shape = A .grid .shape;
         axis = h;
         count = B .count;
         same = e ∙ sym (B .count);

@@ -1,4 +1,3 @@
--- The calls of the Prewitt and Sobel filters.
-pub mod Filters
+-- The Prewitt and Sobel filters, and their conditions.
 pub mod Others
 pub mod Rows

@@ -42,7 +42,7 @@ pub fn judge_gradient(
 ) -> u8
     ensures { λ r. ⌜ GradientNumber (borderOf mode) (now (shape .entry)) axis (now («data» .entry)) out second r ⌝ }
 {
-    let refusal = array::judge_grid(data, shape, out, second);
+    let refusal = array::judge_grid(data, shape, &[out, second]);
     if refusal != 0 {
         return refusal;
     }

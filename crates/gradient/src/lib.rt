@@ -1,9 +1,12 @@
 // Prewitt and Sobel filters of whole levels (src/filters/con_corr.rs; SciPy's prewitt and sobel): the difference along an axis, smoothed
 // along every other axis.
+ghost use mathlib.Core.List.{[], _∷_};
+ghost use lib.IntN.{pos};
+ghost use lib.ListN.{length};
+ghost use Rattle.numbers.specs.Refusal.{ScratchAnswers};
 ghost use Rattle.border.specs.Modes.{borderOf};
-ghost use Rattle.gradient_spec.specs.Gradient.{prewittWeights, sobelWeights};
-ghost use Rattle.gradient_spec.specs.Judge.{ThreeSmall};
-ghost use Rattle.gradient.specs.Filters.{GradientAnswers};
+ghost use Rattle.gradient_spec.specs.Gradient.{prewittWeights, sobelWeights, gradient};
+ghost use Rattle.gradient_spec.specs.Judge.{ThreeSmall, gradientJudged};
 use border::BorderMode;
 
 mod judge;
@@ -23,7 +26,8 @@ fn filter(
     out: &mut [i64],
 ) -> u8
     requires { ⌜ ThreeSmall (now smooth) ⌝ }
-    ensures { λ r. ⌜ GradientAnswers (now (smooth .entry)) (borderOf mode) (now (shape .entry)) axis (now («data» .entry)) (now (second .entry)) (now (out .entry)) r (now (second .exit)) (now (out .exit)) ⌝ }
+    ensures { λ r. ⌜ ScratchAnswers (pos 0) (gradientJudged (now (smooth .entry)) (borderOf mode) (now (shape .entry)) axis (now («data» .entry)) (length (now (out .entry))) (length (now (second .entry))))
+        (gradient (now (smooth .entry)) (borderOf mode) (now (shape .entry)) axis (now («data» .entry))) (now (out .entry)) (now (second .entry) ∷ []) r (now (out .exit)) (now (second .exit) ∷ []) ⌝ }
 {
     let refusal = judge::judge_gradient(data, shape, axis, mode, out.len(), second.len());
     if refusal != 0 {
@@ -55,7 +59,8 @@ pub fn prewitt(
     second: &mut [i64],
     out: &mut [i64],
 ) -> u8
-    ensures { λ r. ⌜ GradientAnswers prewittWeights (borderOf mode) (now (shape .entry)) axis (now («data» .entry)) (now (second .entry)) (now (out .entry)) r (now (second .exit)) (now (out .exit)) ⌝ }
+    ensures { λ r. ⌜ ScratchAnswers (pos 0) (gradientJudged prewittWeights (borderOf mode) (now (shape .entry)) axis (now («data» .entry)) (length (now (out .entry))) (length (now (second .entry))))
+        (gradient prewittWeights (borderOf mode) (now (shape .entry)) axis (now («data» .entry))) (now (out .entry)) (now (second .entry) ∷ []) r (now (out .exit)) (now (second .exit) ∷ []) ⌝ }
 {
     filter(&[1, 1, 1], data, shape, axis, mode, second, out)
 }
@@ -70,7 +75,8 @@ pub fn sobel(
     second: &mut [i64],
     out: &mut [i64],
 ) -> u8
-    ensures { λ r. ⌜ GradientAnswers sobelWeights (borderOf mode) (now (shape .entry)) axis (now («data» .entry)) (now (second .entry)) (now (out .entry)) r (now (second .exit)) (now (out .exit)) ⌝ }
+    ensures { λ r. ⌜ ScratchAnswers (pos 0) (gradientJudged sobelWeights (borderOf mode) (now (shape .entry)) axis (now («data» .entry)) (length (now (out .entry))) (length (now (second .entry))))
+        (gradient sobelWeights (borderOf mode) (now (shape .entry)) axis (now («data» .entry))) (now (out .entry)) (now (second .entry) ∷ []) r (now (out .exit)) (now (second .exit) ∷ []) ⌝ }
 {
     filter(&[1, 2, 1], data, shape, axis, mode, second, out)
 }

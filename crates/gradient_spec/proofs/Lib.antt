@@ -1,3 +1,2 @@
 -- Laws, leaves first.
 pub mod Sums
-pub mod Chain

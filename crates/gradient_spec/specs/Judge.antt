@@ -29,7 +29,7 @@ badGradientSums smooth b ns axis cells = anyOf (anyOf beyond) (tabulate (gradien
 
 abbrev pub gradientJudged : List ℤ → Border ℤ → List ℕ → ℕ → List ℤ → ℕ → ℕ → Judged
 gradientJudged smooth b ns axis cells out second =
-    gridJudged ns cells (length cells ∷ out ∷ second ∷ []) ++ passesJudged b ns axis ++ ((badGradientSums smooth b ns axis cells, 12) ∷ [])
+    gridJudged ns cells (out ∷ second ∷ []) ++ passesJudged b ns axis ++ ((badGradientSums smooth b ns axis cells, 12) ∷ [])
 
 pub record ThreeSmall (w : List ℤ) : Type 0 where
   pub three : length w ≡ 3

@@ -14,9 +14,10 @@ use Rattle.numbers.specs.Refusal.{refusalOf}
 use Rattle.numbers.proofs.Any.{any-none}
 use Rattle.numbers.proofs.Refusal.{judged-all}
 use Rattle.numbers.proofs.Tests.{or-false}
-use Rattle.array_spec.specs.Conditions.{badShape, badLength}
+use Rattle.array_spec.specs.Conditions.{badShape}
 use Rattle.array_spec.specs.Grid.{cellCount, lengthOf}
-use Rattle.array_spec.proofs.Shapes.{Accepted, shape-accepted, count-accepted, length-judged}
+use Rattle.array_spec.proofs.Judged.{lengths-passed}
+use Rattle.array_spec.proofs.Shapes.{Accepted, shape-accepted}
 use Rattle.median_spec.specs.Around.{medianAnswer}
 use Rattle.median_spec.specs.ByRows.{Laid}
 use Rattle.median.specs.Judge.{badSingle, medianJudged}
@@ -58,8 +59,8 @@ module _ (ns : List ℕ) (mask out : List Bool) (e : refusalOf (medianJudged ns 
   axes : length ns ≡ 3
   axes = eqb-true (length ns) 3 (not-false (eqb (length ns) 3) (or-false (badShape ns) (not (eqb (length ns) 3)) (passed .0) .1))
 
-  lent : Every (λ len. badLength ns len ≡ false) (length mask ∷ length out ∷ [])
-  lent = any-none (badLength ns) (length mask ∷ length out ∷ []) (passed .1 .0)
+  lent : Every (λ len. len ≡ cellCount ns) (length mask ∷ length out ∷ [])
+  lent = lengths-passed ns (length mask ∷ length out ∷ []) shape (passed .1 .0)
 
   -- what the worker supposes, from the lengths as the code read them
   module _ {a b c : ℕ} (ea : a ≡ lengthOf ns 0) (eb : b ≡ lengthOf ns 1) (ec : c ≡ lengthOf ns 2) where
@@ -68,11 +69,10 @@ module _ (ns : List ℕ) (mask out : List Bool) (e : refusalOf (medianJudged ns 
 
     pub mask-laid : Laid a b c mask × (length out ≡ length mask)
     mask-laid =
-        let m = length-judged ns (length mask) (lent .0) ∙ count-accepted ns shape in
         let A = subst Accepted (sym same) (shape-accepted ns shape) in
-        let l = subst (λ (s : List ℕ). length mask ≡ cellCount s) (sym same) m in
+        let l = subst (λ (s : List ℕ). length mask ≡ cellCount s) (sym same) (lent .0) in
         let t = subst (λ (s : List ℕ). badSingle s ≡ false) (sym same) (passed .1 .1 .0) in
-        (laid-three a b c mask A l t, length-judged ns (length out) (lent .1 .0) ∙ count-accepted ns shape ∙ sym m)
+        (laid-three a b c mask A l t, lent .1 .0 ∙ sym (lent .0))
 
     pub mask-answered : {left : List Bool} → left ≡ medianAnswer (a ∷ b ∷ c ∷ []) mask → left ≡ medianAnswer ns mask
     mask-answered q = q ∙ (λ i. medianAnswer (same i) mask)

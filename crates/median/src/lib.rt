@@ -42,10 +42,7 @@ pub fn judge_median(shape: &[usize], len: usize, out: usize) -> u8
     if bad_axes(shape) {
         return numbers::SHAPE;
     }
-    if array::bad_length(shape, len) {
-        return numbers::LENGTH;
-    }
-    if array::bad_length(shape, out) {
+    if array::bad_lengths(shape, &[len, out]) {
         return numbers::LENGTH;
     }
     if bad_single(shape) {

@@ -30,7 +30,7 @@ use Rattle.pad_line.specs.Line.{paddedAt, paddedLine}
 use Rattle.min_max_judge.proofs.Reach.{pads-size as window-pads}
 use Rattle.min_max_spec.specs.Call.{Call, left, right, leftPad, rightPad, alone, firstIn, window, axisLength, numberOf}
 use Rattle.min_max_spec.specs.Run.{laneLevel, answerOf}
-use Rattle.min_max_spec.proofs.Passed.{Passed, passed, passed-lengths, length-answer}
+use Rattle.min_max_spec.proofs.Passed.{Passed, passed, length-answer}
 use Rattle.min_max_spec.proofs.Sweep.{inside-lt}
 use Rattle.min_max_spec.proofs.Windows.{Lands, in-window, cell-inside, lands}
 
@@ -113,10 +113,10 @@ module _ (le : ℤ → ℤ → Bool) (cells : List ℤ) (c : Call) (accept : num
   on = ltb-true (c .axis) (length (c .shape)) (not-false (ltb (c .axis) (length (c .shape))) (P .axis))
 
   count : length cells ≡ cellCount (c .shape)
-  count = passed-lengths P .0
+  count = P .grid .count
 
   full : Positive (c .shape)
-  full = shape-accepted (c .shape) (P .shape) .full
+  full = shape-accepted (c .shape) (P .grid .shape) .full
 
   -- the level that the call gives at place k
   given : (k : ℕ) → k < length cells → getD (answerOf le cells c) k (pos 0) ≡ least le (pos 0) (map (laneLevel cells c k) (window c (pos (coordinate (c .shape) k (c .axis)))))

@@ -12,27 +12,23 @@ use Rattle.numbers.specs.Lists.{anyOf}
 use Rattle.numbers.specs.Ranges.{outside}
 use Rattle.numbers.specs.Refusal.{refusalOf}
 use Rattle.numbers.proofs.Any.{any-none, every-at, any-and}
-use Rattle.numbers.proofs.Refusal.{judged-all}
-use Rattle.array_spec.specs.Conditions.{badShape, badLength, badLevel, gridCount}
-use Rattle.array_spec.specs.Grid.{lengthOf}
-use Rattle.array_spec.proofs.Shapes.{length-judged}
+use Rattle.array_spec.specs.Conditions.{badLevel, gridCount}
+use Rattle.array_spec.specs.Grid.{cellCount, lengthOf}
+use Rattle.array_spec.proofs.Judged.{PassedGrid, grid-passed}
+use Rattle.array_spec.proofs.Shapes.{count-accepted}
 use Rattle.border.specs.declared.BorderMode.{BorderMode}
 use Rattle.border.specs.Modes.{borderOf, badConstantBy}
 use Rattle.lanes.proofs.Passes as passes
 use Rattle.min_max_spec.specs.Call.{firstIn, numberOf}
 use Rattle.min_max_spec.specs.Run.{answerOf}
 use Rattle.min_max_spec.proofs.Passed.{length-answer, answer-in}
-use Rattle.min_max_judge.specs.Judge.{callOf, windowOrigin, badReach, filterJudged}
+use Rattle.min_max_judge.specs.Judge.{callOf, windowOrigin, badReach, axesJudged, filterJudged}
 use Rattle.min_max.specs.Filters.{filterAnswer}
 
 module _ (cells : List ℤ) (ns : List ℕ) (size : ℕ) (m : BorderMode) (o : ℤ) (out : List ℤ) (second : ℕ) where
   -- what an accepted grid call has passed
   pub record Filtered : Type 0 where
-    pub shape : badShape ns ≡ false
-    pub input : length cells ≡ gridCount ns
-    pub output : length out ≡ gridCount ns
-    pub between : second ≡ gridCount ns
-    pub levels : anyOf badLevel cells ≡ false
+    pub grid : PassedGrid badLevel ns cells (length out ∷ second ∷ [])
     pub sizes : outside 1 65 size ≡ false
     pub origin : windowOrigin size o ≡ false
     pub level : badConstantBy badLevel (borderOf m) ≡ false
@@ -40,28 +36,17 @@ module _ (cells : List ℤ) (ns : List ℕ) (size : ℕ) (m : BorderMode) (o : �
 
   pub filtered : refusalOf (filterJudged cells (callOf ns size 0 m o out) second) ≡ 0 → Filtered
   filtered e =
-      let p = judged-all (filterJudged cells (callOf ns size 0 m o out) second) (tt, (tt, (tt, (tt, (tt, (tt, (tt, tt))))))) e in
-      let q = any-none (badLength ns) (length cells ∷ length out ∷ second ∷ []) (p .1 .0) in
-      record {
-        shape = p .0;
-        input = length-judged ns (length cells) (q .0);
-        output = length-judged ns (length out) (q .1 .0);
-        between = length-judged ns second (q .1 .1 .0);
-        levels = p .1 .1 .0;
-        sizes = p .1 .1 .1 .0;
-        origin = p .1 .1 .1 .1 .0;
-        level = p .1 .1 .1 .1 .1 .0;
-        reach = p .1 .1 .1 .1 .1 .1 .0;
-      }
+      let p = grid-passed badLevel ns cells (length out ∷ second ∷ []) (axesJudged ns size (borderOf m) o) (tt, (tt, (tt, (tt, tt)))) e in
+      record { grid = p .0; sizes = p .1 .0; origin = p .1 .1 .0; level = p .1 .1 .1 .0; reach = p .1 .1 .1 .1 .0 }
 
   module _ (F : Filtered) where
     -- a grid between two passes
     pub record Between (g : List ℤ) : Type 0 where
-      pub count : length g ≡ gridCount ns
+      pub count : length g ≡ cellCount ns
       pub range : anyOf badLevel g ≡ false
 
     pub between-input : Between cells
-    between-input = record { count = F .input; range = F .levels }
+    between-input = record { count = F .grid .count; range = F .grid .levels }
 
     reach-at : (a : ℕ) → a < length ns → (not (eqb size 1) && badReach (borderOf m) size o (lengthOf ns a)) ≡ false
     reach-at a h =
@@ -69,10 +54,11 @@ module _ (cells : List ℤ) (ns : List ℕ) (size : ℕ) (m : BorderMode) (o : �
         (any-none (λ n. not (eqb size 1) && badReach (borderOf m) size o n) ns (any-and (not (eqb size 1)) (badReach (borderOf m) size o) ns ∙ F .reach)) a h
 
     -- a pass along any axis of the grid is accepted
-    pub pass-accepted : {g : List ℤ} (held : List ℤ) (a : ℕ) → Between g → length held ≡ gridCount ns → a < length ns → numberOf g (callOf ns size a m o held) ≡ 0
+    pub pass-accepted : {g : List ℤ} (held : List ℤ) (a : ℕ) → Between g → length held ≡ cellCount ns → a < length ns → numberOf g (callOf ns size a m o held) ≡ 0
     unfolding numberOf
     pass-accepted {g} held a B e h =
-        simp (F .shape, eq-eqb (length g) (gridCount ns) (B .count), eq-eqb (length held) (gridCount ns) e, B .range, F .sizes, F .origin, lt-ltb a (length ns) h, F .level, reach-at a h) refl
+        let n = sym (count-accepted ns (F .grid .shape)) in
+        simp (F .grid .shape, eq-eqb (length g) (gridCount ns) (B .count ∙ n), eq-eqb (length held) (gridCount ns) (e ∙ n), B .range, F .sizes, F .origin, lt-ltb a (length ns) h, F .level, reach-at a h) refl
 
     pub between-pass : (le : ℤ → ℤ → Bool) {g : List ℤ} (held : List ℤ) (a : ℕ) → Between g → {new : List ℤ} → new ≡ answerOf le g (callOf ns size a m o held) → Between new
     between-pass le {g} held a B e = record {

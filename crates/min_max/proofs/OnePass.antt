@@ -11,13 +11,14 @@ use lib.IntN.{ℤ, pos, natAbs}
 use lib.ListN.{length}
 use Rattle.numbers.proofs.Tests.{or-false, cond-yes}
 use Rattle.array_spec.specs.Assign.{copied}
+use Rattle.array_spec.proofs.Judged.{lent-same}
 use Rattle.lanes.specs.Lanes.{alongAxis}
 use Rattle.border.specs.Border.{Border}
 use Rattle.pad_line.specs.Line.{badPad, paddedLine}
 use Rattle.min_max_ring.specs.Firsts.{firsts}
 use Rattle.min_max_spec.specs.Call.{Call, alone, leftPad, rightPad, axisLength, numberOf}
 use Rattle.min_max_spec.specs.Run.{answerOf}
-use Rattle.min_max_spec.proofs.Passed.{Passed, passed, passed-lengths}
+use Rattle.min_max_spec.proofs.Passed.{Passed, passed}
 use Rattle.axis_filter.specs.Lane.{filteredLane, Sweep}
 use Rattle.axis_filter.specs.Filter.{filtered, Supposed}
 use Rattle.axis_filter.specs.declared.LineFilter.{LineFilter}
@@ -47,7 +48,7 @@ module _ (le : ℤ → ℤ → Bool) (cells : List ℤ) (c : Call) (accept : num
   P = passed cells c accept
 
   same : length (c .out) ≡ length cells
-  same = passed-lengths P .1 ∙ sym (passed-lengths P .0)
+  same = lent-same (P .grid)
 
   pub copied-answer : {out : List ℤ} → c .size ≡ 1 → out ≡ copied cells (c .out) → out ≡ answerOf le cells c
   copied-answer one e =
@@ -78,9 +79,9 @@ module _ (le : ℤ → ℤ → Bool) (cells : List ℤ) (c : Call) (accept : num
 
       pub sweep-accepted : Sweep (c .border) (c .shape) (c .axis) l g cells (c .out)
       sweep-accepted = record {
-        shape = P .shape;
+        shape = P .grid .shape;
         axis = ltb-true (c .axis) (length (c .shape)) (not-false (ltb (c .axis) (length (c .shape))) (P .axis));
-        count = passed-lengths P .0;
+        count = P .grid .count;
         same = same;
         fills-left = ap (badPad (c .border) (axisLength c)) L ∙ fills .0;
         fills-right = ap (badPad (c .border) (axisLength c)) G ∙ fills .1;

@@ -1,12 +1,14 @@
 // The grid forms: one pass for each axis, in rising order, between the output and a second grid.
 ghost use mathlib.Core.Path.{_≡_};
+ghost use mathlib.Core.List.{[], _∷_};
+ghost use lib.IntN.{pos};
 ghost use lib.ListN.{length};
 ghost use lib.Signed.{leZ};
 ghost use Rattle.numbers.specs.Order.{atLeast};
-ghost use Rattle.numbers.specs.Refusal.{refusalOf};
+ghost use Rattle.numbers.specs.Refusal.{refusalOf, ScratchAnswers};
 ghost use Rattle.min_max_judge.specs.Judge.{callOf, filterJudged};
 ghost use Rattle.min_max.specs.Lane.{orderOf};
-ghost use Rattle.min_max.specs.Filters.{filterAnswer, FilterAnswers};
+ghost use Rattle.min_max.specs.Filters.{filterAnswer};
 use crate::extreme::Extreme;
 use border::BorderMode;
 
@@ -50,7 +52,8 @@ fn filter(
     second: &mut [i64],
     out: &mut [i64],
 ) -> u8
-    ensures { λ r. ⌜ FilterAnswers (orderOf extreme) (now («data» .entry)) (callOf (now (shape .entry)) size 0 mode origin (now (out .entry))) (now (second .entry)) r (now (second .exit)) (now (out .exit)) ⌝ }
+    ensures { λ r. ⌜ ScratchAnswers (pos 0) (filterJudged (now («data» .entry)) (callOf (now (shape .entry)) size 0 mode origin (now (out .entry))) (length (now (second .entry))))
+        (filterAnswer (orderOf extreme) (callOf (now (shape .entry)) size 0 mode origin (now (out .entry))) (now («data» .entry))) (now (out .entry)) (now (second .entry) ∷ []) r (now (out .exit)) (now (second .exit) ∷ []) ⌝ }
 {
     let refusal = min_max_judge::judge_filter(data, shape, size, mode, origin, out, second.len());
     if refusal != 0 {
@@ -83,7 +86,8 @@ pub fn minimum_filter(
     second: &mut [i64],
     out: &mut [i64],
 ) -> u8
-    ensures { λ r. ⌜ FilterAnswers leZ (now («data» .entry)) (callOf (now (shape .entry)) size 0 mode origin (now (out .entry))) (now (second .entry)) r (now (second .exit)) (now (out .exit)) ⌝ }
+    ensures { λ r. ⌜ ScratchAnswers (pos 0) (filterJudged (now («data» .entry)) (callOf (now (shape .entry)) size 0 mode origin (now (out .entry))) (length (now (second .entry))))
+        (filterAnswer leZ (callOf (now (shape .entry)) size 0 mode origin (now (out .entry))) (now («data» .entry))) (now (out .entry)) (now (second .entry) ∷ []) r (now (out .exit)) (now (second .exit) ∷ []) ⌝ }
 {
     filter(Extreme::Least, data, shape, size, mode, origin, second, out)
 }
@@ -99,7 +103,8 @@ pub fn maximum_filter(
     second: &mut [i64],
     out: &mut [i64],
 ) -> u8
-    ensures { λ r. ⌜ FilterAnswers atLeast (now («data» .entry)) (callOf (now (shape .entry)) size 0 mode origin (now (out .entry))) (now (second .entry)) r (now (second .exit)) (now (out .exit)) ⌝ }
+    ensures { λ r. ⌜ ScratchAnswers (pos 0) (filterJudged (now («data» .entry)) (callOf (now (shape .entry)) size 0 mode origin (now (out .entry))) (length (now (second .entry))))
+        (filterAnswer atLeast (callOf (now (shape .entry)) size 0 mode origin (now (out .entry))) (now («data» .entry))) (now (out .entry)) (now (second .entry) ∷ []) r (now (out .exit)) (now (second .exit) ∷ []) ⌝ }
 {
     filter(
         Extreme::Greatest,

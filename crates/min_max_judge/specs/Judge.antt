@@ -41,4 +41,4 @@ axesJudged ns size b o =
 
 abbrev pub filterJudged : List ℤ → Call → ℕ → Judged
 filterJudged cells c second =
-    gridJudged (c .shape) cells (length cells ∷ length (c .out) ∷ second ∷ []) ++ axesJudged (c .shape) (c .size) (c .border) (c .origin)
+    gridJudged (c .shape) cells (length (c .out) ∷ second ∷ []) ++ axesJudged (c .shape) (c .size) (c .border) (c .origin)

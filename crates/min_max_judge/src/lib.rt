@@ -112,7 +112,7 @@ pub fn judge_call(
 ) -> u8
     ensures { λ r. ⌜ r ≡ refusalOf (callJudged (now («data» .entry)) (callOf (now (shape .entry)) size axis mode origin (now (out .entry)))) ⌝ }
 {
-    let refusal = array::judge_grid(data, shape, out.len(), out.len());
+    let refusal = array::judge_grid(data, shape, &[out.len()]);
     if refusal != 0 {
         return refusal;
     }
@@ -174,7 +174,7 @@ pub fn judge_filter(
 ) -> u8
     ensures { λ r. ⌜ r ≡ refusalOf (filterJudged (now («data» .entry)) (callOf (now (shape .entry)) size 0 mode origin (now (out .entry))) second) ⌝ }
 {
-    let refusal = array::judge_grid(data, shape, out.len(), second);
+    let refusal = array::judge_grid(data, shape, &[out.len(), second]);
     if refusal != 0 {
         return refusal;
     }

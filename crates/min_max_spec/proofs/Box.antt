@@ -10,17 +10,17 @@ use borrow.Author.Tests.{ltb-true, ltb-false, eqb-true, eqb-false, eq-eqb, ne-eq
 use lib.Dec.{T, ltb, eqb}
 use lib.IntN.{ℤ, pos, natAbs}
 use lib.ListN.{length, getD, length-map}
-use Rattle.numbers.specs.Lists.{Every, anyOf}
+use Rattle.numbers.specs.Lists.{Every}
 use Rattle.numbers.specs.Order.{Total, least}
 use Rattle.numbers.proofs.Least.{least-bound, least-occurs}
 use Rattle.numbers.proofs.Range.{length-up}
-use Rattle.numbers.proofs.Refusal.{judged-all}
 use Rattle.numbers.proofs.Tabulate.{getD-tabulate}
 use Rattle.numbers.proofs.Tests.{or-false}
-use Rattle.array_spec.specs.Conditions.{badShape, badLength, badLevel}
+use Rattle.array_spec.specs.Conditions.{badLevel}
 use Rattle.array_spec.specs.Grid.{cellCount, lengthOf, coordinate, moved, levelAt}
 use Rattle.array_spec.proofs.Places.{Within, place-ext, place-coordinate, coordinate-within}
-use Rattle.array_spec.proofs.Judged.{grid-judged}
+use Rattle.array_spec.proofs.Judged.{grid-passed}
+use Rattle.array_spec.proofs.Shapes.{shape-accepted}
 use Rattle.border.specs.Border.{Border, constant, along, cellFor, extendedLane, extendedGrid}
 use Rattle.min_max_spec.specs.Call.{Call, InWindow, window, firstIn, gridNumber}
 use Rattle.min_max_spec.specs.Run.{laneLevel, answerOf, run, accepted}
@@ -209,9 +209,9 @@ module _ (le : ℤ → ℤ → Bool) (O : Total le) (ns : List ℕ) (border : Bo
       → Least le (extendedGrid (pos 0) border ns cells) (InBox (accepted le cells calls) (cellAt ns k)) (getD (run le cells calls) k (pos 0))
   unfolding gridNumber
   box cells calls S k l =
-      let g = grid-judged badLevel ns cells (length cells ∷ []) (S .grid) in
-      let e : length cells ≡ cellCount ns = g .lent .0 in
-      let pn = g .shape .full in
+      let g = grid-passed badLevel ns cells [] [] tt (S .grid) .0 in
+      let e : length cells ≡ cellCount ns = g .count in
+      let pn = shape-accepted ns (g .shape) .full in
       let b : k < cellCount ns = omega arith in
       let ek : accepted le cells calls ≡ kept cells calls = accepted-kept le cells calls in
       let gs = goods ns border cells (kept cells calls) (kept-passed cells calls) (subst (Every (λ c. c .shape ≡ ns)) ek (S .named)) (subst (Every (λ c. c .border ≡ border)) ek (S .shared)) in

@@ -12,18 +12,16 @@ use lib.ListN.{length, getD}
 use Rattle.numbers.specs.Lists.{tabulate, Every, anyOf}
 use Rattle.numbers.specs.Order.{leastFrom, least}
 use Rattle.numbers.specs.Ranges.{outside}
-use Rattle.numbers.proofs.Any.{any-none}
-use Rattle.numbers.proofs.Refusal.{judged-all}
 use Rattle.numbers.proofs.Tabulate.{length-tabulate}
 use Rattle.numbers.proofs.Tests.{or-false}
-use Rattle.array_spec.specs.Conditions.{badShape, badLength, badLevel, badAxis}
-use Rattle.array_spec.specs.Grid.{cellCount, coordinate}
-use Rattle.array_spec.proofs.Shapes.{length-judged, count-accepted}
+use Rattle.array_spec.specs.Conditions.{badLevel, badAxis}
+use Rattle.array_spec.specs.Grid.{coordinate}
+use Rattle.array_spec.proofs.Judged.{PassedGrid, grid-passed}
 use Rattle.border.specs.Border.{Border, constant, along, inside, extendedLane}
 use Rattle.border.specs.Modes.{badConstantBy}
 use Rattle.window.specs.Origin.{badOrigin}
 use Rattle.pad_line.specs.Line.{badPad}
-use Rattle.min_max_spec.specs.Call.{Call, window, alone, leftPad, rightPad, axisLength, callJudged, numberOf}
+use Rattle.min_max_spec.specs.Call.{Call, window, alone, leftPad, rightPad, axisLength, windowJudged, numberOf}
 use Rattle.min_max_spec.specs.Run.{laneLevel, answerOf, after, run, numbers, accepted}
 
 -- ---- tests
@@ -33,9 +31,7 @@ two false = inr refl
 
 -- an accepted call has passed each test
 pub record Passed (cells : List ℤ) (c : Call) : Type 0 where
-  pub shape : badShape (c .shape) ≡ false
-  pub lengths : anyOf (badLength (c .shape)) (length cells ∷ length (c .out) ∷ []) ≡ false
-  pub levels : anyOf badLevel cells ≡ false
+  pub grid : PassedGrid badLevel (c .shape) cells (length (c .out) ∷ [])
   pub size : outside 1 65 (c .size) ≡ false
   pub origin : (not (alone c) && badOrigin (c .size) (c .origin)) ≡ false
   pub axis : badAxis (c .shape) (c .axis) ≡ false
@@ -45,14 +41,8 @@ pub record Passed (cells : List ℤ) (c : Call) : Type 0 where
 pub passed : (cells : List ℤ) (c : Call) → numberOf cells c ≡ 0 → Passed cells c
 unfolding numberOf
 passed cells c e =
-    let p = judged-all (callJudged cells c) (tt, (tt, (tt, (tt, (tt, (tt, (tt, (tt, tt)))))))) e in
-    record { shape = p .0; lengths = p .1 .0; levels = p .1 .1 .0; size = p .1 .1 .1 .0; origin = p .1 .1 .1 .1 .0; axis = p .1 .1 .1 .1 .1 .0; level = p .1 .1 .1 .1 .1 .1 .0; pads = p .1 .1 .1 .1 .1 .1 .1 .0 }
-
--- the cells of an accepted call are those of its shape
-pub passed-lengths : {cells : List ℤ} {c : Call} → Passed cells c → (length cells ≡ cellCount (c .shape)) × (length (c .out) ≡ cellCount (c .shape))
-passed-lengths {cells} {c} P =
-    let p = any-none (badLength (c .shape)) (length cells ∷ length (c .out) ∷ []) (P .lengths) in
-    (length-judged (c .shape) (length cells) (p .0) ∙ count-accepted (c .shape) (P .shape), length-judged (c .shape) (length (c .out)) (p .1 .0) ∙ count-accepted (c .shape) (P .shape))
+    let p = grid-passed badLevel (c .shape) cells (length (c .out) ∷ []) (windowJudged c) (tt, (tt, (tt, (tt, (tt, tt))))) e in
+    record { grid = p .0; size = p .1 .0; origin = p .1 .1 .0; axis = p .1 .1 .1 .0; level = p .1 .1 .1 .1 .0; pads = p .1 .1 .1 .1 .1 .0 }
 
 -- ---- what an accepted call fills is a grid of the same length, with levels in range
 pub length-answer : (le : ℤ → ℤ → Bool) (cells : List ℤ) (c : Call) → length (answerOf le cells c) ≡ length cells
@@ -126,7 +116,7 @@ alike-after le cells c = go (two (eqb (numberOf cells c) 0))
         let P = passed cells c (eqb-true (numberOf cells c) 0 t) in
         record {
           size = ap length (after-yes le cells c t) ∙ length-answer le cells c;
-          range = ap (anyOf badLevel) (after-yes le cells c t) ∙ answer-in le cells c (P .level) (P .levels) ∙ sym (P .levels);
+          range = ap (anyOf badLevel) (after-yes le cells c t) ∙ answer-in le cells c (P .level) (P .grid .levels) ∙ sym (P .grid .levels);
         }
     go (inr t) = record { size = ap length (after-no le cells c t); range = ap (anyOf badLevel) (after-no le cells c t) }
 

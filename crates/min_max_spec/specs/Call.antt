@@ -77,10 +77,10 @@ windowJudged c =
     ∷ (not (alone c) && (badPad (c .border) (axisLength c) (natAbs (leftPad c)) || badPad (c .border) (axisLength c) (natAbs (rightPad c))), 11) ∷ []
 
 abbrev pub callJudged : List ℤ → Call → Judged
-callJudged cells c = gridJudged (c .shape) cells (length cells ∷ length (c .out) ∷ []) ++ windowJudged c
+callJudged cells c = gridJudged (c .shape) cells (length (c .out) ∷ []) ++ windowJudged c
 
 unfoldable pub numberOf : List ℤ → Call → ℕ
 numberOf cells c = refusalOf (callJudged cells c)
 
 unfoldable pub gridNumber : List ℕ → List ℤ → ℕ
-gridNumber ns cells = refusalOf (gridJudged ns cells (length cells ∷ []))
+gridNumber ns cells = refusalOf (gridJudged ns cells [])

@@ -2,13 +2,14 @@
 -- Assumes nothing.
 use mathlib.Core.Path.{_≡_, refl, sym, _∙_}
 use mathlib.Core.Bool.{Bool, true, false, cond}
-use mathlib.Core.List.{List, [], _∷_, _++_}
+use mathlib.Core.List.{List, [], _∷_, _++_, map}
 use Prim.Native.Nat.{ℕ, _<_}
 use native.Mathlib.Omega.{arith}
 use borrow.Author.Tests.{eq-eqb, ne-eqb, eqb-true, eqb-false}
 use lib.Dec.{T, eqb, ltb, ltb→lt}
+use lib.ListN.{length, replicate}
 use Rattle.numbers.specs.Lists.{Every}
-use Rattle.numbers.specs.Refusal.{Judged, refusalOf, Answers}
+use Rattle.numbers.specs.Refusal.{Judged, refusalOf, Answers, ScratchAnswers}
 use Rattle.numbers.proofs.Tests.{cond-yes, cond-no}
 
 -- the first condition holds
@@ -62,7 +63,19 @@ chain-ends js t n p {r} e h = go (eqb r 0) refl
 
 module _ {A : Type 0} (js : Judged) (levels held : List A) (r : ℕ) (e : r ≡ refusalOf js) where
   pub answers-refused : (r ≡ 0 → ⊥) → Answers js levels held r held
-  answers-refused h = record { number = e; cells = sym (cond-no (eqb r 0) levels held (ne-eqb r 0 h)) }
+  answers-refused h = record { number = e; cells = rw (ne-eqb r 0 h) refl }
 
   pub answers-accepted : {left : List A} → r ≡ 0 → left ≡ levels → Answers js levels held 0 left
   answers-accepted z q = record { number = sym z ∙ e; cells = q }
+
+-- the same of a call that is lent scratch grids besides
+module _ {A : Type 0} (zero : A) (js : Judged) (levels held : List A) (scratch : List (List A)) (r : ℕ) (e : r ≡ refusalOf js) where
+  pub scratch-refused : (r ≡ 0 → ⊥) → ScratchAnswers zero js levels held scratch r held scratch
+  scratch-refused h = record {
+    filled = answers-refused js levels held r e h;
+    cleared = rw (ne-eqb r 0 h) refl;
+  }
+
+  pub scratch-accepted : {left : List A} {scratch′ : List (List A)} → r ≡ 0 → left ≡ levels → scratch′ ≡ map (λ s. replicate (length s) zero) scratch
+      → ScratchAnswers zero js levels held scratch 0 left scratch′
+  scratch-accepted z q c = record { filled = answers-accepted js levels held r e z q; cleared = c }

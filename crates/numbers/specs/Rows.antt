@@ -12,7 +12,7 @@ use lib.Signed.{leZ, quotZ}
 use Rattle.numbers.specs.Lists.{tabulate, upFrom, anyOf}
 use Rattle.numbers.specs.Order.{atLeast, least}
 use Rattle.numbers.specs.Ranges.{outside, outsideZ, beyond}
-use Rattle.numbers.specs.Refusal.{refusalOf, leftIn}
+use Rattle.numbers.specs.Refusal.{refusalOf, leftIn, ScratchAnswers}
 use Rattle.numbers.specs.Sums.{sumOf}
 use Rattle.numbers.specs.Windows.{windowOf}
 
@@ -29,6 +29,11 @@ pub record NumbersRows : Type 0 where
   -- a refusal leaves what was held, an accepted call the levels
   pub refused-keeps : leftIn 3 (wholes (1 ∷ 2 ∷ [])) (wholes (8 ∷ 9 ∷ [])) ≡ wholes (8 ∷ 9 ∷ [])
   pub accepted-fills : leftIn 0 (wholes (1 ∷ 2 ∷ [])) (wholes (8 ∷ 9 ∷ [])) ≡ wholes (1 ∷ 2 ∷ [])
+  -- of two scratch grids an accepted call leaves zeros, each as long as it was, and a refused one what they held
+  pub scratch-zero : ScratchAnswers (pos 0) ((false, 3) ∷ []) (wholes (1 ∷ 2 ∷ [])) (wholes (8 ∷ 9 ∷ [])) (wholes (3 ∷ 4 ∷ []) ∷ wholes (5 ∷ []) ∷ [])
+      0 (wholes (1 ∷ 2 ∷ [])) (wholes (0 ∷ 0 ∷ []) ∷ wholes (0 ∷ []) ∷ [])
+  pub scratch-kept : ScratchAnswers (pos 0) ((true, 3) ∷ []) (wholes (1 ∷ 2 ∷ [])) (wholes (8 ∷ 9 ∷ [])) (wholes (3 ∷ 4 ∷ []) ∷ wholes (5 ∷ []) ∷ [])
+      3 (wholes (8 ∷ 9 ∷ [])) (wholes (3 ∷ 4 ∷ []) ∷ wholes (5 ∷ []) ∷ [])
   -- the least and the greatest, wherever they stand; the given level where there is none
   pub least-first : least leZ (pos 0) (minus 7 ∷ pos 3 ∷ pos 3 ∷ []) ≡ minus 7
   pub least-last : least leZ (pos 0) (pos 4 ∷ pos 2 ∷ pos 7 ∷ pos 1 ∷ []) ≡ pos 1

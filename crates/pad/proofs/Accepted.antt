@@ -12,16 +12,15 @@ use lib.ListN.{length, getD, take}
 use Rattle.numbers.specs.Lists.{tabulate, anyOf}
 use Rattle.numbers.specs.Refusal.{refusalOf}
 use Rattle.numbers.proofs.Any.{any-none, every-at}
-use Rattle.numbers.proofs.Refusal.{judged-all}
 use Rattle.numbers.proofs.Tabulate.{length-tabulate, getD-tabulate}
 use Rattle.numbers.proofs.Tests.{or-false}
-use Rattle.array_spec.specs.Conditions.{badShape, badLength, badLevel}
+use Rattle.array_spec.specs.Conditions.{badLevel}
 use Rattle.array_spec.specs.Grid.{cellCount, lengthOf}
-use Rattle.array_spec.proofs.Shapes.{count-accepted, length-judged}
+use Rattle.array_spec.proofs.Judged.{PassedGrid, grid-passed}
 use Rattle.border.specs.declared.PadMode.{PadMode}
 use Rattle.pad_line.specs.Line.{badPad}
 use Rattle.pad_spec.specs.Fill.{rimOf}
-use Rattle.pad_spec.specs.Conditions.{badConstant, badCount, overPad, paddedCount, badPads, badReachOn, badReach, padJudged}
+use Rattle.pad_spec.specs.Conditions.{badConstant, badCount, overPad, paddedCount, badPads, badReachOn, badReach, padsJudged, padJudged}
 use Rattle.pad_spec.specs.Pads.{pairOf, leftsOf, rightsOf, paddedShape}
 use Rattle.pad_spec.specs.declared.pairs.Pair.{Pair}
 use Rattle.pad_spec.proofs.PairOf.{axis-at, padded-length, padded-short}
@@ -29,9 +28,7 @@ use Rattle.pad_spec.specs.Frame.{Framed, Filling}
 
 -- what each condition of an accepted call says
 pub record Passed (mode : PadMode) (ns : List ℕ) (pads : List Pair) (count : ℕ) (cells : List ℤ) (out : ℕ) : Type 0 where
-  pub shape : badShape ns ≡ false
-  pub whole : length cells ≡ cellCount ns
-  pub levels : anyOf badLevel cells ≡ false
+  pub grid : PassedGrid badLevel ns cells []
   pub level : badConstant mode ≡ false
   pub pairs : badCount ns count ≡ false
   pub limits : anyOf overPad (take count pads) ≡ false
@@ -42,21 +39,18 @@ pub record Passed (mode : PadMode) (ns : List ℕ) (pads : List Pair) (count : �
 pub passed : (mode : PadMode) (ns : List ℕ) (pads : List Pair) (count : ℕ) (cells : List ℤ) (out : ℕ) → refusalOf (padJudged mode ns pads count cells out) ≡ 0 → Passed mode ns pads count cells out
 unfolding badPads badReach
 passed mode ns pads count cells out z =
-    let J = judged-all (padJudged mode ns pads count cells out) (tt, (tt, (tt, (tt, (tt, (tt, (tt, tt))))))) z in
-    let p = or-false (badCount ns count) _ (J .1 .1 .1 .1 .0) in
+    let J = grid-passed badLevel ns cells [] (padsJudged mode ns pads count cells out) (tt, (tt, (tt, (tt, tt)))) z in
+    let p = or-false (badCount ns count) _ (J .1 .1 .0) in
     let q = or-false (anyOf overPad (take count pads)) _ (p .1) in
-    let r = or-false (ltb 32768 (paddedCount ns pads count)) _ (q .1) in
-    let l = or-false (badLength ns (length cells)) false (J .1 .0) in record {
-      shape = J .0;
-      whole = length-judged ns (length cells) (l .0) ∙ count-accepted ns (J .0);
-      levels = J .1 .1 .0;
-      level = J .1 .1 .1 .0;
+    let r = or-false (ltb 32768 (paddedCount ns pads count)) _ (q .1) in record {
+      grid = J .0;
+      level = J .1 .0;
       pairs = p .0;
       limits = q .0;
       small = ltb-false 32768 (paddedCount ns pads count) (r .0);
       lent = eqb-true out (paddedCount ns pads count) (not-false (eqb out (paddedCount ns pads count)) (r .1));
       reach = λ a h. ap (badReachOn mode ns pads count) (sym (axis-at (length ns) a h))
-          ∙ every-at (λ x. badReachOn mode ns pads count x ≡ false) (tabulate (λ k. k) 0 (length ns)) 0 (any-none (badReachOn mode ns pads count) (tabulate (λ k. k) 0 (length ns)) (J .1 .1 .1 .1 .1 .0)) a
+          ∙ every-at (λ x. badReachOn mode ns pads count x ≡ false) (tabulate (λ k. k) 0 (length ns)) 0 (any-none (badReachOn mode ns pads count) (tabulate (λ k. k) 0 (length ns)) (J .1 .1 .1 .0)) a
           (in-axes a h);
     }
   where
@@ -69,11 +63,11 @@ module _ {mode : PadMode} {ns : List ℕ} {pads : List Pair} {count : ℕ} {cell
 
   pub framed : Framed ns (leftsOf ns pads count) (paddedShape ns (leftsOf ns pads count) (rightsOf ns pads count))
   framed = record {
-    shape = P .shape;
+    shape = P .grid .shape;
     starts = length-tabulate (λ k. pairOf pads count k .left) 0 (length ns);
     axes = length-tabulate (λ a. getD (leftsOf ns pads count) a 0 + lengthOf ns a + getD (rightsOf ns pads count) a 0) 0 (length ns);
     room = λ a h. fits a h;
-    short = λ a. padded-short ns pads count (P .shape) three (P .pairs) (P .limits) a (λ j. lengthOf (paddedShape ns (leftsOf ns pads count) (rightsOf ns pads count)) a);
+    short = λ a. padded-short ns pads count (P .grid .shape) three (P .pairs) (P .limits) a (λ j. lengthOf (paddedShape ns (leftsOf ns pads count) (rightsOf ns pads count)) a);
     small = P .small;
   }
     where

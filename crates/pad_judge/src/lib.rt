@@ -76,7 +76,7 @@ pub fn judge(
 ) -> u8
     ensures { λ r. ⌜ r ≡ refusalOf (padJudged mode (now (shape .entry)) pads count (now («data» .entry)) out) ⌝ }
 {
-    let refusal = array::judge_grid(data, shape, data.len(), data.len());
+    let refusal = array::judge_grid(data, shape, &[]);
     if refusal != 0 {
         return refusal;
     }

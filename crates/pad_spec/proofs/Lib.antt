@@ -3,7 +3,6 @@ pub mod Rims
 pub mod Serves
 pub mod PairOf
 pub mod Sizes
-pub mod Chain
 pub mod Levels
 pub mod Axis
 pub mod Room

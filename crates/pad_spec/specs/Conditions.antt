@@ -86,4 +86,4 @@ padsJudged mode ns pads count cells out =
     (badConstant mode, 9) ∷ (badPads ns pads count out, 10) ∷ (badReach mode ns pads count, 11) ∷ (badSums mode ns pads count cells, 12) ∷ []
 
 abbrev pub padJudged : PadMode → List ℕ → List Pair → ℕ → List ℤ → ℕ → Judged
-padJudged mode ns pads count cells out = gridJudged ns cells (length cells ∷ []) ++ padsJudged mode ns pads count cells out
+padJudged mode ns pads count cells out = gridJudged ns cells [] ++ padsJudged mode ns pads count cells out

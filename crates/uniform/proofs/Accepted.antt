@@ -3,22 +3,21 @@
 use mathlib.Core.Path.{_≡_, ap, subst, _∙_}
 use mathlib.Core.Bool.{false}
 use mathlib.Core.List.{List, [], _∷_}
-use Prim.Native.Nat.{ℕ, _+_, _-_, _/_, _≤_, _<_}
+use Prim.Native.Nat.{ℕ, _+_, _-_, _/_, _<_}
 use native.Mathlib.Nat.{add-zero}
 use native.Mathlib.Omega.{arith}
 use borrow.Author.Tests.{ltb-true, not-false}
 use lib.Dec.{ltb}
 use lib.IntN.{ℤ, pos}
-use lib.ListN.{length}
+use lib.ListN.{length, drop}
 use Rattle.numbers.specs.Lists.{anyOf}
 use Rattle.numbers.specs.Ranges.{outside}
 use Rattle.numbers.specs.Refusal.{refusalOf}
 use Rattle.numbers.proofs.Any.{any-none, every-at}
-use Rattle.numbers.proofs.Refusal.{judged-all}
 use Rattle.numbers.proofs.Tests.{or-false}
-use Rattle.array_spec.specs.Conditions.{badShape, badLength, badLevel}
+use Rattle.array_spec.specs.Conditions.{badLevel}
 use Rattle.array_spec.specs.Grid.{cellCount, lengthOf}
-use Rattle.array_spec.proofs.Shapes.{shape-accepted, count-accepted, length-judged}
+use Rattle.array_spec.proofs.Judged.{PassedGrid, grid-passed}
 use Rattle.lanes.specs.Lanes.{alongAxis}
 use Rattle.lanes.proofs.AlongAxis.{length-along}
 use Rattle.border.specs.Border.{Border}
@@ -67,27 +66,22 @@ module _ {b : Border ℤ} {size : ℕ} {ns : List ℕ} {a : ℕ} {cells out : Li
 module _ {b : Border ℤ} {size : ℕ} {ns : List ℕ} {a : ℕ} {cells : List ℤ} (out : List ℤ) where
   pub along-accepted : refusalOf (uniform1dJudged b size ns a cells (length out)) ≡ 0 → Pass b size ns a cells out
   along-accepted e =
-      let p = judged-all (uniform1dJudged b size ns a cells (length out)) (tt, (tt, (tt, (tt, (tt, (tt, (tt, (tt, tt)))))))) e in
-      let q = any-none (badLength ns) (length cells ∷ length out ∷ []) (p .1 .0) in
+      let p = grid-passed badLevel ns cells (length out ∷ []) (drop 3 (uniform1dJudged b size ns a cells (length out))) (tt, (tt, (tt, (tt, (tt, tt))))) e in
       record {
-        shape = p .0;
-        axis = ltb-true a (length ns) (not-false (ltb a (length ns)) (p .1 .1 .1 .1 .0));
-        count = length-judged ns (length cells) (q .0) ∙ count-accepted ns (p .0);
-        same = length-judged ns (length out) (q .1 .0) ∙ count-accepted ns (p .0);
-        levels = p .1 .1 .0;
-        window = p .1 .1 .1 .0;
-        level = p .1 .1 .1 .1 .1 .0;
-        reach = p .1 .1 .1 .1 .1 .1 .0;
+        shape = p .0 .shape;
+        axis = ltb-true a (length ns) (not-false (ltb a (length ns)) (p .1 .1 .0));
+        count = p .0 .count;
+        same = p .0 .lengths .0;
+        levels = p .0 .levels;
+        window = p .1 .0;
+        level = p .1 .1 .1 .0;
+        reach = p .1 .1 .1 .1 .0;
       }
 
 -- ---- the grid form
 -- what an accepted call has passed
 pub record Filtered (b : Border ℤ) (size : ℕ) (ns : List ℕ) (cells out second : List ℤ) : Type 0 where
-  pub shape : badShape ns ≡ false
-  pub input : length cells ≡ cellCount ns
-  pub output : length out ≡ cellCount ns
-  pub between : length second ≡ cellCount ns
-  pub levels : anyOf badLevel cells ≡ false
+  pub grid : PassedGrid badLevel ns cells (length out ∷ length second ∷ [])
   pub window : outside 1 65 size ≡ false
   pub level : badConstantBy badLevel b ≡ false
   pub reach : anyOf (badGridReach b size) ns ≡ false
@@ -95,18 +89,8 @@ pub record Filtered (b : Border ℤ) (size : ℕ) (ns : List ℕ) (cells out sec
 pub filtered : {b : Border ℤ} {size : ℕ} {ns : List ℕ} {cells : List ℤ} (out second : List ℤ) → refusalOf (uniformJudged b size ns cells (length out) (length second)) ≡ 0
     → Filtered b size ns cells out second
 filtered {b} {size} {ns} {cells} out second e =
-    let p = judged-all (uniformJudged b size ns cells (length out) (length second)) (tt, (tt, (tt, (tt, (tt, (tt, (tt, tt))))))) e in
-    let q = any-none (badLength ns) (length cells ∷ length out ∷ length second ∷ []) (p .1 .0) in
-    record {
-      shape = p .0;
-      input = length-judged ns (length cells) (q .0) ∙ count-accepted ns (p .0);
-      output = length-judged ns (length out) (q .1 .0) ∙ count-accepted ns (p .0);
-      between = length-judged ns (length second) (q .1 .1 .0) ∙ count-accepted ns (p .0);
-      levels = p .1 .1 .0;
-      window = p .1 .1 .1 .0;
-      level = p .1 .1 .1 .1 .0;
-      reach = p .1 .1 .1 .1 .1 .0;
-    }
+    let p = grid-passed badLevel ns cells (length out ∷ length second ∷ []) (drop 3 (uniformJudged b size ns cells (length out) (length second))) (tt, (tt, (tt, (tt, tt)))) e in
+    record { grid = p .0; window = p .1 .0; level = p .1 .1 .0; reach = p .1 .1 .1 .0 }
 
 -- a grid between two passes
 pub record Between (ns : List ℕ) (g : List ℤ) : Type 0 where
@@ -115,12 +99,12 @@ pub record Between (ns : List ℕ) (g : List ℤ) : Type 0 where
 
 module _ {b : Border ℤ} {size : ℕ} {ns : List ℕ} {cells out second : List ℤ} (F : Filtered b size ns cells out second) where
   pub between-input : Between ns cells
-  between-input = record { count = F .input; range = F .levels }
+  between-input = record { count = F .grid .count; range = F .grid .levels }
 
   -- a pass along any axis is accepted
   pub pass-accepted : {g held : List ℤ} {a : ℕ} → Between ns g → length held ≡ cellCount ns → a < length ns → Pass b size ns a g held
   pass-accepted {a = a} B e h = record {
-    shape = F .shape;
+    shape = F .grid .shape;
     axis = h;
     count = B .count;
     same = e;
@@ -135,10 +119,3 @@ module _ {b : Border ℤ} {size : ℕ} {ns : List ℕ} {cells out second : List 
     count = ap length e ∙ length-along (pos 0) (λ s. means (paddedFor b size s) size (length s)) ns a g ∙ B .count;
     range = ap (anyOf badLevel) e ∙ levels-kept b size ns g (B .range) (F .level) a;
   }
-
-  -- an accepted grid has one, two or three axes
-  pub three-axes : (length ns ≡ 1 → ⊥) → (length ns ≡ 2 → ⊥) → length ns ≡ 3
-  three-axes p q = let A = shape-accepted ns (F .shape) in at (length ns) (A .some) (A .few) p q
-    where
-      at : (n : ℕ) → 0 < n → n ≤ 3 → (n ≡ 1 → ⊥) → (n ≡ 2 → ⊥) → n ≡ 3
-      at n h f p q = omega arith

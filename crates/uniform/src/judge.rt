@@ -103,7 +103,7 @@ pub fn judge_uniform1d(
 ) -> u8
     ensures { λ r. ⌜ r ≡ refusalOf (uniform1dJudged (borderOf mode) size (now (shape .entry)) axis (now («data» .entry)) out) ⌝ }
 {
-    let refusal = array::judge_grid(data, shape, out, out);
+    let refusal = array::judge_grid(data, shape, &[out]);
     if refusal != 0 {
         return refusal;
     }
@@ -129,7 +129,7 @@ pub fn judge_uniform(
 ) -> u8
     ensures { λ r. ⌜ r ≡ refusalOf (uniformJudged (borderOf mode) size (now (shape .entry)) (now («data» .entry)) out second) ⌝ }
 {
-    let refusal = array::judge_grid(data, shape, out, second);
+    let refusal = array::judge_grid(data, shape, &[out, second]);
     if refusal != 0 {
         return refusal;
     }

@@ -2,13 +2,14 @@
 // toward zero.
 ghost use Rattle.uniform.specs.Rows.{UniformRows};
 ghost use mathlib.Core.Path.{_≡_};
+ghost use mathlib.Core.List.{[], _∷_};
+ghost use lib.IntN.{pos};
 ghost use lib.ListN.{length};
-ghost use Rattle.numbers.specs.Refusal.{refusalOf, Answers};
+ghost use Rattle.numbers.specs.Refusal.{refusalOf, Answers, ScratchAnswers};
 ghost use Rattle.border.specs.Modes.{borderOf};
 ghost use Rattle.uniform_spec.specs.Uniform.{uniform1d, uniform as uniformOf};
 ghost use Rattle.uniform_spec.specs.Judge.{uniform1dJudged, uniformJudged};
 ghost use Rattle.uniform.specs.Pass.{Pass};
-ghost use Rattle.uniform.specs.Answers.{UniformAnswers};
 use border::BorderMode;
 
 mod judge;
@@ -106,7 +107,8 @@ pub fn uniform_filter(
     second: &mut [i64],
     out: &mut [i64],
 ) -> u8
-    ensures { λ r. ⌜ UniformAnswers (borderOf mode) size (now (shape .entry)) (now («data» .entry)) (now (second .entry)) (now (out .entry)) r (now (second .exit)) (now (out .exit)) ⌝ }
+    ensures { λ r. ⌜ ScratchAnswers (pos 0) (uniformJudged (borderOf mode) size (now (shape .entry)) (now («data» .entry)) (length (now (out .entry))) (length (now (second .entry))))
+        (uniformOf (borderOf mode) size (now (shape .entry)) (now («data» .entry))) (now (out .entry)) (now (second .entry) ∷ []) r (now (out .exit)) (now (second .exit) ∷ []) ⌝ }
 {
     let refusal = judge::judge_uniform(data, shape, size, mode, out.len(), second.len());
     if refusal != 0 {

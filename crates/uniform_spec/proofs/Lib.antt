@@ -1,6 +1,5 @@
 -- Laws, leaves first.
 pub mod Window
 pub mod Sums
-pub mod Chain
 pub mod JudgeRows
 pub mod MeanRows

@@ -43,8 +43,8 @@ abbrev pub axesJudged : Border ℤ → ℕ → List ℕ → Judged
 axesJudged b size ns = (outside 1 65 size, 5) ∷ (badConstantBy badLevel b, 9) ∷ (anyOf (badGridReach b size) ns, 11) ∷ []
 
 abbrev pub uniform1dJudged : Border ℤ → ℕ → List ℕ → ℕ → List ℤ → ℕ → Judged
-uniform1dJudged b size ns a cells out = gridJudged ns cells (length cells ∷ out ∷ []) ++ alongJudged b size ns a ++ ((badSums b size ns a cells, 12) ∷ [])
+uniform1dJudged b size ns a cells out = gridJudged ns cells (out ∷ []) ++ alongJudged b size ns a ++ ((badSums b size ns a cells, 12) ∷ [])
 
 abbrev pub uniformJudged : Border ℤ → ℕ → List ℕ → List ℤ → ℕ → ℕ → Judged
 uniformJudged b size ns cells out second =
-    gridJudged ns cells (length cells ∷ out ∷ second ∷ []) ++ axesJudged b size ns ++ ((badSumsFrom b size ns 0 (length ns) cells, 12) ∷ [])
+    gridJudged ns cells (out ∷ second ∷ []) ++ axesJudged b size ns ++ ((badSumsFrom b size ns 0 (length ns) cells, 12) ∷ [])

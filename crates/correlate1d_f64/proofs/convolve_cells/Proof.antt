@@ -6,6 +6,7 @@ use lib.ListN.{length}
 use denote.Ref.{now}
 use mir.Syntax.{w64}
 use mir.Val.{toZ, ofZ}
+use Rattle.array_spec.proofs.Judged.{lent-same}
 use Rattle.border.specs.Modes.{borderOfF64}
 use Rattle.window.specs.Origin.{badOrigin}
 use Rattle.min_max_judge.proofs.Reach.{origin-accepted}
@@ -33,7 +34,7 @@ shared-slice-read-scale c = search needs
 scale-requires : tie.Need-scale-requires
 scale-requires c κs =
     let s = c .before .before .before .before .before .before .before .before in
-    passed-float true (borderOfF64 (s .args .mode)) (s .args .origin) (now (s .args .weights)) (now (s .args .shape)) (s .args .axis) (now (s .args .«data»)) (length (now (s .args .out))) (s .pre .0) .lent
+    lent-same (passed-float true (borderOfF64 (s .args .mode)) (s .args .origin) (now (s .args .weights)) (now (s .args .shape)) (s .args .axis) (now (s .args .«data»)) (length (now (s .args .out))) (s .pre .0) .grid)
 
 same-length : tie.Need-same-length
 same-length c = search needs

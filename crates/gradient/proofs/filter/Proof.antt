@@ -3,10 +3,11 @@
 use Prim.Native.Nat.{ℕ}
 use mathlib.Core.Path.{_≡_, sym, ap, _∙_}
 use denote.Ref.{now}
-use lib.IntN.{pos}
+use mathlib.Core.List.{List, [], _∷_}
+use lib.IntN.{ℤ, pos}
 use lib.ListN.{length, replicate}
 use Rattle.numbers.specs.Refusal.{refusalOf}
-use Rattle.numbers.proofs.Refusal.{answers-refused, answers-accepted}
+use Rattle.numbers.proofs.Refusal.{scratch-refused, scratch-accepted}
 use Rattle.border.specs.Modes.{borderOf}
 use Rattle.gradient_spec.specs.Judge.{gradientJudged}
 use borrow.Author.Needs.{needs}
@@ -21,7 +22,7 @@ judge-gradient-requires : tie.Need-judge-gradient-requires
 judge-gradient-requires c κs = search needs
 
 returns : tie.Need-returns
-returns c = record { filled = answers-refused _ _ _ _ (judged (c .before)) (c .if1 .taken); cleared = answers-refused _ _ _ _ (judged (c .before)) (c .if1 .taken) }
+returns c = scratch-refused (pos 0) _ _ _ _ _ (judged (c .before)) (c .if1 .taken)
 
 passes-requires : tie.Need-passes-requires
 passes-requires c κs = (c .before .before .before .before .before .pre, sym (judged (c .before .before .before)) ∙ c .before .before .if1 .left)
@@ -40,10 +41,7 @@ returns-2 c =
     let j = judged (c .before .before .before .before .before .before .before .before .before) in
     let z = c .before .before .before .before .before .before .before .before .if1 .left in
     let p = c .before .before .before .before .before .passes in
-    record {
-      filled = answers-accepted _ _ _ _ j z (p .ensures);
-      cleared = answers-accepted _ _ _ _ j z (c .before .fill .ensures ∙ ap (λ (n : ℕ). replicate n (pos 0)) (p .kept .1 .1 .1 .1 .1 .0));
-    }
+    scratch-accepted (pos 0) _ _ _ _ _ j z (p .ensures) (ap (λ (s : List ℤ). s ∷ []) (c .before .fill .ensures ∙ ap (λ (n : ℕ). replicate n (pos 0)) (p .kept .1 .1 .1 .1 .1 .0)))
 
 pub filter-spec : {M : Type 1} → statement M
 filter-spec =

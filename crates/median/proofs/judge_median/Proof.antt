@@ -11,26 +11,23 @@ bad-axes-requires c κs = search needs
 returns : tie.Need-returns
 returns c = simp (told (c .before .bad-axes .ensures) (c .if1 .taken))
 
-bad-length-requires : tie.Need-bad-length-requires
-bad-length-requires c κs = search needs
+slice-aggregate-bad-lengths : tie.Need-slice-aggregate-bad-lengths
+slice-aggregate-bad-lengths c = search needs
+
+bad-lengths-requires : tie.Need-bad-lengths-requires
+bad-lengths-requires c κs = search needs
 
 returns-2 : tie.Need-returns-2
-returns-2 c = simp (told (c .before .before .before .bad-axes .ensures) (c .before .before .if1 .left), told (c .before .bad-length .ensures) (c .if2 .taken))
-
-bad-length-requires-2 : tie.Need-bad-length-requires-2
-bad-length-requires-2 c κs = search needs
-
-returns-3 : tie.Need-returns-3
-returns-3 c = simp (told (c .before .before .before .before .before .bad-axes .ensures) (c .before .before .before .before .if1 .left), told (c .before .before .before .bad-length .ensures) (c .before .before .if2 .left), told (c .before .bad-length2 .ensures) (c .if3 .taken))
+returns-2 c = simp (told (c .before .before .before .before .bad-axes .ensures) (c .before .before .before .if1 .left), told (c .before .bad-lengths .ensures) (c .if2 .taken))
 
 bad-single-requires : tie.Need-bad-single-requires
 bad-single-requires c κs = search needs
 
-returns-4 : tie.Need-returns-4
-returns-4 c = simp (told (c .before .before .before .before .before .before .before .bad-axes .ensures) (c .before .before .before .before .before .before .if1 .left), told (c .before .before .before .before .before .bad-length .ensures) (c .before .before .before .before .if2 .left), told (c .before .before .before .bad-length2 .ensures) (c .before .before .if3 .left), told (c .before .bad-single .ensures) (c .if4 .taken))
+returns-3 : tie.Need-returns-3
+returns-3 c = simp (told (c .before .before .before .before .before .before .bad-axes .ensures) (c .before .before .before .before .before .if1 .left), told (c .before .before .before .bad-lengths .ensures) (c .before .before .if2 .left), told (c .before .bad-single .ensures) (c .if3 .taken))
 
-returns-5 : tie.Need-returns-5
-returns-5 c = simp (told (c .before .before .before .before .before .before .before .bad-axes .ensures) (c .before .before .before .before .before .before .if1 .left), told (c .before .before .before .before .before .bad-length .ensures) (c .before .before .before .before .if2 .left), told (c .before .before .before .bad-length2 .ensures) (c .before .before .if3 .left), told (c .before .bad-single .ensures) (c .if4 .left))
+returns-4 : tie.Need-returns-4
+returns-4 c = simp (told (c .before .before .before .before .before .before .bad-axes .ensures) (c .before .before .before .before .before .if1 .left), told (c .before .before .before .bad-lengths .ensures) (c .before .before .if2 .left), told (c .before .bad-single .ensures) (c .if3 .left))
 
 pub judge-median-spec : {M : Type 1} → statement M
 judge-median-spec =
@@ -38,10 +35,9 @@ judge-median-spec =
     (tie.spec
     bad-axes-requires
     returns
-    bad-length-requires
+    slice-aggregate-bad-lengths
+    bad-lengths-requires
     returns-2
-    bad-length-requires-2
-    returns-3
     bad-single-requires
-    returns-4
-    returns-5)
+    returns-3
+    returns-4)

@@ -13,6 +13,8 @@ returns c = record {
   accepted = refl;
   refused-keeps = refl;
   accepted-fills = refl;
+  scratch-zero = record { filled = record { number = refl; cells = refl }; cleared = refl };
+  scratch-kept = record { filled = record { number = refl; cells = refl }; cleared = refl };
   least-first = refl;
   least-last = refl;
   greatest-inside = refl;

@@ -7,10 +7,11 @@ use native.Mathlib.Omega.{arith}
 use denote.Ref.{now}
 use lib.IntN.{ℤ}
 use lib.ListN.{length}
+use Rattle.array_spec.proofs.Judged.{axes-three}
 use Rattle.lanes.proofs.Passes.{one-pass, two-passes, three-passes}
 use Rattle.border.specs.Modes.{borderOf}
 use Rattle.uniform_spec.specs.Uniform.{uniform1d}
-use Rattle.uniform.proofs.Accepted.{Filtered, filtered, between-input, pass-accepted, between-pass, three-axes}
+use Rattle.uniform.proofs.Accepted.{Filtered, filtered, between-input, pass-accepted, between-pass}
 use borrow.Author.Needs.{needs}
 use Rattle.uniform.proofs.passes.Statement.{statement}
 use Rattle.uniform.proofs.passes.Tie as tie
@@ -23,10 +24,10 @@ abbrev step : tie.Start → ℕ → List ℤ → List ℤ
 step s = uniform1d (borderOf (s .args .mode)) (s .args .size) (now (s .args .shape))
 
 three : (c : tie.Else2) → length (now (c .before .before .before .args .shape)) ≡ 3
-three c = three-axes (accepted (c .before .before .before)) (c .before .if1 .left) (c .if2 .left)
+three c = axes-three (accepted (c .before .before .before) .grid) (c .before .if1 .left) (c .if2 .left)
 
 pass-requires : tie.Need-pass-requires
-pass-requires c κs = let F = accepted (c .before .before .before) in pass-accepted F (between-input F) (F .output) (omega (arith, c .before .if1 .taken))
+pass-requires c κs = let F = accepted (c .before .before .before) in pass-accepted F (between-input F) (F .grid .lengths .0) (omega (arith, c .before .if1 .taken))
 
 same-length : tie.Need-same-length
 same-length c = search needs
@@ -35,12 +36,12 @@ returns : tie.Need-returns
 returns c = let s = c .before .before .before .before .before in one-pass (step s) (now (s .args .«data»)) (c .before .before .before .if1 .taken) (c .before .pass .ensures)
 
 pass-requires-2 : tie.Need-pass-requires-2
-pass-requires-2 c κs = let F = accepted (c .before .before .before .before) in pass-accepted F (between-input F) (F .between) (omega (arith, c .before .if2 .taken))
+pass-requires-2 c κs = let F = accepted (c .before .before .before .before) in pass-accepted F (between-input F) (F .grid .lengths .1 .0) (omega (arith, c .before .if2 .taken))
 
 pass-requires-3 : tie.Need-pass-requires-3
 pass-requires-3 c κs =
     let F = accepted (c .before .before .before .before .before .before .before .before) in
-    pass-accepted F (between-pass F _ (between-input F) (c .before .before .before .pass2 .ensures)) (F .output) (omega (arith, c .before .before .before .before .before .if2 .taken))
+    pass-accepted F (between-pass F _ (between-input F) (c .before .before .before .pass2 .ensures)) (F .grid .lengths .0) (omega (arith, c .before .before .before .before .before .if2 .taken))
 
 same-length-2 : tie.Need-same-length-2
 same-length-2 c = search needs
@@ -54,18 +55,18 @@ returns-2 c =
     two-passes (step s) (now (s .args .«data»)) (c .before .before .before .before .before .before .before .if2 .taken) (c .before .before .before .before .before .pass2 .ensures) (c .before .pass3 .ensures)
 
 pass-requires-4 : tie.Need-pass-requires-4
-pass-requires-4 c κs = let F = accepted (c .before .before .before .before) in pass-accepted F (between-input F) (F .output) (omega (arith, three (c .before)))
+pass-requires-4 c κs = let F = accepted (c .before .before .before .before) in pass-accepted F (between-input F) (F .grid .lengths .0) (omega (arith, three (c .before)))
 
 pass-requires-5 : tie.Need-pass-requires-5
 pass-requires-5 c κs =
     let F = accepted (c .before .before .before .before .before .before .before .before) in
-    pass-accepted F (between-pass F _ (between-input F) (c .before .before .before .pass4 .ensures)) (F .between) (omega (arith, three (c .before .before .before .before .before)))
+    pass-accepted F (between-pass F _ (between-input F) (c .before .before .before .pass4 .ensures)) (F .grid .lengths .1 .0) (omega (arith, three (c .before .before .before .before .before)))
 
 pass-requires-6 : tie.Need-pass-requires-6
 pass-requires-6 c κs =
     let F = accepted (c .before .before .before .before .before .before .before .before .before .before .before .before) in
     let p = c .before .before .before .before .before .before .before .pass4 in
-    pass-accepted F (between-pass F _ (between-pass F _ (between-input F) (p .ensures)) (c .before .before .before .pass5 .ensures)) (p .kept .1 .1 .1 .1 .1 .0 ∙ F .output) (omega (arith, three (c .before .before .before .before .before .before .before .before .before)))
+    pass-accepted F (between-pass F _ (between-pass F _ (between-input F) (p .ensures)) (c .before .before .before .pass5 .ensures)) (p .kept .1 .1 .1 .1 .1 .0 ∙ F .grid .lengths .0) (omega (arith, three (c .before .before .before .before .before .before .before .before .before)))
 
 same-length-4 : tie.Need-same-length-4
 same-length-4 c = search needs

@@ -2,9 +2,10 @@
 -- Assumes nothing.
 use mathlib.Core.Path.{ap, _∙_}
 use Prim.Native.Nat.{ℕ}
-use lib.IntN.{pos}
+use mathlib.Core.List.{List, [], _∷_}
+use lib.IntN.{ℤ, pos}
 use lib.ListN.{replicate}
-use Rattle.numbers.proofs.Refusal.{answers-refused, answers-accepted}
+use Rattle.numbers.proofs.Refusal.{scratch-refused, scratch-accepted}
 use borrow.Author.Needs.{needs}
 use Rattle.uniform.proofs.uniform_filter.Statement.{statement}
 use Rattle.uniform.proofs.uniform_filter.Tie as tie
@@ -13,7 +14,7 @@ judge-uniform-requires : tie.Need-judge-uniform-requires
 judge-uniform-requires c κs = search needs
 
 returns : tie.Need-returns
-returns c = record { filled = answers-refused _ _ _ _ (c .before .judge-uniform .ensures) (c .if1 .taken); cleared = answers-refused _ _ _ _ (c .before .judge-uniform .ensures) (c .if1 .taken) }
+returns c = scratch-refused (pos 0) _ _ _ _ _ (c .before .judge-uniform .ensures) (c .if1 .taken)
 
 passes-requires : tie.Need-passes-requires
 passes-requires c κs = search needs
@@ -32,10 +33,7 @@ returns-2 c =
     let j = c .before .before .before .before .before .before .before .before .before .judge-uniform .ensures in
     let z = c .before .before .before .before .before .before .before .before .if1 .left in
     let p = c .before .before .before .before .before .passes in
-    record {
-      filled = answers-accepted _ _ _ _ j z (p .ensures);
-      cleared = answers-accepted _ _ _ _ j z (c .before .fill .ensures ∙ ap (λ (n : ℕ). replicate n (pos 0)) (p .kept .1 .1 .1 .1 .0));
-    }
+    scratch-accepted (pos 0) _ _ _ _ _ j z (p .ensures) (ap (λ (s : List ℤ). s ∷ []) (c .before .fill .ensures ∙ ap (λ (n : ℕ). replicate n (pos 0)) (p .kept .1 .1 .1 .1 .0)))
 
 pub uniform-filter-spec : {M : Type 1} → statement M
 uniform-filter-spec =

@@ -3,9 +3,7 @@
 use Rattle.numbers.proofs.Tests.{told}
 use Rattle.array_spec.specs.Conditions.{badFloat}
 use Rattle.array.proofs.Levels.{lengths-refused, level-refused, levels-accepted}
-use mathlib.Core.List.{[], _∷_}
 use denote.Ref.{now}
-use lib.ListN.{length}
 use borrow.Author.Needs.{needs}
 use Rattle.array.proofs.conditions.judge_grid_f64.Statement.{statement}
 use Rattle.array.proofs.conditions.judge_grid_f64.Tie as tie
@@ -15,21 +13,21 @@ judge-lengths-requires c κs = search needs
 
 returns : tie.Need-returns
 returns c =
-    let a = c .before .before .before .before .args in
-    lengths-refused badFloat (now (a .shape)) (now (a .«data»)) (length (now (a .«data»)) ∷ a .out ∷ a .second ∷ []) (c .before .judge-lengths .ensures) (c .if1 .taken)
+    let a = c .before .before .before .before .before .args in
+    lengths-refused badFloat (now (a .shape)) (now (a .«data»)) (now (a .lent)) (c .before .judge-lengths .ensures) (c .if1 .taken)
 
 bad-levels-f64-requires : tie.Need-bad-levels-f64-requires
 bad-levels-f64-requires c κs = search needs
 
 returns-2 : tie.Need-returns-2
 returns-2 c =
-    let a = c .before .before .before .before .before .before .args in
-    level-refused badFloat (now (a .shape)) (now (a .«data»)) (length (now (a .«data»)) ∷ a .out ∷ a .second ∷ []) (c .before .before .before .judge-lengths .ensures) (c .before .before .if1 .left) (told (c .before .bad-levels-f64 .ensures) (c .if2 .taken))
+    let a = c .before .before .before .before .before .before .before .args in
+    level-refused badFloat (now (a .shape)) (now (a .«data»)) (now (a .lent)) (c .before .before .before .judge-lengths .ensures) (c .before .before .if1 .left) (told (c .before .bad-levels-f64 .ensures) (c .if2 .taken))
 
 returns-3 : tie.Need-returns-3
 returns-3 c =
-    let a = c .before .before .before .before .before .before .args in
-    levels-accepted badFloat (now (a .shape)) (now (a .«data»)) (length (now (a .«data»)) ∷ a .out ∷ a .second ∷ []) (c .before .before .before .judge-lengths .ensures) (c .before .before .if1 .left) (told (c .before .bad-levels-f64 .ensures) (c .if2 .left))
+    let a = c .before .before .before .before .before .before .before .args in
+    levels-accepted badFloat (now (a .shape)) (now (a .«data»)) (now (a .lent)) (c .before .before .before .judge-lengths .ensures) (c .before .before .if1 .left) (told (c .before .bad-levels-f64 .ensures) (c .if2 .left))
 
 pub judge-grid-f64-spec : {M : Type 1} → statement M
 judge-grid-f64-spec =

@@ -17,20 +17,14 @@ bad-length-requires c κs = search needs
 returns-2 : tie.Need-returns-2
 returns-2 c = simp (told (c .before .before .before .bad-shape .ensures) (c .before .before .if1 .left), told (c .before .bad-length .ensures) (c .if2 .taken))
 
-bad-length-requires-2 : tie.Need-bad-length-requires-2
-bad-length-requires-2 c κs = search needs
+bad-lengths-requires : tie.Need-bad-lengths-requires
+bad-lengths-requires c κs = search needs
 
 returns-3 : tie.Need-returns-3
-returns-3 c = simp (told (c .before .before .before .before .before .bad-shape .ensures) (c .before .before .before .before .if1 .left), told (c .before .before .before .bad-length .ensures) (c .before .before .if2 .left), told (c .before .bad-length2 .ensures) (c .if3 .taken))
-
-bad-length-requires-3 : tie.Need-bad-length-requires-3
-bad-length-requires-3 c κs = search needs
+returns-3 c = simp (told (c .before .before .before .before .before .bad-shape .ensures) (c .before .before .before .before .if1 .left), told (c .before .before .before .bad-length .ensures) (c .before .before .if2 .left), told (c .before .bad-lengths .ensures) (c .if3 .taken))
 
 returns-4 : tie.Need-returns-4
-returns-4 c = simp (told (c .before .before .before .before .before .before .before .bad-shape .ensures) (c .before .before .before .before .before .before .if1 .left), told (c .before .before .before .before .before .bad-length .ensures) (c .before .before .before .before .if2 .left), told (c .before .before .before .bad-length2 .ensures) (c .before .before .if3 .left), told (c .before .bad-length3 .ensures) (c .if4 .taken))
-
-returns-5 : tie.Need-returns-5
-returns-5 c = simp (told (c .before .before .before .before .before .before .before .bad-shape .ensures) (c .before .before .before .before .before .before .if1 .left), told (c .before .before .before .before .before .bad-length .ensures) (c .before .before .before .before .if2 .left), told (c .before .before .before .bad-length2 .ensures) (c .before .before .if3 .left), told (c .before .bad-length3 .ensures) (c .if4 .left))
+returns-4 c = simp (told (c .before .before .before .before .before .bad-shape .ensures) (c .before .before .before .before .if1 .left), told (c .before .before .before .bad-length .ensures) (c .before .before .if2 .left), told (c .before .bad-lengths .ensures) (c .if3 .left))
 
 pub judge-lengths-spec : {M : Type 1} → statement M
 judge-lengths-spec =
@@ -40,8 +34,6 @@ judge-lengths-spec =
     returns
     bad-length-requires
     returns-2
-    bad-length-requires-2
+    bad-lengths-requires
     returns-3
-    bad-length-requires-3
-    returns-4
-    returns-5)
+    returns-4)

@@ -3,8 +3,9 @@
 use mathlib.Core.Path.{_≡_}
 use mir.Syntax.{w64}
 use mir.Val.{toZ, ofZ}
+use lib.IntN.{pos}
 use borrow.Author.Needs.{needs}
-use Rattle.codes.proofs.Coded.{two-known, two-unknown}
+use Rattle.codes.proofs.Coded.{scratch-known, scratch-unknown}
 use Rattle.capi.proofs.grids.suvvokal_maximum_filter.Statement.{statement}
 use Rattle.capi.proofs.grids.suvvokal_maximum_filter.Tie as tie
 
@@ -26,7 +27,7 @@ returns c =
     let k : toZ w64 (ofZ w64 (a .constant)) ≡ a .constant = search needs in
     let o : toZ w64 (ofZ w64 (a .origin)) ≡ a .origin = search needs in
     let m = rw k at (c .before .before .before .before .mode-of .ensures) in
-    two-unknown _ 4 _ (tt, (tt, (tt, (tt, (tt, (tt, (tt, tt))))))) (c .before .before .before .if1 .taken) (rw (m, o) at (c .before .judge-filter .ensures)) (c .unknown-after .ensures)
+    scratch-unknown (pos 0) _ 4 _ (tt, (tt, (tt, (tt, (tt, (tt, (tt, tt))))))) (c .before .before .before .if1 .taken) (rw (m, o) at (c .before .judge-filter .ensures)) (c .unknown-after .ensures)
 
 maximum-filter-requires : tie.Need-maximum-filter-requires
 maximum-filter-requires c κs = search needs
@@ -43,8 +44,7 @@ returns-2 c =
     let k : toZ w64 (ofZ w64 (a .constant)) ≡ a .constant = search needs in
     let o : toZ w64 (ofZ w64 (a .origin)) ≡ a .origin = search needs in
     let m = rw k at (c .before .before .before .before .before .before .mode-of .ensures) in
-    let s = rw (m, o) at (c .before .before .maximum-filter .ensures) in
-    two-known _ 4 (c .before .before .before .before .before .if1 .left) (s .filled) (s .cleared)
+    scratch-known (pos 0) _ 4 (c .before .before .before .before .before .if1 .left) (rw (m, o) at (c .before .before .maximum-filter .ensures))
 
 pub suvvokal-maximum-filter-spec : {M : Type 1} → statement M
 suvvokal-maximum-filter-spec =

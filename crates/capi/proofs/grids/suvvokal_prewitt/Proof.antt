@@ -3,9 +3,10 @@
 use mathlib.Core.Path.{_≡_, refl}
 use mir.Syntax.{w64}
 use mir.Val.{toZ, ofZ}
+use lib.IntN.{pos}
 use borrow.Author.Needs.{needs}
 use Rattle.gradient_spec.specs.Gradient.{prewittWeights}
-use Rattle.codes.proofs.Coded.{two-known, two-unknown}
+use Rattle.codes.proofs.Coded.{scratch-known, scratch-unknown}
 use Rattle.capi.proofs.grids.suvvokal_prewitt.Statement.{statement}
 use Rattle.capi.proofs.grids.suvvokal_prewitt.Tie as tie
 
@@ -23,7 +24,7 @@ returns c =
     let a = c .before .before .before .before .before .args in
     let k : toZ w64 (ofZ w64 (a .constant)) ≡ a .constant = search needs in
     let m = rw k at (c .before .before .before .mode-of .ensures) in
-    two-unknown _ 4 _ (tt, (tt, (tt, (tt, (tt, (tt, (tt, tt))))))) (c .before .before .if1 .taken) (rw m at (c .before .judge-gradient .ensures prewittWeights (record { three = refl; small = refl }))) (c .unknown-after .ensures)
+    scratch-unknown (pos 0) _ 4 _ (tt, (tt, (tt, (tt, (tt, (tt, (tt, tt))))))) (c .before .before .if1 .taken) (rw m at (c .before .judge-gradient .ensures prewittWeights (record { three = refl; small = refl }))) (c .unknown-after .ensures)
 
 prewitt-requires : tie.Need-prewitt-requires
 prewitt-requires c κs = search needs
@@ -39,8 +40,7 @@ returns-2 c =
     let a = c .before .before .before .before .before .before .before .before .args in
     let k : toZ w64 (ofZ w64 (a .constant)) ≡ a .constant = search needs in
     let m = rw k at (c .before .before .before .before .before .before .mode-of .ensures) in
-    let s = rw m at (c .before .before .prewitt .ensures) in
-    two-known _ 4 (c .before .before .before .before .before .if1 .left) (s .filled) (s .cleared)
+    scratch-known (pos 0) _ 4 (c .before .before .before .before .before .if1 .left) (rw m at (c .before .before .prewitt .ensures))
 
 pub suvvokal-prewitt-spec : {M : Type 1} → statement M
 suvvokal-prewitt-spec =

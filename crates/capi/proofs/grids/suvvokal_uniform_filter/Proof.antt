@@ -3,8 +3,9 @@
 use mathlib.Core.Path.{_≡_}
 use mir.Syntax.{w64}
 use mir.Val.{toZ, ofZ}
+use lib.IntN.{pos}
 use borrow.Author.Needs.{needs}
-use Rattle.codes.proofs.Coded.{two-known, two-unknown}
+use Rattle.codes.proofs.Coded.{scratch-known, scratch-unknown}
 use Rattle.capi.proofs.grids.suvvokal_uniform_filter.Statement.{statement}
 use Rattle.capi.proofs.grids.suvvokal_uniform_filter.Tie as tie
 
@@ -22,7 +23,7 @@ returns c =
     let a = c .before .before .before .before .before .args in
     let k : toZ w64 (ofZ w64 (a .constant)) ≡ a .constant = search needs in
     let m = rw k at (c .before .before .before .mode-of .ensures) in
-    two-unknown _ 4 _ (tt, (tt, (tt, (tt, (tt, (tt, (tt, tt))))))) (c .before .before .if1 .taken) (rw m at (c .before .judge-uniform .ensures)) (c .unknown-after .ensures)
+    scratch-unknown (pos 0) _ 4 _ (tt, (tt, (tt, (tt, (tt, (tt, (tt, tt))))))) (c .before .before .if1 .taken) (rw m at (c .before .judge-uniform .ensures)) (c .unknown-after .ensures)
 
 uniform-filter-requires : tie.Need-uniform-filter-requires
 uniform-filter-requires c κs = search needs
@@ -38,8 +39,7 @@ returns-2 c =
     let a = c .before .before .before .before .before .before .before .before .args in
     let k : toZ w64 (ofZ w64 (a .constant)) ≡ a .constant = search needs in
     let m = rw k at (c .before .before .before .before .before .before .mode-of .ensures) in
-    let s = rw m at (c .before .before .uniform-filter .ensures) in
-    two-known _ 4 (c .before .before .before .before .before .if1 .left) (s .filled) (s .cleared)
+    scratch-known (pos 0) _ 4 (c .before .before .before .before .before .if1 .left) (rw m at (c .before .before .uniform-filter .ensures))
 
 pub suvvokal-uniform-filter-spec : {M : Type 1} → statement M
 suvvokal-uniform-filter-spec =

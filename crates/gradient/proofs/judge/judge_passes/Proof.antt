@@ -1,18 +1,31 @@
 -- `judge_passes` meets its contract: each return has the answers of the conditions on its way.
 -- Assumes nothing.
 use mathlib.Core.Path.{_≡_, refl, _∙_}
-use mathlib.Core.Bool.{false}
+use Prim.Native.Nat.{ℕ}
+use mathlib.Core.Bool.{Bool, true, false, _||_}
+use mathlib.Core.List.{List, [], _∷_}
+use lib.IntN.{ℤ, pos}
 use denote.Ref.{now}
 use Rattle.numbers.specs.Lists.{anyOf}
 use Rattle.numbers.proofs.Tests.{told}
 use Rattle.array_spec.specs.Conditions.{badLevel, badAxis}
+use Rattle.border.specs.Border.{Border}
 use Rattle.border.specs.Modes.{borderOf, badConstantBy}
 use Rattle.window.specs.Origin.{badOrigin}
 use Rattle.pad_line.specs.Line.{badPad}
-use Rattle.gradient_spec.proofs.Chain.{pads-one}
+use Rattle.min_max_judge.specs.Judge.{badReach}
 use borrow.Author.Needs.{needs}
 use Rattle.gradient.proofs.judge.judge_passes.Statement.{statement}
 use Rattle.gradient.proofs.judge.judge_passes.Tie as tie
+
+-- three weights over the cell need one cell on each side
+pads-one : (b : Border ℤ) (ns : List ℕ) → anyOf (badReach b 3 (pos 0)) ns ≡ anyOf (λ n. badPad b n 1) ns
+pads-one b [] = refl
+pads-one b (n ∷ ns) = (λ j. twice (badPad b n 1) j || pads-one b ns j)
+  where
+    twice : (t : Bool) → t || t ≡ t
+    twice true = refl
+    twice false = refl
 
 -- what has been told where a condition does not hold
 axis-in : (c : tie.Else1) → let a = c .before .before .before .args in badAxis (now (a .shape)) (a .axis) ≡ false

@@ -1,11 +1,10 @@
 -- `passes` meets its contract: every pass can be weighed, and the passes are those of the answer.
 -- Assumes nothing.
-use Prim.Native.Nat.{ℕ, _≤_, _<_}
 use mathlib.Core.Path.{_≡_, refl, _∙_}
 use native.Mathlib.Omega.{arith}
 use denote.Ref.{now}
 use lib.ListN.{length}
-use Rattle.array_spec.proofs.Shapes.{shape-accepted}
+use Rattle.array_spec.proofs.Judged.{axes-three}
 use Rattle.border.specs.Modes.{borderOf}
 use Rattle.gradient.proofs.EachPass.{Accepted, accepted, between-input, weighs-pass, between-pass, first-in, last-in, one-pass, two-passes, three-passes}
 use borrow.Author.Needs.{needs}
@@ -17,19 +16,13 @@ taken s = let a = s .args in accepted (now (a .smooth)) (borderOf (a .mode)) (no
 
 -- more than two axes are three
 three : (c : tie.Else2) → length (now (c .before .before .before .before .args .shape)) ≡ 3
-three c =
-    let s = c .before .before .before .before in
-    let A = shape-accepted (now (s .args .shape)) (taken s .shape) in
-    at (length (now (s .args .shape))) (A .some) (A .few) (c .before .before .if1 .left) (c .if2 .left)
-  where
-    at : (n : ℕ) → 0 < n → n ≤ 3 → (n ≡ 1 → ⊥) → (n ≡ 2 → ⊥) → n ≡ 3
-    at n h f p q = omega arith
+three c = axes-three (taken (c .before .before .before .before) .grid) (c .before .before .if1 .left) (c .if2 .left)
 
 slice-aggregate-weigh : tie.Need-slice-aggregate-weigh
 slice-aggregate-weigh c = search needs
 
 weigh-requires : tie.Need-weigh-requires
-weigh-requires c κs = let s = c .before .before .before .before in weighs-pass (taken s) (record { three = refl; small = refl }) (between-input (taken s)) (omega arith) (taken s .output) (taken s .along)
+weigh-requires c κs = let s = c .before .before .before .before in weighs-pass (taken s) (record { three = refl; small = refl }) (between-input (taken s)) (omega arith) (taken s .grid .lengths .0) (taken s .along)
 
 same-length : tie.Need-same-length
 same-length c = search needs
@@ -44,12 +37,12 @@ slice-aggregate-weigh-2 : tie.Need-slice-aggregate-weigh-2
 slice-aggregate-weigh-2 c = search needs
 
 weigh-requires-2 : tie.Need-weigh-requires-2
-weigh-requires-2 c κs = let s = c .before .before .before .before .before .before in weighs-pass (taken s) (record { three = refl; small = refl }) (between-input (taken s)) (omega arith) (taken s .between) (taken s .along)
+weigh-requires-2 c κs = let s = c .before .before .before .before .before .before in weighs-pass (taken s) (record { three = refl; small = refl }) (between-input (taken s)) (omega arith) (taken s .grid .lengths .1 .0) (taken s .along)
 
 weigh-requires-3 : tie.Need-weigh-requires-3
 weigh-requires-3 c κs =
     let s = c .before .before .before .before .before .before .before .before .before .before in
-    weighs-pass (taken s) (s .pre .0) (between-pass (taken s) (record { three = refl; small = refl }) (between-input (taken s)) _ (c .before .before .before .weigh2 .ensures)) (omega arith) (taken s .output)
+    weighs-pass (taken s) (s .pre .0) (between-pass (taken s) (record { three = refl; small = refl }) (between-input (taken s)) _ (c .before .before .before .weigh2 .ensures)) (omega arith) (taken s .grid .lengths .0)
     (omega (arith, c .before .before .before .before .before .before .before .first-other .ensures, first-in (s .args .axis) (length (now (s .args .shape))) (omega (arith, c .before .before .before .before .before .before .if2 .taken))))
 
 same-length-2 : tie.Need-same-length-2
@@ -70,19 +63,19 @@ slice-aggregate-weigh-3 : tie.Need-slice-aggregate-weigh-3
 slice-aggregate-weigh-3 c = search needs
 
 weigh-requires-4 : tie.Need-weigh-requires-4
-weigh-requires-4 c κs = let s = c .before .before .before .before .before .before .before in weighs-pass (taken s) (record { three = refl; small = refl }) (between-input (taken s)) (omega arith) (taken s .output) (taken s .along)
+weigh-requires-4 c κs = let s = c .before .before .before .before .before .before .before in weighs-pass (taken s) (record { three = refl; small = refl }) (between-input (taken s)) (omega arith) (taken s .grid .lengths .0) (taken s .along)
 
 weigh-requires-5 : tie.Need-weigh-requires-5
 weigh-requires-5 c κs =
     let s = c .before .before .before .before .before .before .before .before .before .before .before in
-    weighs-pass (taken s) (s .pre .0) (between-pass (taken s) (record { three = refl; small = refl }) (between-input (taken s)) _ (c .before .before .before .weigh4 .ensures)) (omega arith) (taken s .between)
+    weighs-pass (taken s) (s .pre .0) (between-pass (taken s) (record { three = refl; small = refl }) (between-input (taken s)) _ (c .before .before .before .weigh4 .ensures)) (omega arith) (taken s .grid .lengths .1 .0)
     (omega (arith, c .before .before .before .before .before .before .before .before .first-other .ensures, first-in (s .args .axis) (length (now (s .args .shape))) (omega (arith, three (c .before .before .before .before .before .before .before)))))
 
 weigh-requires-6 : tie.Need-weigh-requires-6
 weigh-requires-6 c κs =
     let s = c .before .before .before .before .before .before .before .before .before .before .before .before .before .before .before in
     let B = between-pass (taken s) (record { three = refl; small = refl }) (between-input (taken s)) _ (c .before .before .before .before .before .before .before .weigh4 .ensures) in
-    weighs-pass (taken s) (s .pre .0) (between-pass (taken s) (s .pre .0) B _ (c .before .before .before .weigh5 .ensures)) (omega arith) (c .before .before .before .before .before .before .before .weigh4 .kept .1 .1 .1 .1 .1 .1 .0 ∙ taken s .output)
+    weighs-pass (taken s) (s .pre .0) (between-pass (taken s) (s .pre .0) B _ (c .before .before .before .weigh5 .ensures)) (omega arith) (c .before .before .before .before .before .before .before .weigh4 .kept .1 .1 .1 .1 .1 .1 .0 ∙ taken s .grid .lengths .0)
     (omega (arith, c .before .before .before .before .before .before .before .before .before .before .last-other .ensures, last-in (s .args .axis) (length (now (s .args .shape))) (omega (arith, three (c .before .before .before .before .before .before .before .before .before .before .before)))))
 
 same-length-4 : tie.Need-same-length-4

@@ -1,6 +1,7 @@
 -- `min_max::every_axis::filter` meets its contract: refused by the judge's number, or the passes' answer, and the second grid cleared.
 -- Assumes nothing.
 use mathlib.Core.Path.{_≡_, ap, _∙_}
+use mathlib.Core.List.{List, [], _∷_}
 use denote.Ref.{now}
 use mir.Syntax.{w64}
 use mir.Val.{toZ, ofZ}
@@ -8,7 +9,7 @@ use lib.IntN.{ℤ, pos}
 use lib.ListN.{length, replicate}
 use Prim.Native.Nat.{ℕ}
 use Rattle.numbers.specs.Refusal.{refusalOf}
-use Rattle.numbers.proofs.Refusal.{answers-refused, answers-accepted}
+use Rattle.numbers.proofs.Refusal.{scratch-refused, scratch-accepted}
 use Rattle.min_max_judge.specs.Judge.{callOf, filterJudged}
 use Rattle.min_max.specs.Lane.{orderOf}
 use Rattle.min_max.specs.Filters.{filterAnswer}
@@ -30,7 +31,7 @@ same-length : tie.Need-same-length
 same-length c = search needs
 
 returns : tie.Need-returns
-returns c = record { filled = answers-refused _ _ _ _ (judged (c .before)) (c .if1 .taken); cleared = answers-refused _ _ _ _ (judged (c .before)) (c .if1 .taken) }
+returns c = scratch-refused (pos 0) _ _ _ _ _ (judged (c .before)) (c .if1 .taken)
 
 passes-requires : tie.Need-passes-requires
 passes-requires c κs = search needs
@@ -48,10 +49,9 @@ returns-2 : tie.Need-returns-2
 returns-2 c = let a = c .before .before .before .before .before .before .before .before .before .before .before .before .args in
     let e : toZ w64 (ofZ w64 (a .origin)) ≡ a .origin = search needs in
     let p = c .before .before .before .before .before .passes in
-    record {
-      filled = answers-accepted _ _ _ _ (judged (c .before .before .before .before .before .before .before .before .before)) (c .before .before .before .before .before .before .before .before .if1 .left) (p .ensures ∙ ap (λ (o : ℤ). filterAnswer (orderOf (a .extreme)) (callOf (now (a .shape)) (a .size) 0 (a .mode) o (now (a .out))) (now (a .«data»))) e);
-      cleared = answers-accepted _ _ _ _ (judged (c .before .before .before .before .before .before .before .before .before)) (c .before .before .before .before .before .before .before .before .if1 .left) (c .before .fill .ensures ∙ ap (λ (n : ℕ). replicate n (pos 0)) (p .kept .1 .1 .1 .1 .1 .1 .0));
-    }
+    scratch-accepted (pos 0) _ _ _ _ _ (judged (c .before .before .before .before .before .before .before .before .before)) (c .before .before .before .before .before .before .before .before .if1 .left)
+    (p .ensures ∙ ap (λ (o : ℤ). filterAnswer (orderOf (a .extreme)) (callOf (now (a .shape)) (a .size) 0 (a .mode) o (now (a .out))) (now (a .«data»))) e)
+    (ap (λ (s : List ℤ). s ∷ []) (c .before .fill .ensures ∙ ap (λ (n : ℕ). replicate n (pos 0)) (p .kept .1 .1 .1 .1 .1 .1 .0)))
 
 pub filter-spec : {M : Type 1} → statement M
 filter-spec =

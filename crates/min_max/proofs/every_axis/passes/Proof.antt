@@ -1,6 +1,5 @@
 -- `min_max::every_axis::passes` meets its contract: every pass is accepted, and the passes are those of the answer.
 -- Assumes nothing.
-use Prim.Native.Nat.{ℕ, _≤_, _<_}
 use mathlib.Core.Path.{_≡_, ap, _∙_}
 use native.Mathlib.Omega.{arith}
 use borrow.Author.Needs.{needs}
@@ -10,7 +9,7 @@ use mir.Val.{toZ, ofZ}
 use lib.IntN.{ℤ}
 use lib.ListN.{length}
 use Rattle.numbers.specs.Refusal.{refusalOf}
-use Rattle.array_spec.proofs.Shapes.{shape-accepted}
+use Rattle.array_spec.proofs.Judged.{axes-three}
 use Rattle.min_max_judge.specs.Judge.{callOf, filterJudged}
 use Rattle.min_max.specs.Lane.{orderOf}
 use Rattle.min_max.specs.Filters.{filterAnswer}
@@ -37,18 +36,13 @@ answered : (s : tie.Start) → let a = s .args in
 answered s = let a = s .args in ap (λ (o : ℤ). filterAnswer (orderOf (a .extreme)) (callOf (now (a .shape)) (a .size) 0 (a .mode) o (now (a .out))) (now (a .«data»))) (same-origin s)
 
 three : (c : tie.Else2) → length (now (c .before .before .before .args .shape)) ≡ 3
-three c =
-    let A = shape-accepted (now (c .before .before .before .args .shape)) (accepted (c .before .before .before) .shape) in
-    at (length (now (c .before .before .before .args .shape))) (A .some) (A .few) (c .before .if1 .left) (c .if2 .left)
-  where
-    at : (n : ℕ) → 0 < n → n ≤ 3 → (n ≡ 1 → ⊥) → (n ≡ 2 → ⊥) → n ≡ 3
-    at n h f p q = omega arith
+three c = axes-three (accepted (c .before .before .before) .grid) (c .before .if1 .left) (c .if2 .left)
 
 pass-requires : tie.Need-pass-requires
 pass-requires c κs =
     let s = c .before .before .before in
     let a = s .args in
-    pass-accepted (now (a .«data»)) (now (a .shape)) (a .size) (a .mode) (handed s) (now (a .out)) (length (now (a .second))) (accepted s) _ _ (between-input (now (a .«data»)) (now (a .shape)) (a .size) (a .mode) (handed s) (now (a .out)) (length (now (a .second))) (accepted s)) (accepted s .output) (omega (arith, c .before .if1 .taken))
+    pass-accepted (now (a .«data»)) (now (a .shape)) (a .size) (a .mode) (handed s) (now (a .out)) (length (now (a .second))) (accepted s) _ _ (between-input (now (a .«data»)) (now (a .shape)) (a .size) (a .mode) (handed s) (now (a .out)) (length (now (a .second))) (accepted s)) (accepted s .grid .lengths .0) (omega (arith, c .before .if1 .taken))
 
 same-length : tie.Need-same-length
 same-length c = search needs
@@ -63,13 +57,13 @@ pass-requires-2 : tie.Need-pass-requires-2
 pass-requires-2 c κs =
     let s = c .before .before .before .before in
     let a = s .args in
-    pass-accepted (now (a .«data»)) (now (a .shape)) (a .size) (a .mode) (handed s) (now (a .out)) (length (now (a .second))) (accepted s) _ _ (between-input (now (a .«data»)) (now (a .shape)) (a .size) (a .mode) (handed s) (now (a .out)) (length (now (a .second))) (accepted s)) (accepted s .between) (omega (arith, c .before .if2 .taken))
+    pass-accepted (now (a .«data»)) (now (a .shape)) (a .size) (a .mode) (handed s) (now (a .out)) (length (now (a .second))) (accepted s) _ _ (between-input (now (a .«data»)) (now (a .shape)) (a .size) (a .mode) (handed s) (now (a .out)) (length (now (a .second))) (accepted s)) (accepted s .grid .lengths .1 .0) (omega (arith, c .before .if2 .taken))
 
 pass-requires-3 : tie.Need-pass-requires-3
 pass-requires-3 c κs =
     let s = c .before .before .before .before .before .before .before .before in
     let a = s .args in
-    pass-accepted (now (a .«data»)) (now (a .shape)) (a .size) (a .mode) (handed s) (now (a .out)) (length (now (a .second))) (accepted s) _ _ (between-pass (now (a .«data»)) (now (a .shape)) (a .size) (a .mode) (handed s) (now (a .out)) (length (now (a .second))) (accepted s) (orderOf (a .extreme)) _ 0 (between-input (now (a .«data»)) (now (a .shape)) (a .size) (a .mode) (handed s) (now (a .out)) (length (now (a .second))) (accepted s)) (c .before .before .before .pass2 .ensures)) (accepted s .output) (omega (arith, c .before .before .before .before .before .if2 .taken))
+    pass-accepted (now (a .«data»)) (now (a .shape)) (a .size) (a .mode) (handed s) (now (a .out)) (length (now (a .second))) (accepted s) _ _ (between-pass (now (a .«data»)) (now (a .shape)) (a .size) (a .mode) (handed s) (now (a .out)) (length (now (a .second))) (accepted s) (orderOf (a .extreme)) _ 0 (between-input (now (a .«data»)) (now (a .shape)) (a .size) (a .mode) (handed s) (now (a .out)) (length (now (a .second))) (accepted s)) (c .before .before .before .pass2 .ensures)) (accepted s .grid .lengths .0) (omega (arith, c .before .before .before .before .before .if2 .taken))
 
 same-length-2 : tie.Need-same-length-2
 same-length-2 c = search needs
@@ -87,19 +81,19 @@ pass-requires-4 : tie.Need-pass-requires-4
 pass-requires-4 c κs =
     let s = c .before .before .before .before in
     let a = s .args in
-    pass-accepted (now (a .«data»)) (now (a .shape)) (a .size) (a .mode) (handed s) (now (a .out)) (length (now (a .second))) (accepted s) _ _ (between-input (now (a .«data»)) (now (a .shape)) (a .size) (a .mode) (handed s) (now (a .out)) (length (now (a .second))) (accepted s)) (accepted s .output) (omega (arith, three (c .before)))
+    pass-accepted (now (a .«data»)) (now (a .shape)) (a .size) (a .mode) (handed s) (now (a .out)) (length (now (a .second))) (accepted s) _ _ (between-input (now (a .«data»)) (now (a .shape)) (a .size) (a .mode) (handed s) (now (a .out)) (length (now (a .second))) (accepted s)) (accepted s .grid .lengths .0) (omega (arith, three (c .before)))
 
 pass-requires-5 : tie.Need-pass-requires-5
 pass-requires-5 c κs =
     let s = c .before .before .before .before .before .before .before .before in
     let a = s .args in
-    pass-accepted (now (a .«data»)) (now (a .shape)) (a .size) (a .mode) (handed s) (now (a .out)) (length (now (a .second))) (accepted s) _ _ (between-pass (now (a .«data»)) (now (a .shape)) (a .size) (a .mode) (handed s) (now (a .out)) (length (now (a .second))) (accepted s) (orderOf (a .extreme)) _ 0 (between-input (now (a .«data»)) (now (a .shape)) (a .size) (a .mode) (handed s) (now (a .out)) (length (now (a .second))) (accepted s)) (c .before .before .before .pass4 .ensures)) (accepted s .between) (omega (arith, three (c .before .before .before .before .before)))
+    pass-accepted (now (a .«data»)) (now (a .shape)) (a .size) (a .mode) (handed s) (now (a .out)) (length (now (a .second))) (accepted s) _ _ (between-pass (now (a .«data»)) (now (a .shape)) (a .size) (a .mode) (handed s) (now (a .out)) (length (now (a .second))) (accepted s) (orderOf (a .extreme)) _ 0 (between-input (now (a .«data»)) (now (a .shape)) (a .size) (a .mode) (handed s) (now (a .out)) (length (now (a .second))) (accepted s)) (c .before .before .before .pass4 .ensures)) (accepted s .grid .lengths .1 .0) (omega (arith, three (c .before .before .before .before .before)))
 
 pass-requires-6 : tie.Need-pass-requires-6
 pass-requires-6 c κs =
     let s = c .before .before .before .before .before .before .before .before .before .before .before .before in
     let a = s .args in
-    pass-accepted (now (a .«data»)) (now (a .shape)) (a .size) (a .mode) (handed s) (now (a .out)) (length (now (a .second))) (accepted s) _ _ (between-pass (now (a .«data»)) (now (a .shape)) (a .size) (a .mode) (handed s) (now (a .out)) (length (now (a .second))) (accepted s) (orderOf (a .extreme)) _ 1 (between-pass (now (a .«data»)) (now (a .shape)) (a .size) (a .mode) (handed s) (now (a .out)) (length (now (a .second))) (accepted s) (orderOf (a .extreme)) _ 0 (between-input (now (a .«data»)) (now (a .shape)) (a .size) (a .mode) (handed s) (now (a .out)) (length (now (a .second))) (accepted s)) (c .before .before .before .before .before .before .before .pass4 .ensures)) (c .before .before .before .pass5 .ensures)) (c .before .before .before .before .before .before .before .pass4 .kept .1 .1 .1 .1 .1 .1 .1 .0 ∙ accepted s .output) (omega (arith, three (c .before .before .before .before .before .before .before .before .before)))
+    pass-accepted (now (a .«data»)) (now (a .shape)) (a .size) (a .mode) (handed s) (now (a .out)) (length (now (a .second))) (accepted s) _ _ (between-pass (now (a .«data»)) (now (a .shape)) (a .size) (a .mode) (handed s) (now (a .out)) (length (now (a .second))) (accepted s) (orderOf (a .extreme)) _ 1 (between-pass (now (a .«data»)) (now (a .shape)) (a .size) (a .mode) (handed s) (now (a .out)) (length (now (a .second))) (accepted s) (orderOf (a .extreme)) _ 0 (between-input (now (a .«data»)) (now (a .shape)) (a .size) (a .mode) (handed s) (now (a .out)) (length (now (a .second))) (accepted s)) (c .before .before .before .before .before .before .before .pass4 .ensures)) (c .before .before .before .pass5 .ensures)) (c .before .before .before .before .before .before .before .pass4 .kept .1 .1 .1 .1 .1 .1 .1 .0 ∙ accepted s .grid .lengths .0) (omega (arith, three (c .before .before .before .before .before .before .before .before .before)))
 
 same-length-4 : tie.Need-same-length-4
 same-length-4 c = search needs

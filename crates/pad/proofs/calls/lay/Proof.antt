@@ -12,7 +12,7 @@ use Rattle.pad.proofs.calls.lay.Statement.{statement}
 use Rattle.pad.proofs.calls.lay.Tie as tie
 
 few : (s : tie.Start) → length (now (s .args .shape)) ≤ 3
-few s = shape-accepted _ (passed (s .args .mode) (now (s .args .shape)) (s .args .pads) (s .args .count) (now (s .args .«data»)) (length (now (s .args .out))) (s .pre) .shape) .few
+few s = shape-accepted _ (passed (s .args .mode) (now (s .args .shape)) (s .args .pads) (s .args .count) (now (s .args .«data»)) (length (now (s .args .out))) (s .pre) .grid .shape) .few
 
 array-borrow-prefix-lefts : tie.Need-array-borrow-prefix-lefts
 array-borrow-prefix-lefts c = few (c .before)

@@ -20,7 +20,7 @@ set-frame-requires : tie.Need-set-frame-requires
 set-frame-requires c κs =
     let s = c .before .before .before .before .before in
     let P = accepted s in
-    (P .shape, P .pairs, P .limits, s .pre .1, s .pre .2)
+    (P .grid .shape, P .pairs, P .limits, s .pre .1, s .pre .2)
 
 start-requires : tie.Need-start-requires
 start-requires c κs =
@@ -28,7 +28,7 @@ start-requires c κs =
     let s = f .before .before .before .before .before .before in
     let P = accepted s in
     let e = f .set-frame .ensures in
-    (filling-set P (three s) (e .0) (e .1) .framed, P .whole, lent-set P (three s) (e .1))
+    (filling-set P (three s) (e .0) (e .1) .framed, P .grid .count, lent-set P (three s) (e .1))
 
 lay-over-requires : tie.Need-lay-over-requires
 lay-over-requires c κs =
@@ -37,7 +37,7 @@ lay-over-requires c κs =
     let s = f .before .before .before .before .before .before in
     let P = accepted s in
     let e = f .set-frame .ensures in
-    (filling-set P (three s) (e .0) (e .1), P .levels, P .whole, t .start .kept .1 .1 .1 .1 .1 .1 .0 ∙ lent-set P (three s) (e .1))
+    (filling-set P (three s) (e .0) (e .1), P .grid .levels, P .grid .count, t .start .kept .1 .1 .1 .1 .1 .1 .0 ∙ lent-set P (three s) (e .1))
 
 same-length : tie.Need-same-length
 same-length c = search needs
