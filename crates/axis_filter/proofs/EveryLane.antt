@@ -25,7 +25,7 @@ use Rattle.lanes.proofs.Next.{starts-none}
 use Rattle.lanes.proofs.Part.{row-written}
 use Rattle.lanes.proofs.Stores.{levelAlong, lanes-none, lanes-more}
 use Rattle.border.specs.Border.{Border}
-use Rattle.pad_line.specs.Line.{badPad}
+use Rattle.border.specs.Reach.{badPad}
 use Rattle.axis_filter.specs.Lane.{filteredLane, Room, Sweep}
 
 -- the lanes of an axis of an accepted grid

@@ -1,4 +1,5 @@
 -- Borders: the extension of a lane and of a grid, the border and padding modes.
 pub mod Border
 pub mod Modes
+pub mod Reach
 pub mod Rows

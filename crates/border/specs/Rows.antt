@@ -1,13 +1,14 @@
 -- Worked rows of this crate's definitions. Each holds by computing.
 --   minus n                    −n
 --   wholes ns                  the natural numbers ns as whole levels
+--   bad m n pads               condition 11 of each of the pads, of a lane of n cells under the border m
 --   extendedThree b x y z      the cells x y z under border b, from coordinate −2 to 4
 --   plane b p                  the level at p of the rows 1 2 3 / 4 5 6, extended by b
 --   cube b p                   the level at p of the 2 × 2 × 2 grid of 1 to 8, extended by b
 --   BorderRows                 the rows
 use Prim.Native.Nat.{ℕ, _-_, _^_}
 use mathlib.Core.Path.{_≡_}
-use mathlib.Core.Bool.{true, false}
+use mathlib.Core.Bool.{Bool, true, false}
 use mathlib.Core.List.{List, [], _∷_, map}
 use lib.Ieee.{Float, nan, inf, fin}
 use lib.IntN.{ℤ, pos, negℤ}
@@ -16,6 +17,8 @@ use Rattle.numbers.specs.Lists.{upFrom}
 use Rattle.array_spec.specs.Conditions.{badLevel, badFloat}
 use Rattle.border.specs.Border.{Border, constant, along, extendedLane, extendedGrid}
 use Rattle.border.specs.Modes.{borderOf, borderOfF64, padModeOf, badConstantBy}
+use Rattle.border.specs.Reach.{badPad}
+use Rattle.border.specs.declared.BorderMode.{BorderMode}
 use Rattle.border.specs.declared.Along.the-variants as Along
 use Rattle.border.specs.declared.BorderMode.the-variants as Whole
 use Rattle.border.specs.declared.BorderModeF64.the-variants as F64
@@ -29,6 +32,9 @@ wholes ns = map pos ns
 
 abbrev pub extendedThree : {A : Type 0} → Border A → A → A → A → List A
 extendedThree b x y z = map (extendedLane b 3 (λ i. getD (x ∷ y ∷ z ∷ []) i x)) (upFrom (minus 2) 7)
+
+abbrev pub bad : BorderMode → ℕ → List ℕ → List Bool
+bad m n pads = map (badPad (borderOf m) n) pads
 
 abbrev pub plane : Border ℤ → List ℤ → ℤ
 plane b p = extendedGrid (pos 0) b (2 ∷ 3 ∷ []) (wholes (1 ∷ 2 ∷ 3 ∷ 4 ∷ 5 ∷ 6 ∷ [])) (λ a. getD p a (pos 0))
@@ -74,3 +80,10 @@ pub record BorderRows : Type 0 where
   pub constants : map (λ z. badConstantBy badLevel (constant z)) (minus (2 ^ 31) ∷ minus (2 ^ 31 - 1) ∷ pos 0 ∷ pos (2 ^ 31 - 1) ∷ pos (2 ^ 31) ∷ []) ≡ true ∷ false ∷ false ∷ false ∷ true ∷ []
   pub no-constants : map (λ m. badConstantBy badLevel (along m)) (Along.Nearest ∷ Along.Mirror ∷ Along.Reflect ∷ Along.Wrap ∷ []) ≡ false ∷ false ∷ false ∷ false ∷ []
   pub float-constants : map (λ x. badConstantBy badFloat (constant x)) (nan ∷ inf true ∷ fin true 0 (pos 0) ∷ fin false 1 (pos 0) ∷ []) ≡ true ∷ true ∷ false ∷ false ∷ []
+  -- condition 11 of three cells and of one
+  pub reach-mirror : bad Whole.Mirror 3 (0 ∷ 2 ∷ 3 ∷ []) ≡ false ∷ false ∷ true ∷ []
+  pub reach-reflect : bad Whole.Reflect 3 (3 ∷ 4 ∷ []) ≡ false ∷ true ∷ []
+  pub reach-wrap : bad Whole.Wrap 3 (3 ∷ 4 ∷ []) ≡ false ∷ true ∷ []
+  pub reach-nearest : bad Whole.Nearest 3 (64 ∷ []) ≡ false ∷ []
+  pub reach-constant : bad (Whole.Constant (pos 7)) 3 (64 ∷ []) ≡ false ∷ []
+  pub reach-one : bad Whole.Mirror 1 (0 ∷ 1 ∷ []) ≡ false ∷ true ∷ []

@@ -1,5 +1,5 @@
 // Borders: the border modes and the padding modes that they map to, and the cells that they read.
-// What a border extends a lane and a grid to is a definition: specs/Border.antt. `border_constant` has the code of condition 9.
+// What a border extends a lane and a grid to is a definition: specs/Border.antt.
 ghost use mathlib.Core.Path.{_≡_};
 ghost use Prim.Native.Nat.{_-_};
 ghost use Rattle.border.specs.Border.{cellBefore, cellAfter};
@@ -7,9 +7,11 @@ ghost use Rattle.border.specs.Modes.{padModeOf};
 ghost use Rattle.border.specs.Rows.{BorderRows};
 
 mod constant;
+mod reach;
 
 pub use constant::bad_constant;
 pub use constant::bad_constant_f64;
+pub use reach::bad_pad;
 
 // How a grid of whole levels is extended beyond its edges.
 pub enum BorderMode {

@@ -18,7 +18,7 @@ use Rattle.border.specs.Border.{Border}
 use Rattle.border.specs.Modes.{badConstantBy}
 use Rattle.window.specs.Origin.{badOrigin}
 use Rattle.window.proofs.Origins.{pads-sum, kernel-accepted}
-use Rattle.pad_line.specs.Line.{badPad}
+use Rattle.border.specs.Reach.{badPad}
 use Rattle.correlate_spec.specs.Kernel.{sidesOf, sideOf, kernelLeft, kernelRight, kernelAnswer}
 use Rattle.correlate_judge.specs.Judge.{badWeight, appliedOrigin, appliedWeights}
 use Rattle.correlate_judge.proofs.Applied.{applied-length, applied-weights}

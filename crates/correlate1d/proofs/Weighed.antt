@@ -13,7 +13,7 @@ use Rattle.numbers.proofs.Tests.{or-false, cond-no}
 use Rattle.array_spec.specs.Grid.{lengthOf}
 use Rattle.lanes.specs.Lanes.{alongAxis}
 use Rattle.border.specs.Border.{Border}
-use Rattle.pad_line.specs.Line.{badPad}
+use Rattle.border.specs.Reach.{badPad}
 use Rattle.symmetry_spec.specs.declared.SymmetryState.{SymmetryState}
 use Rattle.min_max_judge.specs.Judge.{windowOrigin}
 use Rattle.min_max_judge.proofs.Reach.{leftOf, rightOf, pads-size}

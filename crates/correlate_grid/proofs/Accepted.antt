@@ -17,7 +17,7 @@ use Rattle.array_spec.proofs.Places.{length-pos}
 use Rattle.array_spec.proofs.Shapes.{Accepted, shape-accepted}
 use Rattle.border.specs.Border.{Border, constant, along}
 use Rattle.border.specs.declared.Along.the-variants.{Nearest, Mirror, Reflect, Wrap}
-use Rattle.pad_line.specs.Line.{badPad}
+use Rattle.border.specs.Reach.{badPad}
 use Rattle.correlate_spec.specs.Kernel.{sidesOf, kernelSum, kernelAnswer}
 use Rattle.correlate_grid.specs.declared.axes.Axes.{Axes}
 use Rattle.correlate_grid.specs.declared.axes.Axis.{Axis}

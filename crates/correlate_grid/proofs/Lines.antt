@@ -10,7 +10,8 @@ use lib.ListN.{length, getD, drop, List·getD-append}
 use Rattle.lanes.specs.Lanes.{laneBase, lane, laneInside}
 use Rattle.lanes.proofs.Cells.{getD-laneAt, length-laneAt, base-neighbours, inside-yes}
 use Rattle.border.specs.Border.{Border}
-use Rattle.pad_line.specs.Line.{badPad, paddedAt, paddedLine, paddedLane}
+use Rattle.pad_line.specs.Line.{paddedAt, paddedLine, paddedLane}
+use Rattle.border.specs.Reach.{badPad}
 use Rattle.pad_line.proofs.Padded.{length-padded, getD-padded}
 use Rattle.pad_line.proofs.Serves.{Serves, served-line}
 

@@ -17,7 +17,8 @@ use Rattle.lanes.specs.Lanes.{lane, laneBase}
 use Rattle.lanes.proofs.Cells.{length-laneAt}
 use Rattle.border.specs.Border.{Border, constant, along, cellAfter, cellFor, inside, extendedLane}
 use Rattle.border.specs.declared.Along.{Along}
-use Rattle.pad_line.specs.Line.{badAlong, badPad, paddedAt, paddedLane}
+use Rattle.pad_line.specs.Line.{paddedAt, paddedLane}
+use Rattle.border.specs.Reach.{badAlong, badPad}
 use Rattle.pad_line.proofs.Reach.{cell-before-in, cell-after-in}
 use Rattle.correlate_spec.proofs.Computed.{read}
 use Rattle.correlate_grid.specs.declared.axes.Axis.{Axis}

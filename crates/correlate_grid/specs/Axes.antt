@@ -20,7 +20,7 @@ use Rattle.array_spec.specs.Conditions.{badLevel}
 use Rattle.array_spec.specs.Grid.{lengthOf}
 use Rattle.border.specs.Border.{Border, constant, along, inside, cellFor}
 use Rattle.border.specs.Modes.{badConstantBy}
-use Rattle.pad_line.specs.Line.{badPad}
+use Rattle.border.specs.Reach.{badPad}
 use Rattle.correlate_grid.specs.declared.axes.Axes.{Axes}
 use Rattle.correlate_grid.specs.declared.axes.Axis.{Axis}
 

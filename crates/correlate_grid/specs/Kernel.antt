@@ -13,7 +13,7 @@ use Rattle.array_spec.specs.Conditions.{badShape, badLevel}
 use Rattle.array_spec.specs.Grid.{cellCount, lengthOf}
 use Rattle.border.specs.Border.{Border}
 use Rattle.border.specs.Modes.{badConstantBy}
-use Rattle.pad_line.specs.Line.{badPad}
+use Rattle.border.specs.Reach.{badPad}
 use Rattle.correlate_spec.specs.Kernel.{sidesOf}
 
 pub record Kernelled (b : Border ℤ) (ns : List ℕ) (side left right : ℕ) (w cells out : List ℤ) : Type 0 where

@@ -16,7 +16,7 @@ use Rattle.border.specs.Border.{Border}
 use Rattle.border.specs.Modes.{borderOf, borderOfF64, badConstantBy}
 use Rattle.border.specs.declared.BorderModeF64.{BorderModeF64}
 use Rattle.border.specs.declared.BorderModeF64.the-variants.{Constant, Mirror, Nearest, Reflect, Wrap}
-use Rattle.pad_line.specs.Line.{badPad}
+use Rattle.border.specs.Reach.{badPad}
 use Rattle.min_max_judge.specs.Judge.{windowOrigin, badReach}
 use Rattle.min_max_judge.proofs.Reach.{leftOf, rightOf}
 use Rattle.correlate_judge.specs.Judge.{weightsJudged, appliedOrigin, placeJudged, kindOf}

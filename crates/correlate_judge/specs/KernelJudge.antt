@@ -22,7 +22,7 @@ use Rattle.array_spec.specs.Grid.{cellCount}
 use Rattle.border.specs.Border.{Border}
 use Rattle.border.specs.Modes.{badConstantBy}
 use Rattle.window.specs.Origin.{badOrigin}
-use Rattle.pad_line.specs.Line.{badPad}
+use Rattle.border.specs.Reach.{badPad}
 use Rattle.correlate_spec.specs.Kernel.{sideOf, kernelLeft, kernelRight, correlateZ}
 use Rattle.correlate_judge.specs.Judge.{badWeight, appliedOrigin, appliedWeights}
 

@@ -13,10 +13,10 @@ use window::Origin;
 fn bad_pads(mode: BorderMode, left: usize, right: usize, n: usize) -> bool
     ensures { λ r. ⌜ r ≡ badPads (borderOf mode) left right n ⌝ }
 {
-    if pad_line::bad_pad(mode, n, left) {
+    if border::bad_pad(mode, n, left) {
         return true;
     }
-    pad_line::bad_pad(mode, n, right)
+    border::bad_pad(mode, n, right)
 }
 
 // The same of some axis.

@@ -20,7 +20,7 @@ use Rattle.array_spec.proofs.Judged.{PassedGrid, grid-passed, levels-sized}
 use Rattle.border.specs.Border.{Border}
 use Rattle.border.specs.Modes.{badConstantBy}
 use Rattle.window.specs.Origin.{badOrigin}
-use Rattle.pad_line.specs.Line.{badPad}
+use Rattle.border.specs.Reach.{badPad}
 use Rattle.pad_line.proofs.Sizes.{SizedBorder, constant-sized}
 use Rattle.min_max_judge.specs.Judge.{badReach}
 use Rattle.correlate_spec.specs.Correlated.{correlate1dZ}

@@ -18,7 +18,7 @@ use Rattle.numbers.specs.Refusal.{Judged, refusalOf}
 use Rattle.array_spec.specs.Conditions.{badLevel, badAxis, gridJudged}
 use Rattle.border.specs.Border.{Border}
 use Rattle.border.specs.Modes.{badConstantBy}
-use Rattle.pad_line.specs.Line.{badPad}
+use Rattle.border.specs.Reach.{badPad}
 use Rattle.gradient_spec.specs.Gradient.{gradientTo}
 
 abbrev pub passesJudged : Border ℤ → List ℕ → ℕ → Judged

@@ -14,7 +14,8 @@ use Rattle.array_spec.specs.Assign.{copied}
 use Rattle.array_spec.proofs.Judged.{lent-same}
 use Rattle.lanes.specs.Lanes.{alongAxis}
 use Rattle.border.specs.Border.{Border}
-use Rattle.pad_line.specs.Line.{badPad, paddedLine}
+use Rattle.pad_line.specs.Line.{paddedLine}
+use Rattle.border.specs.Reach.{badPad}
 use Rattle.min_max_ring.specs.Firsts.{firsts}
 use Rattle.min_max_spec.specs.Call.{Call, alone, leftPad, rightPad, axisLength, numberOf}
 use Rattle.min_max_spec.specs.Run.{answerOf}

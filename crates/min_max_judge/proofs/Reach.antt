@@ -19,7 +19,7 @@ use Rattle.window.proofs.Answered.{not-refused, left-is, right-is}
 use Rattle.window.proofs.Origins.{pads-sum, axis-accepted, accepted-some}
 use Rattle.window.specs.declared.origin.Origin.{Origin}
 use Rattle.window.specs.declared.origin.Origin.the-variants.{Pads, Refused}
-use Rattle.pad_line.specs.Line.{badPad}
+use Rattle.border.specs.Reach.{badPad}
 use Rattle.min_max_judge.specs.Judge.{windowOrigin, badReach, sizeJudged}
 
 -- ---- conditions 5 and 7, the origin as their judge was handed it and as the call has it

@@ -20,7 +20,7 @@ use Rattle.border.specs.declared.BorderMode.{BorderMode}
 use Rattle.border.specs.Border.{Border}
 use Rattle.border.specs.Modes.{borderOf, badConstantBy}
 use Rattle.window.specs.Origin.{badOrigin}
-use Rattle.pad_line.specs.Line.{badPad}
+use Rattle.border.specs.Reach.{badPad}
 use Rattle.min_max_spec.specs.Call.{Call}
 
 abbrev pub callOf : List ℕ → ℕ → ℕ → BorderMode → ℤ → List ℤ → Call

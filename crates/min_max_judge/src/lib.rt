@@ -59,10 +59,10 @@ pub fn bad_reach(mode: BorderMode, n: usize, size: usize, origin: isize) -> bool
     match window::origin_check(size, origin) {
         Origin::Refused => false,
         Origin::Pads(left, right) => {
-            if pad_line::bad_pad(mode, n, left) {
+            if border::bad_pad(mode, n, left) {
                 return true;
             }
-            pad_line::bad_pad(mode, n, right)
+            border::bad_pad(mode, n, right)
         }
     }
 }

@@ -20,7 +20,7 @@ use Rattle.array_spec.proofs.Judged.{PassedGrid, grid-passed}
 use Rattle.border.specs.Border.{Border, constant, along, inside, extendedLane}
 use Rattle.border.specs.Modes.{badConstantBy}
 use Rattle.window.specs.Origin.{badOrigin}
-use Rattle.pad_line.specs.Line.{badPad}
+use Rattle.border.specs.Reach.{badPad}
 use Rattle.min_max_spec.specs.Call.{Call, window, alone, leftPad, rightPad, axisLength, windowJudged, numberOf}
 use Rattle.min_max_spec.specs.Run.{laneLevel, answerOf, after, run, numbers, accepted}
 

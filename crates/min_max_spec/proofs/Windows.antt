@@ -18,7 +18,7 @@ use Rattle.border.specs.declared.Along.{Along}
 use Rattle.border.specs.declared.Along.the-variants.{Nearest, Mirror, Reflect, Wrap}
 use Rattle.window.specs.Origin.{badOrigin}
 use Rattle.window.proofs.Origins.{axis-accepted}
-use Rattle.pad_line.specs.Line.{badPad}
+use Rattle.border.specs.Reach.{badPad}
 use Rattle.min_max_spec.specs.Call.{Call, left, right, leftPad, rightPad, alone, firstIn, lastIn, InWindow, window, axisLength}
 use Rattle.min_max_spec.proofs.Passed.{Passed}
 use Rattle.min_max_spec.proofs.Reach.{ends, reach-left, reach-right, carried}

@@ -26,7 +26,7 @@ use Rattle.array_spec.specs.Grid.{lengthOf}
 use Rattle.border.specs.Border.{Border}
 use Rattle.border.specs.Modes.{badConstantBy}
 use Rattle.window.specs.Origin.{badOrigin}
-use Rattle.pad_line.specs.Line.{badPad}
+use Rattle.border.specs.Reach.{badPad}
 
 pub record Call : Type 0 where
   pub shape : List ℕ

@@ -18,7 +18,7 @@ use Rattle.array_spec.specs.Conditions.{badLevel}
 use Rattle.array_spec.specs.Grid.{cellCount, lengthOf}
 use Rattle.array_spec.proofs.Judged.{PassedGrid, grid-passed}
 use Rattle.border.specs.declared.PadMode.{PadMode}
-use Rattle.pad_line.specs.Line.{badPad}
+use Rattle.border.specs.Reach.{badPad}
 use Rattle.pad_spec.specs.Fill.{rimOf}
 use Rattle.pad_spec.specs.Conditions.{badConstant, badCount, overPad, paddedCount, badPads, badReachOn, badReach, padsJudged, padJudged}
 use Rattle.pad_spec.specs.Pads.{pairOf, leftsOf, rightsOf, paddedShape}

@@ -17,7 +17,8 @@ use Rattle.lanes.specs.Lanes.{laneOf}
 use Rattle.border.specs.Border.{along}
 use Rattle.border.specs.declared.Along.{Along}
 use Rattle.border.specs.declared.Along.the-variants.{Nearest, Mirror, Reflect, Wrap}
-use Rattle.pad_line.specs.Line.{paddedAt, badAlong, badPad}
+use Rattle.pad_line.specs.Line.{paddedAt}
+use Rattle.border.specs.Reach.{badAlong, badPad}
 use Rattle.pad_spec.specs.Fill.{rimOf}
 use Rattle.pad_spec.proofs.Rims.{ownOf}
 use Rattle.pad_spec.proofs.Axis.{final-lane}

@@ -12,7 +12,7 @@ use Rattle.numbers.proofs.Tests.{cond-yes, cond-no}
 use Rattle.border.specs.Border.{cellBefore, cellAfter}
 use Rattle.border.specs.declared.Along.{Along}
 use Rattle.border.specs.declared.Along.the-variants.{Nearest, Mirror, Reflect, Wrap}
-use Rattle.pad_line.specs.Line.{badAlong}
+use Rattle.border.specs.Reach.{badAlong}
 use Rattle.pad_spec.specs.Runs.{Runs, InRim, readFrom}
 use Rattle.pad_line.specs.Steps.{stepUp, stepDown}
 use Rattle.pad_line.proofs.RimSteps.{before-steps, after-steps, one-way}

@@ -8,7 +8,7 @@ use borrow.Author.Tests.{ltb-false}
 use Rattle.border.specs.Border.{cellBefore, cellAfter}
 use Rattle.border.specs.declared.Along.{Along}
 use Rattle.border.specs.declared.Along.the-variants.{Nearest, Mirror, Reflect, Wrap}
-use Rattle.pad_line.specs.Line.{badAlong}
+use Rattle.border.specs.Reach.{badAlong}
 
 before-in : (m : Along) (n pad k : ℕ) → 0 < n → 0 < k → k ≤ pad → badAlong m n pad ≡ false → cellBefore m n k < n
 before-in Nearest n pad k some out short e = some

@@ -16,7 +16,8 @@ use Rattle.border.specs.declared.Along.{Along}
 use Rattle.border.specs.declared.Along.the-variants.{Nearest, Mirror, Reflect, Wrap}
 use Rattle.pad_line.specs.Steps.{stepUp, stepDown, Stepped, stepSet}
 use Rattle.pad_line.proofs.StepByStep.{steppedCell, set-stored}
-use Rattle.pad_line.specs.Line.{badAlong, padMiddle}
+use Rattle.pad_line.specs.Line.{padMiddle}
+use Rattle.border.specs.Reach.{badAlong}
 use Rattle.pad_line.specs.Rims.{Rimmed}
 use Rattle.pad_line.proofs.Reach.{cell-before-in, cell-after-in}
 use Rattle.pad_line.proofs.Rims.{Filled, levelAt, level-before, level-after, filled-none, filled-middle, filled-all}

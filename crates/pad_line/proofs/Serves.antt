@@ -15,7 +15,8 @@ use Rattle.lanes.specs.Lanes.{laneBase, laneInside, laneAt, lane}
 use Rattle.lanes.proofs.Cells.{lane-inside, inside-whole, length-laneAt}
 use Rattle.lanes.proofs.FirstPlace.{place-none, place-some}
 use Rattle.border.specs.Border.{Border}
-use Rattle.pad_line.specs.Line.{paddedLine, badPad, padServes, paddedLane, Padding}
+use Rattle.pad_line.specs.Line.{paddedLine, padServes, paddedLane, Padding}
+use Rattle.border.specs.Reach.{badPad}
 use Rattle.pad_line.proofs.Padded.{length-padded}
 
 -- ---- a lane that is inside, and a padded line that is short enough

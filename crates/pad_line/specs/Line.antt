@@ -1,8 +1,6 @@
--- The padded line of a lane, and condition 11 of a lane, over any element: d stands for what is past the end of a list.
+-- The padded line of a lane, over any element: d stands for what is past the end of a list.
 --   paddedAt d b left s k                 the level at place k of a line that starts left places before cell 0 of the lane s
 --   paddedLine d b left right s           the lane s with left places before it and right places after it
---   badAlong m n pad                      11 of a lane of n cells: a pad over n − 1 under Mirror, over n under Reflect and Wrap
---   badPad b n pad                        the same of every border: none under Constant
 --   padMiddle d b left n right l          the line l with the n cells from place left on padded in place
 --   padServes b n s l count left right room
 --                                         whether lane l of n cells, s apart, is inside a grid of count cells, the border fills both pads,
@@ -17,30 +15,19 @@ use Prim.Native.Nat.{ℕ, _+_, _-_, _*_, _≤_, _<_}
 use mathlib.Core.Path.{_≡_}
 use mathlib.Core.Bool.{Bool, false, _&&_, not, cond}
 use mathlib.Core.List.{List, _++_}
-use lib.Dec.{leb, ltb}
+use lib.Dec.{leb}
 use lib.IntN.{pos, _-ℤ_}
 use lib.ListN.{length, getD, take, drop}
 use Rattle.numbers.specs.Lists.{tabulate}
 use Rattle.lanes.specs.Lanes.{lane, laneInside}
-use Rattle.border.specs.Border.{Border, constant, along, extendedLane}
-use Rattle.border.specs.declared.Along.{Along}
-use Rattle.border.specs.declared.Along.the-variants.{Nearest, Mirror, Reflect, Wrap}
+use Rattle.border.specs.Border.{Border, extendedLane}
+use Rattle.border.specs.Reach.{badPad}
 
 unfoldable pub paddedAt : {A : Type 0} → A → Border A → ℕ → List A → ℕ → A
 paddedAt d b left s k = extendedLane b (length s) (λ i. getD s i d) (pos k -ℤ pos left)
 
 unfoldable pub paddedLine : {A : Type 0} → A → Border A → ℕ → ℕ → List A → List A
 paddedLine d b left right s = tabulate (paddedAt d b left s) 0 (left + length s + right)
-
-abbrev pub badAlong : Along → ℕ → ℕ → Bool
-badAlong Nearest n pad = false
-badAlong Mirror n pad = ltb (n - 1) pad
-badAlong Reflect n pad = ltb n pad
-badAlong Wrap n pad = ltb n pad
-
-abbrev pub badPad : {A : Type 0} → Border A → ℕ → ℕ → Bool
-badPad (constant c) n pad = false
-badPad (along m) n pad = badAlong m n pad
 
 abbrev pub padMiddle : {A : Type 0} → A → Border A → ℕ → ℕ → ℕ → List A → List A
 padMiddle d b left n right l = paddedLine d b left right (take n (drop left l)) ++ drop (left + n + right) l

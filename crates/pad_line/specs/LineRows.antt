@@ -1,7 +1,6 @@
 -- Worked rows of this crate's definitions. Each holds by computing.
 --   wholes ns             the natural numbers ns as whole levels
 --   padded m left right   the cells 1 2 3 padded under the border m
---   bad m n pads          condition 11 of each of the pads, of a lane of n cells under the border m
 --   down m left right l room
 --                         what padding lane l of axis 0 of the rows 1 2 3 / 4 5 6 leaves in a line of that many cells, all 9
 --   LineRows           the rows
@@ -15,16 +14,13 @@ use Rattle.numbers.specs.Windows.{windowOf}
 use Rattle.border.specs.Modes.{borderOf}
 use Rattle.border.specs.declared.BorderMode.{BorderMode}
 use Rattle.border.specs.declared.BorderMode.the-variants as Whole
-use Rattle.pad_line.specs.Line.{paddedLine, badPad, paddedLane}
+use Rattle.pad_line.specs.Line.{paddedLine, paddedLane}
 
 abbrev pub wholes : List ℕ → List ℤ
 wholes ns = map pos ns
 
 abbrev pub padded : BorderMode → ℕ → ℕ → List ℤ
 padded m left right = paddedLine (pos 0) (borderOf m) left right (wholes (1 ∷ 2 ∷ 3 ∷ []))
-
-abbrev pub bad : BorderMode → ℕ → List ℕ → List Bool
-bad m n pads = map (badPad (borderOf m) n) pads
 
 abbrev pub down : BorderMode → ℕ → ℕ → ℕ → ℕ → List ℤ
 down m left right l room = paddedLane (pos 0) (borderOf m) 2 3 l left right (wholes (1 ∷ 2 ∷ 3 ∷ 4 ∷ 5 ∷ 6 ∷ [])) (replicate room (pos 9))
@@ -41,13 +37,6 @@ pub record LineRows : Type 0 where
   pub unequal-wrap : padded Whole.Wrap 1 3 ≡ wholes (3 ∷ 1 ∷ 2 ∷ 3 ∷ 1 ∷ 2 ∷ 3 ∷ [])
   pub unequal-constant : padded (Whole.Constant (pos 7)) 1 3 ≡ wholes (7 ∷ 1 ∷ 2 ∷ 3 ∷ 7 ∷ 7 ∷ 7 ∷ [])
   pub no-pads : padded Whole.Mirror 0 0 ≡ wholes (1 ∷ 2 ∷ 3 ∷ [])
-  -- condition 11 of three cells and of one
-  pub bad-mirror : bad Whole.Mirror 3 (0 ∷ 2 ∷ 3 ∷ []) ≡ false ∷ false ∷ true ∷ []
-  pub bad-reflect : bad Whole.Reflect 3 (3 ∷ 4 ∷ []) ≡ false ∷ true ∷ []
-  pub bad-wrap : bad Whole.Wrap 3 (3 ∷ 4 ∷ []) ≡ false ∷ true ∷ []
-  pub bad-nearest : bad Whole.Nearest 3 (64 ∷ []) ≡ false ∷ []
-  pub bad-constant : bad (Whole.Constant (pos 7)) 3 (64 ∷ []) ≡ false ∷ []
-  pub one-cell : bad Whole.Mirror 1 (0 ∷ 1 ∷ []) ≡ false ∷ true ∷ []
   -- the window of the last cell ends with the line; one place on it is empty
   pub last-window : windowOf (padded Whole.Mirror 2 2) 2 5 ≡ wholes (1 ∷ 2 ∷ 3 ∷ 2 ∷ 1 ∷ [])
   pub past-window : windowOf (padded Whole.Mirror 2 2) 3 5 ≡ []

@@ -5,7 +5,7 @@ use mathlib.Core.Path.{_≡_}
 use mathlib.Core.Bool.{false}
 use Rattle.border.specs.declared.Along.{Along}
 use Rattle.pad_line.specs.Steps.{stepUp, stepDown}
-use Rattle.pad_line.specs.Line.{badAlong}
+use Rattle.border.specs.Reach.{badAlong}
 
 pub record Rimmed (m : Along) (up down left n right len : ℕ) : Type 0 where
   pub some : 0 < n

@@ -1,4 +1,4 @@
-// The padded line: a lane read into a lent line and extended in place, and condition 11 of a lane. `window` has the window of a cell.
+// The padded line: a lane read into a lent line and extended in place. `window` has the window of a cell.
 ghost use Rattle.pad_line.specs.Rows.{PadLineRows};
 ghost use mathlib.Core.Path.{_≡_};
 ghost use mathlib.Core.Bool.{_&&_};
@@ -9,7 +9,7 @@ ghost use lib.ListN.{drop};
 ghost use mathlib.Core.List.{_++_};
 ghost use Rattle.lanes.specs.Lanes.{laneInside, laneAt};
 ghost use Rattle.border.specs.Modes.{borderOf};
-ghost use Rattle.pad_line.specs.Line.{badPad, paddedLine, paddedLane, Padding};
+ghost use Rattle.pad_line.specs.Line.{paddedLine, paddedLane, Padding};
 use border::BorderMode;
 
 mod extension;
@@ -17,30 +17,6 @@ mod steps;
 
 pub use steps::copy_steps;
 pub use steps::copy_steps_f64;
-
-// Condition 11 of a lane: whether the border cannot fill a pad that long.
-//
-// * `mode` - the border.
-// * `n` - how many cells the lane has.
-// * `pad` - how many places are padded on one side.
-//
-// Refuses nothing. Of three cells Mirror fills a pad of 2 and not of 3, Reflect and Wrap fill 3 and not 4, Nearest and Constant any.
-pub fn bad_pad(mode: BorderMode, n: usize, pad: usize) -> bool
-    ensures { λ r. ⌜ r ≡ badPad (borderOf mode) n pad ⌝ }
-{
-    match mode {
-        BorderMode::Constant(_) => false,
-        BorderMode::Mirror => {
-            if n < 1 {
-                return 0 < pad;
-            }
-            n - 1 < pad
-        }
-        BorderMode::Nearest => false,
-        BorderMode::Reflect => n < pad,
-        BorderMode::Wrap => n < pad,
-    }
-}
 
 // Whether a lane is inside the grid and its padded line no longer than the lent one.
 //
@@ -120,10 +96,10 @@ pub fn pad_lane(
 )
     ensures { λ _. ⌜ now (line .exit) ≡ paddedLane (pos 0) (borderOf mode) n stride lane left right (now (grid .entry)) (now (line .entry)) ⌝ }
 {
-    if bad_pad(mode, n, left) {
+    if border::bad_pad(mode, n, left) {
         return;
     }
-    if bad_pad(mode, n, right) {
+    if border::bad_pad(mode, n, right) {
         return;
     }
     if !lane_fits(grid.len(), stride, lane, n, left, right, line.len()) {

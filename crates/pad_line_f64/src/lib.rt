@@ -6,7 +6,8 @@ ghost use lib.Ieee.{nan};
 ghost use lib.ListN.{drop};
 ghost use Rattle.lanes.specs.Lanes.{laneAt};
 ghost use Rattle.border.specs.Modes.{borderOfF64};
-ghost use Rattle.pad_line.specs.Line.{badPad, paddedLine, paddedLane, Padding};
+ghost use Rattle.pad_line.specs.Line.{paddedLine, paddedLane, Padding};
+ghost use Rattle.border.specs.Reach.{badPad};
 ghost use Rattle.pad_line_f64.specs.Rows.{PadLineF64Rows};
 use border::BorderModeF64;
 

@@ -18,7 +18,7 @@ use Rattle.array_spec.specs.Conditions.{badShape}
 use Rattle.array_spec.specs.Grid.{lengthOf}
 use Rattle.array_spec.proofs.Shapes.{shape-accepted, count-three}
 use Rattle.border.specs.declared.PadMode.{PadMode}
-use Rattle.pad_line.specs.Line.{badPad}
+use Rattle.border.specs.Reach.{badPad}
 use Rattle.pad_spec.specs.Fill.{rimOf}
 use Rattle.pad_spec.specs.Conditions.{badCount, overPad, paddedCount, badReachOn}
 use Rattle.pad_spec.specs.Pads.{pairOf, leftsOf, rightsOf, paddedShape}

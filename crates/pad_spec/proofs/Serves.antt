@@ -15,7 +15,8 @@ use Rattle.numbers.proofs.Tests.{and-true, cond-yes, cond-no}
 use Rattle.lanes.specs.Lanes.{lane, laneBase, laneInside, withLane, readLane}
 use Rattle.lanes.proofs.Cells.{lane-inside, inside-whole}
 use Rattle.border.specs.declared.PadMode.{PadMode}
-use Rattle.pad_line.specs.Line.{paddedLine, badPad}
+use Rattle.pad_line.specs.Line.{paddedLine}
+use Rattle.border.specs.Reach.{badPad}
 use Rattle.pad_spec.specs.Fill.{rimOf, answeredRim, laneServes, filledLane}
 use Rattle.pad_spec.proofs.Rims.{ownOf, length-own, getD-own}
 

@@ -24,7 +24,7 @@ use Rattle.array_spec.specs.Conditions.{badLevel, gridJudged}
 use Rattle.array_spec.specs.Grid.{cellCount, lengthOf, coordinate}
 use Rattle.border.specs.declared.PadMode.{PadMode}
 use Rattle.border.specs.declared.PadMode.the-variants.{Constant, Edge, Maximum, Mean, Median, Minimum, Reflect, Symmetric, Wrap}
-use Rattle.pad_line.specs.Line.{badPad}
+use Rattle.border.specs.Reach.{badPad}
 use Rattle.statistics_spec.specs.Statistics.{ranked}
 use Rattle.pad_spec.specs.Fill.{rimOf}
 use Rattle.pad_spec.specs.Levels.{ownCells}

@@ -18,7 +18,8 @@ use Rattle.border.specs.Border.{Border, constant, along}
 use Rattle.border.specs.declared.Along.the-variants as Along
 use Rattle.border.specs.declared.PadMode.{PadMode}
 use Rattle.border.specs.declared.PadMode.the-variants.{Constant, Edge, Maximum, Mean, Median, Minimum, Reflect, Symmetric, Wrap}
-use Rattle.pad_line.specs.Line.{paddedLine, badPad}
+use Rattle.pad_line.specs.Line.{paddedLine}
+use Rattle.border.specs.Reach.{badPad}
 use Rattle.statistics_spec.specs.Statistics.{minimumOf, maximumOf, meanOf, medianOf, answered}
 use Rattle.pad_spec.specs.declared.rim.Statistic.{Statistic}
 use Rattle.pad_spec.specs.declared.rim.Statistic.the-variants as Statistic

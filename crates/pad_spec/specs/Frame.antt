@@ -16,7 +16,7 @@ use Rattle.numbers.specs.Lists.{tabulate}
 use Rattle.array_spec.specs.Conditions.{badShape}
 use Rattle.array_spec.specs.Grid.{cellCount, lengthOf, placeOf, coordinate, levelAt}
 use Rattle.border.specs.declared.PadMode.{PadMode}
-use Rattle.pad_line.specs.Line.{badPad}
+use Rattle.border.specs.Reach.{badPad}
 use Rattle.pad_spec.specs.Fill.{rimOf}
 use Rattle.pad_spec.specs.Conditions.{badConstant}
 use Rattle.pad_spec.specs.Pads.{middleFrom}

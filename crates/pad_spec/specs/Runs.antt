@@ -23,7 +23,8 @@ use Rattle.border.specs.declared.Along.{Along}
 use Rattle.border.specs.declared.Along.the-variants as Along
 use Rattle.border.specs.declared.PadMode.{PadMode}
 use Rattle.border.specs.declared.PadMode.the-variants.{Edge, Reflect, Symmetric, Wrap}
-use Rattle.pad_line.specs.Line.{paddedAt, badAlong}
+use Rattle.pad_line.specs.Line.{paddedAt}
+use Rattle.border.specs.Reach.{badAlong}
 
 abbrev pub modeAlong : Along → PadMode
 modeAlong Along.Nearest = Edge

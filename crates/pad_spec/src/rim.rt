@@ -2,7 +2,7 @@
 // names; `lane_level` and `lane_rims` do it.
 ghost use mathlib.Core.Path.{_≡_};
 ghost use mathlib.Core.List.{[]};
-ghost use Rattle.pad_line.specs.Line.{badPad};
+ghost use Rattle.border.specs.Reach.{badPad};
 ghost use Rattle.pad_spec.specs.Fill.{rimOf};
 
 // Which level of a lane's own cells fills its rims.
@@ -30,8 +30,8 @@ pub fn bad_pad(mode: border::PadMode, n: usize, pad: usize) -> bool
         border::PadMode::Mean => false,
         border::PadMode::Median => false,
         border::PadMode::Minimum => false,
-        border::PadMode::Reflect => pad_line::bad_pad(border::BorderMode::Mirror, n, pad),
-        border::PadMode::Symmetric => pad_line::bad_pad(border::BorderMode::Reflect, n, pad),
-        border::PadMode::Wrap => pad_line::bad_pad(border::BorderMode::Wrap, n, pad),
+        border::PadMode::Reflect => border::bad_pad(border::BorderMode::Mirror, n, pad),
+        border::PadMode::Symmetric => border::bad_pad(border::BorderMode::Reflect, n, pad),
+        border::PadMode::Wrap => border::bad_pad(border::BorderMode::Wrap, n, pad),
     }
 }

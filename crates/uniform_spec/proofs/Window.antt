@@ -11,7 +11,7 @@ use Rattle.numbers.proofs.Tests.{or-false}
 use Rattle.border.specs.Border.{Border, constant, along}
 use Rattle.border.specs.declared.Along.the-variants.{Nearest, Mirror, Reflect, Wrap}
 use Rattle.window.proofs.Origins.{origin-on}
-use Rattle.pad_line.specs.Line.{badPad}
+use Rattle.border.specs.Reach.{badPad}
 use Rattle.min_max_judge.specs.Judge.{windowOrigin, badReach}
 
 module _ (size : ℕ) (h : outside 1 65 size ≡ false) where

@@ -34,6 +34,12 @@ returns c = record {
   constants = refl;
   no-constants = refl;
   float-constants = refl;
+  reach-mirror = refl;
+  reach-reflect = refl;
+  reach-wrap = refl;
+  reach-nearest = refl;
+  reach-constant = refl;
+  reach-one = refl;
 }
 
 pub rows-spec : {M : Type 1} → statement M

@@ -11,7 +11,7 @@ use Rattle.array_spec.specs.Conditions.{badFloat}
 use Rattle.array_spec.proofs.Judged.{grid-refused, grid-accepted}
 use Rattle.border.specs.Modes.{borderOf, borderOfF64}
 use Rattle.border.specs.declared.BorderMode.{BorderMode}
-use Rattle.pad_line.specs.Line.{badPad}
+use Rattle.border.specs.Reach.{badPad}
 use Rattle.correlate_judge.specs.Judge.{correlateJudgedF}
 use Rattle.correlate_judge.proofs.Chain.{SamePads, kind-pads, weighed}
 use borrow.Author.Needs.{needs}

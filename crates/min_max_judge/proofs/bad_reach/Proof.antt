@@ -14,7 +14,7 @@ use Rattle.min_max_judge.proofs.bad_reach.Tie as tie
 use Rattle.min_max_judge.proofs.bad_reach.Reads as reads
 use Rattle.min_max_judge.proofs.bad_reach.Lts as lts
 use Rattle.window.proofs.origin_check.Reads as origin-check-reads
-use Rattle.pad_line.proofs.bad_pad.Reads as bad-pad-reads
+use Rattle.border.proofs.bad_pad.Reads as bad-pad-reads
 
 -- the answer to the origin
 checked : (c : lts.After-origin-check (origin-check-reads.Asked, origin-check-reads.Learnt, bad-pad-reads.Asked, bad-pad-reads.Learnt) reads.Pre reads.Post) → let a = c .before .before .args in c .origin-check .result ≡ originPads (a .size) (a .size / 2) (a .size - a .size / 2 - 1) (a .origin)

@@ -12,7 +12,7 @@ use Rattle.array_spec.specs.Conditions.{badLevel, badAxis}
 use Rattle.border.specs.Border.{Border}
 use Rattle.border.specs.Modes.{borderOf, badConstantBy}
 use Rattle.window.specs.Origin.{badOrigin}
-use Rattle.pad_line.specs.Line.{badPad}
+use Rattle.border.specs.Reach.{badPad}
 use Rattle.min_max_judge.specs.Judge.{badReach}
 use borrow.Author.Needs.{needs}
 use Rattle.gradient.proofs.judge.judge_passes.Statement.{statement}
