@@ -2,10 +2,11 @@
 --   borderOf m             the border over whole levels that a BorderMode names
 --   borderOfF64 m          the border over floats that a BorderModeF64 names
 --   padModeOf m            the PadMode that pads as the border m does
+--   kindOf m               the border over whole levels that reads what m reads; its constant is 0
 --   badConstantBy bad b    9: a constant that 3, the test bad of one level, would refuse
 use mathlib.Core.Bool.{Bool, false}
 use lib.Ieee.{Float}
-use lib.IntN.{ℤ}
+use lib.IntN.{ℤ, pos}
 use Rattle.border.specs.Border.{Border, constant, along}
 use Rattle.border.specs.declared.Along.the-variants as Along
 use Rattle.border.specs.declared.BorderMode.{BorderMode}
@@ -39,3 +40,10 @@ padModeOf Whole.Wrap = Pad.Wrap
 abbrev pub badConstantBy : {A : Type 0} → (A → Bool) → Border A → Bool
 badConstantBy bad (constant c) = bad c
 badConstantBy bad (along m) = false
+
+abbrev pub kindOf : BorderModeF64 → BorderMode
+kindOf (F64.Constant c) = Whole.Constant (pos 0)
+kindOf F64.Mirror = Whole.Mirror
+kindOf F64.Nearest = Whole.Nearest
+kindOf F64.Reflect = Whole.Reflect
+kindOf F64.Wrap = Whole.Wrap

@@ -16,7 +16,7 @@ use lib.ListN.{getD}
 use Rattle.numbers.specs.Lists.{upFrom}
 use Rattle.array_spec.specs.Conditions.{badLevel, badFloat}
 use Rattle.border.specs.Border.{Border, constant, along, extendedLane, extendedGrid}
-use Rattle.border.specs.Modes.{borderOf, borderOfF64, padModeOf, badConstantBy}
+use Rattle.border.specs.Modes.{borderOf, borderOfF64, padModeOf, kindOf, badConstantBy}
 use Rattle.border.specs.Reach.{badPad}
 use Rattle.border.specs.declared.BorderMode.{BorderMode}
 use Rattle.border.specs.declared.Along.the-variants as Along
@@ -76,6 +76,9 @@ pub record BorderRows : Type 0 where
   -- padding's names
   pub pad-constant : (t : ℤ) → padModeOf (Whole.Constant t) ≡ Pad.Constant t
   pub pad-modes : map padModeOf (Whole.Mirror ∷ Whole.Nearest ∷ Whole.Reflect ∷ Whole.Wrap ∷ []) ≡ Pad.Reflect ∷ Pad.Edge ∷ Pad.Symmetric ∷ Pad.Wrap ∷ []
+  -- the kind of a float border
+  pub kind-constant : (t : Float) → kindOf (F64.Constant t) ≡ Whole.Constant (pos 0)
+  pub kinds : map kindOf (F64.Mirror ∷ F64.Nearest ∷ F64.Reflect ∷ F64.Wrap ∷ []) ≡ Whole.Mirror ∷ Whole.Nearest ∷ Whole.Reflect ∷ Whole.Wrap ∷ []
   -- constants −2^31, −(2^31 − 1), 0, 2^31 − 1, 2^31; borders that carry none; a NaN, an infinity, −0.0, 1.0
   pub constants : map (λ z. badConstantBy badLevel (constant z)) (minus (2 ^ 31) ∷ minus (2 ^ 31 - 1) ∷ pos 0 ∷ pos (2 ^ 31 - 1) ∷ pos (2 ^ 31) ∷ []) ≡ true ∷ false ∷ false ∷ false ∷ true ∷ []
   pub no-constants : map (λ m. badConstantBy badLevel (along m)) (Along.Nearest ∷ Along.Mirror ∷ Along.Reflect ∷ Along.Wrap ∷ []) ≡ false ∷ false ∷ false ∷ false ∷ []

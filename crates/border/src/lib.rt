@@ -3,7 +3,7 @@
 ghost use mathlib.Core.Path.{_≡_};
 ghost use Prim.Native.Nat.{_-_};
 ghost use Rattle.border.specs.Border.{cellBefore, cellAfter};
-ghost use Rattle.border.specs.Modes.{padModeOf};
+ghost use Rattle.border.specs.Modes.{padModeOf, kindOf};
 ghost use Rattle.border.specs.Rows.{BorderRows};
 
 mod constant;
@@ -141,6 +141,19 @@ pub fn cell_after(along: Along, n: usize, k: usize) -> usize
         Along::Mirror => saturating_sub(saturating_sub(n, 1), k),
         Along::Reflect => saturating_sub(n, k),
         Along::Wrap => saturating_sub(k, 1),
+    }
+}
+
+// The border over whole levels that reads what mode reads; its constant is 0. kind_of(Constant(1.5)) is Constant(0).
+pub fn kind_of(mode: BorderModeF64) -> BorderMode
+    ensures { λ r. ⌜ r ≡ kindOf mode ⌝ }
+{
+    match mode {
+        BorderModeF64::Constant(_) => BorderMode::Constant(0),
+        BorderModeF64::Mirror => BorderMode::Mirror,
+        BorderModeF64::Nearest => BorderMode::Nearest,
+        BorderModeF64::Reflect => BorderMode::Reflect,
+        BorderModeF64::Wrap => BorderMode::Wrap,
     }
 }
 

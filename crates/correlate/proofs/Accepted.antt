@@ -19,12 +19,13 @@ use Rattle.border.specs.Modes.{badConstantBy}
 use Rattle.window.specs.Origin.{badOrigin}
 use Rattle.window.proofs.Origins.{pads-sum, kernel-accepted}
 use Rattle.border.specs.Reach.{badPad}
-use Rattle.correlate_spec.specs.Kernel.{sidesOf, sideOf, kernelLeft, kernelRight, kernelAnswer}
-use Rattle.correlate_judge.specs.Judge.{badWeight, appliedOrigin, appliedWeights}
+use Rattle.correlate_spec.specs.Kernel.{sidesOf, sideOf, kernelAnswer}
+use Rattle.window.specs.Window.{kernelLeft, kernelRight, appliedOrigin, badPads, badKernelReach}
+use Rattle.correlate_judge.specs.Judge.{badWeight, appliedWeights}
 use Rattle.correlate_judge.proofs.Applied.{applied-length, applied-weights}
-use Rattle.correlate_judge.proofs.Changed.{applied-range}
+use Rattle.window.proofs.Changed.{applied-range}
 use Rattle.correlate_grid.specs.Kernel.{Kernelled}
-use Rattle.correlate_judge.specs.KernelJudge.{badPads, badKernelReach, kernelJudged}
+use Rattle.correlate_judge.specs.KernelJudge.{kernelJudged}
 use Rattle.correlate_judge.proofs.Equal.{Equal, kernel-equal}
 
 -- the two pads together

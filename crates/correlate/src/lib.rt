@@ -5,7 +5,8 @@ ghost use lib.ListN.{length};
 ghost use Rattle.numbers.specs.Refusal.{refusalOf, Answers};
 ghost use Rattle.border.specs.Modes.{borderOf};
 ghost use Rattle.window.specs.Origin.{badOrigin};
-ghost use Rattle.correlate_spec.specs.Kernel.{sidesOf, kernelLeft, kernelRight, kernelAnswer, correlateZ, convolveZ};
+ghost use Rattle.correlate_spec.specs.Kernel.{sidesOf, kernelAnswer, correlateZ, convolveZ};
+ghost use Rattle.window.specs.Window.{kernelLeft, kernelRight};
 ghost use Rattle.correlate_grid.specs.Kernel.{Kernelled};
 ghost use Rattle.correlate_judge.specs.KernelJudge.{kernelJudged};
 use border::BorderMode;
@@ -48,7 +49,7 @@ fn convolve_cells(
 {
     correlate1d::reverse(weights, turned);
     let side = array::len_of(sides, 0);
-    let applied = correlate_judge::applied_origin(side, origin, true);
+    let applied = window::applied_origin(side, origin, true);
     sum_windows(data, shape, turned, side, mode, applied, out);
 }
 

@@ -17,7 +17,8 @@ use Rattle.array_spec.proofs.Judged.{lent-same, levels-sized}
 use Rattle.border.specs.Border.{Border, constant, along}
 use Rattle.border.specs.Modes.{badConstantBy}
 use Rattle.correlate_spec.proofs.Computed.{read}
-use Rattle.correlate_judge.specs.Judge.{badWeight, appliedOrigin, appliedWeights}
+use Rattle.correlate_judge.specs.Judge.{badWeight, appliedWeights}
+use Rattle.window.specs.Window.{appliedOrigin}
 use Rattle.correlate_judge.proofs.Applied.{applied-weights}
 use Rattle.correlate1d.proofs.Passed.{Passed, placed-accepted}
 use Rattle.correlate1d.specs.Weighs.{tooLarge, Scales, Weighs}

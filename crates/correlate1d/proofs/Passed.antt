@@ -19,11 +19,11 @@ use Rattle.array_spec.proofs.Judged.{PassedGrid, lent-same, grid-passed}
 use Rattle.border.specs.Border.{Border}
 use Rattle.border.specs.Modes.{badConstantBy}
 use Rattle.window.specs.Origin.{badOrigin}
-use Rattle.min_max_judge.specs.Judge.{windowOrigin, badReach}
-use Rattle.min_max_judge.proofs.Reach.{more-cells}
-use Rattle.correlate_judge.specs.Judge.{badWeight, weightsJudged, appliedOrigin, appliedWeights, placeJudged, badSums, correlateJudged, correlateJudgedF}
+use Rattle.window.specs.Window.{badWindowOrigin, badReach, appliedOrigin}
+use Rattle.window.proofs.Reach.{more-cells}
+use Rattle.correlate_judge.specs.Judge.{badWeight, weightsJudged, appliedWeights, placeJudged, badSums, correlateJudged, correlateJudgedF}
 use Rattle.correlate_judge.proofs.Applied.{applied-length}
-use Rattle.correlate_judge.proofs.Changed.{applied-range}
+use Rattle.window.proofs.Changed.{applied-range}
 use Rattle.correlate1d.specs.Weighs.{Placed}
 
 pub record Passed {A : Type 0} (bad heavy : A → Bool) (turned : Bool) (b : Border A) (o : ℤ) (w : List A) (ns : List ℕ) (a : ℕ) (cells : List A) (out : ℕ) : Type 0 where
@@ -31,10 +31,10 @@ pub record Passed {A : Type 0} (bad heavy : A → Bool) (turned : Bool) (b : Bor
   pub some : 0 < length w
   pub few : length w ≤ 65
   pub weights : anyOf heavy w ≡ false
-  pub origin : windowOrigin (length w) o ≡ false
+  pub origin : badWindowOrigin (length w) o ≡ false
   pub axis : a < length ns
   pub level : badConstantBy bad b ≡ false
-  pub reach : not (eqb (length w) 1) && badReach b (length w) (appliedOrigin turned (length w) o) (lengthOf ns a) ≡ false
+  pub reach : badReach b (length w) (appliedOrigin turned (length w) o) (lengthOf ns a) ≡ false
 
 -- whatever is judged after condition 11
 module _ {A : Type 0} (bad heavy : A → Bool) (turned : Bool) (b : Border A) (o : ℤ) (w : List A) (ns : List ℕ) (a : ℕ) (cells : List A) (out : ℕ) where

@@ -15,8 +15,8 @@ use Rattle.lanes.specs.Lanes.{alongAxis}
 use Rattle.border.specs.Border.{Border}
 use Rattle.border.specs.Reach.{badPad}
 use Rattle.symmetry_spec.specs.declared.SymmetryState.{SymmetryState}
-use Rattle.min_max_judge.specs.Judge.{windowOrigin}
-use Rattle.min_max_judge.proofs.Reach.{leftOf, rightOf, pads-size}
+use Rattle.window.specs.Window.{badWindowOrigin, leftPad, rightPad}
+use Rattle.window.proofs.Reach.{pads-size}
 use Rattle.correlate_spec.specs.Weighed.{Ops}
 use Rattle.correlate_spec.specs.Correlated.{correlatedLine, correlatedBy}
 use Rattle.correlate_judge.specs.Judge.{badWeight}
@@ -32,19 +32,19 @@ pub placed-as : {A : Type 0} {b : Border A} {ns : List ℕ} {a : ℕ} {o q : ℤ
 placed-as {A} {b} {ns} {a} {o} {q} {w} {v} {cells} {out} W e f = subst (λ (x : ℤ). Placed b ns a x v cells out) (sym e) (subst (λ (x : List A). Placed b ns a o x cells out) (sym f) W)
 
 module _ {A : Type 0} {b : Border A} {ns : List ℕ} {a : ℕ} {o : ℤ} {w cells out : List A} (W : Placed b ns a o w cells out) where
-  pub window-origin : windowOrigin (length w) o ≡ false
+  pub window-origin : badWindowOrigin (length w) o ≡ false
   window-origin = ap (λ t. not (eqb (length w) 1) && t) (W .origin) ∙ and-false (not (eqb (length w) 1))
 
   pub two-weights : length w ≡ 1 → ⊥
   two-weights e = omega (arith, W .more)
 
-  module _ {l g : ℕ} (L : l ≡ leftOf (length w) o) (G : g ≡ rightOf (length w) o) where
+  module _ {l g : ℕ} (L : l ≡ leftPad (length w) o) (G : g ≡ rightPad (length w) o) where
     pub pads-total : l + g + 1 ≡ length w
     pads-total = (λ j. L j + G j + 1) ∙ pads-size (length w) o (W .origin)
 
     pub sweep-weighed : Sweep b ns a l g cells out
     sweep-weighed =
-        let p = or-false (badPad b (lengthOf ns a) (leftOf (length w) o)) (badPad b (lengthOf ns a) (rightOf (length w) o)) (W .reach) in record {
+        let p = or-false (badPad b (lengthOf ns a) (leftPad (length w) o)) (badPad b (lengthOf ns a) (rightPad (length w) o)) (W .reach) in record {
           shape = W .shape;
           axis = W .axis;
           count = W .count;
@@ -61,6 +61,6 @@ module _ {A : Type 0} {b : Border A} {ns : List ℕ} {a : ℕ} {o : ℤ} {w cell
         ∙ sym (cond-no (eqb (length w) 1) _ _ (ne-eqb (length w) 1 two-weights))
 
 -- the weights and levels of a whole call
-pub weighing : {b : Border ℤ} {ns : List ℕ} {a : ℕ} {o : ℤ} {w cells out : List ℤ} (W : Weighs b ns a o w cells out) {l g : ℕ} → l ≡ leftOf (length w) o → g ≡ rightOf (length w) o → Weighing w (l + g + 1) b cells
+pub weighing : {b : Border ℤ} {ns : List ℕ} {a : ℕ} {o : ℤ} {w cells out : List ℤ} (W : Weighs b ns a o w cells out) {l g : ℕ} → l ≡ leftPad (length w) o → g ≡ rightPad (length w) o → Weighing w (l + g + 1) b cells
 unfolding badWeight
 weighing W L G = record { many = sym (pads-total (W .placed) L G); weights = W .weights; level = W .level; cells-in = W .levels; narrow = W .narrow }

@@ -16,7 +16,7 @@ use Rattle.array_spec.specs.Grid.{cellCount, lengthOf}
 use Rattle.border.specs.Border.{Border}
 use Rattle.border.specs.Modes.{badConstantBy}
 use Rattle.window.specs.Origin.{badOrigin}
-use Rattle.min_max_judge.specs.Judge.{badReach}
+use Rattle.window.specs.Window.{badReach}
 use Rattle.correlate_judge.specs.Judge.{badWeight}
 
 abbrev pub tooLarge : ℤ → Bool

@@ -99,7 +99,7 @@ fn convolve_cells(
         return;
     }
     reversal::reverse(weights, turned);
-    let applied = correlate_judge::applied_origin(weights.len(), origin, true);
+    let applied = window::applied_origin(weights.len(), origin, true);
     weigh(data, shape, turned, axis, mode, applied, out);
 }
 

@@ -13,13 +13,12 @@ use Rattle.numbers.specs.Refusal.{refusalOf}
 use Rattle.array_spec.specs.Conditions.{badAxis}
 use Rattle.array_spec.specs.Grid.{lengthOf}
 use Rattle.border.specs.Border.{Border}
-use Rattle.border.specs.Modes.{borderOf, borderOfF64, badConstantBy}
+use Rattle.border.specs.Modes.{borderOf, borderOfF64, badConstantBy, kindOf}
 use Rattle.border.specs.declared.BorderModeF64.{BorderModeF64}
 use Rattle.border.specs.declared.BorderModeF64.the-variants.{Constant, Mirror, Nearest, Reflect, Wrap}
 use Rattle.border.specs.Reach.{badPad}
-use Rattle.min_max_judge.specs.Judge.{windowOrigin, badReach}
-use Rattle.min_max_judge.proofs.Reach.{leftOf, rightOf}
-use Rattle.correlate_judge.specs.Judge.{weightsJudged, appliedOrigin, placeJudged, kindOf}
+use Rattle.window.specs.Window.{badSize, badWindowOrigin, badReach, appliedOrigin, leftPad, rightPad}
+use Rattle.correlate_judge.specs.Judge.{weightsJudged, placeJudged}
 
 -- two borders that fill the same pads
 abbrev pub SamePads : {A B : Type 0} → Border A → Border B → Type 0
@@ -36,8 +35,8 @@ kind-pads Wrap n pad = refl
 -- ---- the weights and their place, by the answers to 6 and 9, the origin as it was handed in, and a border that fills the same pads
 module _ {A : Type 0} (heavy bad : A → Bool) (turned : Bool) (b : Border A) (w : List A) (ns : List ℕ) (a : ℕ) where
   pub weighed : {six nine : Bool} (c : Border ℤ) {handed o : ℤ} → six ≡ anyOf heavy w → nine ≡ badConstantBy bad b → SamePads c b → handed ≡ o → {r : ℕ}
-      → r ≡ refusalOf ((outside 1 65 (length w), 5) ∷ (six, 6) ∷ (windowOrigin (length w) handed, 7) ∷ (badAxis ns a, 8) ∷ (nine, 9) ∷ (not (eqb (length w) 1) && badReach c (length w) (appliedOrigin turned (length w) handed) (lengthOf ns a), 11) ∷ [])
+      → r ≡ refusalOf ((badSize (length w), 5) ∷ (six, 6) ∷ (badWindowOrigin (length w) handed, 7) ∷ (badAxis ns a, 8) ∷ (nine, 9) ∷ (badReach c (length w) (appliedOrigin turned (length w) handed) (lengthOf ns a), 11) ∷ [])
       → r ≡ refusalOf (weightsJudged heavy w ++ placeJudged bad turned b o (length w) ns a)
   weighed c p q s e h =
-      h ∙ (λ j. refusalOf ((outside 1 65 (length w), 5) ∷ (p j, 6) ∷ (windowOrigin (length w) (e j), 7) ∷ (badAxis ns a, 8) ∷ (q j, 9)
-      ∷ (not (eqb (length w) 1) && (s (lengthOf ns a) (leftOf (length w) (appliedOrigin turned (length w) (e j))) j || s (lengthOf ns a) (rightOf (length w) (appliedOrigin turned (length w) (e j))) j), 11) ∷ []))
+      h ∙ (λ j. refusalOf ((badSize (length w), 5) ∷ (p j, 6) ∷ (badWindowOrigin (length w) (e j), 7) ∷ (badAxis ns a, 8) ∷ (q j, 9)
+      ∷ (not (eqb (length w) 1) && (s (lengthOf ns a) (leftPad (length w) (appliedOrigin turned (length w) (e j))) j || s (lengthOf ns a) (rightPad (length w) (appliedOrigin turned (length w) (e j))) j), 11) ∷ []))

@@ -30,7 +30,6 @@ kernel-rows = record {
   mirror = refl;
   reflect = refl;
   wrap = refl;
-  short-axes = refl;
   one-cell = refl;
   kernel-first = refl;
   weight-first = refl;

@@ -1,14 +1,12 @@
 -- The conditions of `correlate1d` and `convolve1d` and of their float forms, as document 01 words them. The flag `turned` says convolution.
 --   badWeight z                        6: a whole weight outside −65,535..65,535; a float weight has the test of a level, badFloat
 --   weightsJudged bad w                conditions 5 and 6 of the weights w, the test bad of one weight
---   appliedOrigin turned len o         the origin as it is applied: the caller's, or changed by a convolution
 --   appliedWeights turned w            the weights as they are applied: the caller's, or reversed
 --   placeJudged bad turned b o len ns a    conditions 7 (the caller's origin, where it is read), 8, 9 (the test bad of one level) and 11
 --                                      (the origin as it is applied) of len weights along axis a
 --   badSums turned b o w ns a cells    12: a sum of the answer outside signed 64 bits
 --   correlateJudged turned b o w ns a cells out    what a call on whole levels refuses, in rising order; out is the output's length
 --   correlateJudgedF ..                the same of floats, whose sums are never refused
---   kindOf m                           the border over whole levels that reads what m reads; its constant is 0
 use Prim.Native.Nat.{ℕ}
 use mathlib.Core.Bool.{Bool, not, _&&_, cond}
 use mathlib.Core.List.{List, [], _∷_, _++_, reverse}
@@ -23,29 +21,22 @@ use Rattle.array_spec.specs.Conditions.{badLevel, badFloat, badAxis, gridJudged
 use Rattle.array_spec.specs.Grid.{lengthOf}
 use Rattle.border.specs.Border.{Border}
 use Rattle.border.specs.Modes.{badConstantBy}
-use Rattle.border.specs.declared.BorderMode.{BorderMode}
-use Rattle.border.specs.declared.BorderMode.the-variants as Whole
-use Rattle.border.specs.declared.BorderModeF64.{BorderModeF64}
-use Rattle.border.specs.declared.BorderModeF64.the-variants as F64
-use Rattle.min_max_judge.specs.Judge.{windowOrigin, badReach}
-use Rattle.correlate_spec.specs.Correlated.{changedOrigin, correlate1dZ}
+use Rattle.window.specs.Window.{badWindowOrigin, badReach, changedOrigin, badSize, appliedOrigin}
+use Rattle.correlate_spec.specs.Correlated.{correlate1dZ}
 
 unfoldable pub badWeight : ℤ → Bool
 badWeight z = outsideZ (negℤ (pos 65535)) (pos 65535) z
 
 abbrev pub weightsJudged : {A : Type 0} → (A → Bool) → List A → Judged
-weightsJudged bad w = (outside 1 65 (length w), 5) ∷ (anyOf bad w, 6) ∷ []
-
-abbrev pub appliedOrigin : Bool → ℕ → ℤ → ℤ
-appliedOrigin turned len o = cond turned (changedOrigin len o) o
+weightsJudged bad w = (badSize (length w), 5) ∷ (anyOf bad w, 6) ∷ []
 
 abbrev pub appliedWeights : {A : Type 0} → Bool → List A → List A
 appliedWeights turned w = cond turned (reverse w) w
 
 abbrev pub placeJudged : {A : Type 0} → (A → Bool) → Bool → Border A → ℤ → ℕ → List ℕ → ℕ → Judged
 placeJudged bad turned b o len ns a =
-    (windowOrigin len o, 7) ∷ (badAxis ns a, 8) ∷ (badConstantBy bad b, 9)
-    ∷ (not (eqb len 1) && badReach b len (appliedOrigin turned len o) (lengthOf ns a), 11) ∷ []
+    (badWindowOrigin len o, 7) ∷ (badAxis ns a, 8) ∷ (badConstantBy bad b, 9)
+    ∷ (badReach b len (appliedOrigin turned len o) (lengthOf ns a), 11) ∷ []
 
 abbrev pub badSums : Bool → Border ℤ → ℤ → List ℤ → List ℕ → ℕ → List ℤ → Bool
 badSums turned b o w ns a cells = anyOf beyond (correlate1dZ b (appliedOrigin turned (length w) o) (appliedWeights turned w) ns a cells)
@@ -58,10 +49,3 @@ correlateJudged turned b o w ns a cells out =
 abbrev pub correlateJudgedF : Bool → Border Float → ℤ → List Float → List ℕ → ℕ → List Float → ℕ → Judged
 correlateJudgedF turned b o w ns a cells out =
     gridJudgedBy badFloat ns cells (out ∷ []) ++ weightsJudged badFloat w ++ placeJudged badFloat turned b o (length w) ns a
-
-abbrev pub kindOf : BorderModeF64 → BorderMode
-kindOf (F64.Constant c) = Whole.Constant (pos 0)
-kindOf F64.Mirror = Whole.Mirror
-kindOf F64.Nearest = Whole.Nearest
-kindOf F64.Reflect = Whole.Reflect
-kindOf F64.Wrap = Whole.Wrap

@@ -2,8 +2,6 @@
 --   badSide first side                 5 of one side: outside 1..7, or not the first side
 --   badKernel ns sides count           5: kernel axes not as many as the grid's (a grid has axes, so none at all is refused), a side that is bad, or a count
 --                                      of weights that is not the product of the sides
---   badPads b left right n             11 of an axis of n cells: the border cannot fill the left or the right pad
---   badKernelReach b side o ns         11: of some axis, the pads as they are laid with the applied origin o. On the right an even kernel never reads the last cell
 --   kernelPlaced turned b o sides w ns conditions 5, 6, 7 (the caller's origin, of every kernel), 9 and 11
 --   badKernelSums turned b o sides w ns cells    12: a sum of the answer outside signed 64 bits
 --   kernelJudged turned b o sides w ns cells out what a call refuses, in rising order; out is the output's length
@@ -23,20 +21,15 @@ use Rattle.border.specs.Border.{Border}
 use Rattle.border.specs.Modes.{badConstantBy}
 use Rattle.window.specs.Origin.{badOrigin}
 use Rattle.border.specs.Reach.{badPad}
-use Rattle.correlate_spec.specs.Kernel.{sideOf, kernelLeft, kernelRight, correlateZ}
-use Rattle.correlate_judge.specs.Judge.{badWeight, appliedOrigin, appliedWeights}
+use Rattle.correlate_spec.specs.Kernel.{sideOf, correlateZ}
+use Rattle.window.specs.Window.{kernelLeft, kernelRight, appliedOrigin, badKernelReach}
+use Rattle.correlate_judge.specs.Judge.{badWeight, appliedWeights}
 
 abbrev pub badSide : ℕ → ℕ → Bool
 badSide first side = outside 1 7 side || not (eqb side first)
 
 unfoldable pub badKernel : List ℕ → List ℕ → ℕ → Bool
 badKernel ns sides count = not (eqb (length sides) (length ns)) || anyOf (badSide (sideOf sides)) sides || not (eqb count (cellCount sides))
-
-abbrev pub badPads : Border ℤ → ℕ → ℕ → ℕ → Bool
-badPads b left right n = badPad b n left || badPad b n right
-
-abbrev pub badKernelReach : Border ℤ → ℕ → ℤ → List ℕ → Bool
-badKernelReach b side o ns = anyOf (badPads b (kernelLeft side o) (kernelRight side o)) ns
 
 abbrev pub kernelPlaced : Bool → Border ℤ → ℤ → List ℕ → List ℤ → List ℕ → Judged
 kernelPlaced turned b o sides w ns =

@@ -14,7 +14,7 @@ use Rattle.numbers.specs.Rows.{minus, wholes}
 use Rattle.border.specs.Border.{Border, constant, along}
 use Rattle.border.specs.declared.Along.the-variants.{Nearest, Mirror, Reflect, Wrap}
 use Rattle.correlate_judge.specs.WeightRows.{both}
-use Rattle.correlate_judge.specs.KernelJudge.{badKernel, badKernelReach, badKernelSums, kernelJudged}
+use Rattle.correlate_judge.specs.KernelJudge.{badKernel, badKernelSums, kernelJudged}
 
 abbrev pub plane : Border ℤ → ℤ → List ℕ → List ℤ → Bool → ℕ
 plane b o sides w turned = refusalOf (kernelJudged turned b o sides w (2 ∷ 2 ∷ []) (wholes (1 ∷ 2 ∷ 3 ∷ 4 ∷ [])) 4)
@@ -46,7 +46,6 @@ pub record KernelRows : Type 0 where
   pub mirror : map (λ n. both (lane (along Mirror) (pos 0) 5 n)) (2 ∷ 3 ∷ []) ≡ (11 ∷ 11 ∷ []) ∷ (0 ∷ 0 ∷ []) ∷ []
   pub reflect : map (λ n. both (lane (along Reflect) (pos 0) 5 n)) (1 ∷ 2 ∷ []) ≡ (11 ∷ 11 ∷ []) ∷ (0 ∷ 0 ∷ []) ∷ []
   pub wrap : map (λ n. both (lane (along Wrap) (pos 0) 7 n)) (2 ∷ 3 ∷ []) ≡ (11 ∷ 11 ∷ []) ∷ (0 ∷ 0 ∷ []) ∷ []
-  pub short-axes : map (badKernelReach (along Mirror) 3 (pos 0)) ((2 ∷ 2 ∷ []) ∷ (1 ∷ 2 ∷ []) ∷ (2 ∷ 1 ∷ []) ∷ []) ≡ false ∷ true ∷ true ∷ []
   pub one-cell : both (lane (along Mirror) (pos 0) 1 1) ≡ 0 ∷ 0 ∷ []
   -- 5 before 6 before 7 before 9 before 11
   pub kernel-first : both (plane (constant (pos (2 ^ 31))) (pos 9) (2 ∷ 3 ∷ []) (pos 65536 ∷ [])) ≡ 5 ∷ 5 ∷ []

@@ -16,7 +16,8 @@ use Rattle.numbers.specs.Refusal.{refusalOf}
 use Rattle.numbers.specs.Rows.{minus, wholes}
 use Rattle.border.specs.Border.{Border, constant, along}
 use Rattle.border.specs.declared.Along.the-variants.{Nearest, Mirror, Reflect, Wrap}
-use Rattle.correlate_judge.specs.Judge.{badWeight, appliedOrigin, badSums, correlateJudged, correlateJudgedF}
+use Rattle.correlate_judge.specs.Judge.{badWeight, badSums, correlateJudged, correlateJudgedF}
+use Rattle.window.specs.Window.{appliedOrigin}
 
 abbrev pub three : Border ℤ → ℤ → List ℤ → ℕ → Bool → ℕ
 three b o w a turned = refusalOf (correlateJudged turned b o w (3 ∷ []) a (wholes (1 ∷ 2 ∷ 3 ∷ [])) 3)

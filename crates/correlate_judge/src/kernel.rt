@@ -32,7 +32,7 @@ fn judge_placed(
     if border::bad_constant(mode) {
         return numbers::CONSTANT;
     }
-    if crate::kernel_pads::bad_reach(mode, shape, side, origin, turned) {
+    if window::bad_kernel_reach(mode, shape, side, origin, turned) {
         return numbers::REACH;
     }
     numbers::ACCEPTED

@@ -9,19 +9,16 @@ ghost use Rattle.numbers.specs.Refusal.{refusalOf};
 ghost use Rattle.array_spec.specs.Conditions.{badAxis};
 ghost use Rattle.array_spec.specs.Grid.{lengthOf};
 ghost use Rattle.border.specs.Modes.{borderOf, borderOfF64};
-ghost use Rattle.min_max_judge.specs.Judge.{windowOrigin, badReach};
-ghost use Rattle.correlate_judge.specs.Judge.{appliedOrigin, correlateJudged, correlateJudgedF};
+ghost use Rattle.window.specs.Window.{badSize, badWindowOrigin, badReach, appliedOrigin};
+ghost use Rattle.correlate_judge.specs.Judge.{correlateJudged, correlateJudgedF};
 use border::BorderMode;
 use border::BorderModeF64;
 
 mod kernel;
-mod kernel_pads;
 mod kernel_sides;
-mod origins;
 mod weights;
 
 pub use kernel::judge_kernel;
-pub use origins::applied_origin;
 pub use weights::bad_weight;
 pub use weights::bad_weights;
 
@@ -36,15 +33,15 @@ fn judge_weighing(
     origin: isize,
     turned: bool,
 ) -> u8
-    ensures { λ r. ⌜ r ≡ refusalOf ((outside 1 65 len, 5) ∷ (six, 6) ∷ (windowOrigin len origin, 7) ∷ (badAxis (now (shape .entry)) axis, 8) ∷ (nine, 9) ∷ (not (eqb len 1) && badReach (borderOf mode) len (appliedOrigin turned len origin) (lengthOf (now (shape .entry)) axis), 11) ∷ []) ⌝ }
+    ensures { λ r. ⌜ r ≡ refusalOf ((badSize len, 5) ∷ (six, 6) ∷ (badWindowOrigin len origin, 7) ∷ (badAxis (now (shape .entry)) axis, 8) ∷ (nine, 9) ∷ (badReach (borderOf mode) len (appliedOrigin turned len origin) (lengthOf (now (shape .entry)) axis), 11) ∷ []) ⌝ }
 {
-    if min_max_judge::bad_size(len) {
+    if window::bad_size(len) {
         return numbers::KERNEL;
     }
     if six {
         return numbers::WEIGHT;
     }
-    if min_max_judge::bad_window_origin(len, origin) {
+    if window::bad_window_origin(len, origin) {
         return numbers::ORIGIN;
     }
     if array::bad_axis(shape, axis) {
@@ -54,7 +51,7 @@ fn judge_weighing(
         return numbers::CONSTANT;
     }
     let n = array::len_of(shape, axis);
-    if origins::bad_reach(mode, n, len, origin, turned) {
+    if window::bad_applied_reach(mode, n, len, origin, turned) {
         return numbers::REACH;
     }
     numbers::ACCEPTED
@@ -120,7 +117,7 @@ pub fn judge_correlate_f64(
         weights.len(),
         six,
         axis,
-        origins::kind_of(mode),
+        border::kind_of(mode),
         nine,
         origin,
         turned,

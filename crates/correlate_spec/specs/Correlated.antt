@@ -1,7 +1,6 @@
 -- Correlation and convolution along an axis, from SciPy's pages on `correlate1d` and `convolve1d`, over any element.
 --   correlatedLine o class b left right w s    for each cell of the lane s the weighted sum of its window of the padded line
 --   correlatedBy o class b origin w ns a cells one weight: every cell times it, nothing padded, origin not read; else correlatedLine on every lane of axis a
---   changedOrigin len o     the origin of a convolution as it is applied: negated, and for an even count of weights 1 less
 --   correlate1dZ, convolve1dZ    whole numbers: the plain sum; convolution reverses the weights
 --   correlate1dF, convolve1dF    floats: summed as the class of the weights says, as they are summed (after the reversal in convolution)
 use Prim.Native.Nat.{ℕ, _-_, _/_, _%_}
@@ -18,18 +17,15 @@ use Rattle.lanes.specs.Lanes.{alongAxis}
 use Rattle.border.specs.Border.{Border}
 use Rattle.pad_line.specs.Line.{paddedLine}
 use Rattle.correlate_spec.specs.Weighed.{Ops, wholeOps, floatOps, weighedLine}
+use Rattle.window.specs.Window.{leftPad, rightPad, changedOrigin}
 
 abbrev pub correlatedLine : {A : Type 0} → Ops A → SymmetryState → Border A → ℕ → ℕ → List A → List A → List A
 correlatedLine o class b left right w s = weighedLine o class w (paddedLine (o .past) b left right s) (length s)
 
 unfoldable pub correlatedBy : {A : Type 0} → Ops A → SymmetryState → Border A → ℤ → List A → List ℕ → ℕ → List A → List A
 correlatedBy o class b origin w ns a cells =
-    let left = length w / 2 in
     cond (eqb (length w) 1) (map (λ x. o .product x (getD w 0 (o .past))) cells)
-    (alongAxis (o .past) (correlatedLine o class b (natAbs (pos left +ℤ origin)) (natAbs (pos (length w - left - 1) -ℤ origin)) w) ns a cells)
-
-abbrev pub changedOrigin : ℕ → ℤ → ℤ
-changedOrigin len o = negℤ o -ℤ pos (cond (eqb (len % 2) 0) 1 0)
+    (alongAxis (o .past) (correlatedLine o class b (leftPad (length w) origin) (rightPad (length w) origin) w) ns a cells)
 
 abbrev pub correlate1dZ : Border ℤ → ℤ → List ℤ → List ℕ → ℕ → List ℤ → List ℤ
 correlate1dZ b origin w ns a cells = correlatedBy wholeOps NonSymmetric b origin w ns a cells

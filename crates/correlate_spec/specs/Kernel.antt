@@ -1,7 +1,6 @@
 -- Correlation and convolution with a kernel of as many axes as the grid, from SciPy's pages on `correlate` and `convolve`. Kernels have equal sides.
 --   sidesOf ns side               the kernel's shape
 --   sideOf sides                  the side of a kernel of that shape, its first; 1 where there is none, a kernel that condition 5 refuses
---   kernelLeft side o, kernelRight side o    the pads of every axis, as they are laid: floor(side/2) + origin and floor(side/2) − origin
 --   windowAt left sides p k a     the coordinate on axis a of kernel cell k, in the window of the cell with coordinates p: the window starts at cell − left pad
 --   kernelSum b left sides w ns cells p    the sum of the window of the cell with coordinates p, each cell of the extended grid times its weight
 --   kernelAnswer b left sides w ns cells   the sums of all cells
@@ -16,19 +15,13 @@ use Rattle.numbers.specs.Lists.{tabulate}
 use Rattle.array_spec.specs.Grid.{cellCount, lengthOf, coordinate}
 use Rattle.border.specs.Border.{Border, extendedGrid}
 use Rattle.correlate_spec.specs.Weighed.{summed}
-use Rattle.correlate_spec.specs.Correlated.{changedOrigin}
+use Rattle.window.specs.Window.{changedOrigin, kernelLeft}
 
 abbrev pub sidesOf : List ℕ → ℕ → List ℕ
 sidesOf ns side = replicate (length ns) side
 
 abbrev pub sideOf : List ℕ → ℕ
 sideOf sides = lengthOf sides 0
-
-abbrev pub kernelLeft : ℕ → ℤ → ℕ
-kernelLeft side o = natAbs (pos (side / 2) +ℤ o)
-
-abbrev pub kernelRight : ℕ → ℤ → ℕ
-kernelRight side o = natAbs (pos (side / 2) -ℤ o)
 
 abbrev pub windowAt : ℕ → List ℕ → (ℕ → ℕ) → ℕ → ℕ → ℤ
 windowAt left sides p k a = pos (p a) -ℤ pos left +ℤ pos (coordinate sides k a)

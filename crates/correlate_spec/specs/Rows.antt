@@ -17,7 +17,8 @@ use Rattle.numbers.specs.Rows.{wholes, minus}
 use Rattle.symmetry_spec.specs.declared.SymmetryState.the-variants.{NonSymmetric, Symmetric, AntiSymmetric}
 use Rattle.correlate_spec.specs.Weighed.{wholeOps, floatOps, weighedAt, weighedLine}
 use Rattle.correlate_spec.specs.Correlated.{correlate1dZ, convolve1dZ, correlate1dF, convolve1dF}
-use Rattle.correlate_spec.specs.Kernel.{sidesOf, sideOf, kernelLeft, kernelRight, correlateZ, convolveZ}
+use Rattle.correlate_spec.specs.Kernel.{sidesOf, sideOf, correlateZ, convolveZ}
+use Rattle.window.specs.Window.{kernelLeft, kernelRight}
 
 abbrev pub line : List ℕ → List ℕ → ℕ → List ℤ
 line w s n = weighedLine wholeOps NonSymmetric (wholes w) (wholes s) n

@@ -15,6 +15,6 @@ fn numbers(cells: &[i64], shape: &[usize]) {
 
 pub(crate) fn judges() {
     numbers(&[5, 3, 4, 9], &[2, 2]);
-    test(min_max_judge::bad_window_origin(4, 2));
-    test(min_max_judge::bad_window_origin(1, 99));
+    test(window::bad_window_origin(4, 2));
+    test(window::bad_window_origin(1, 99));
 }

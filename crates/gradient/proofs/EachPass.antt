@@ -22,7 +22,7 @@ use Rattle.border.specs.Modes.{badConstantBy}
 use Rattle.window.specs.Origin.{badOrigin}
 use Rattle.border.specs.Reach.{badPad}
 use Rattle.pad_line.proofs.Sizes.{SizedBorder, constant-sized}
-use Rattle.min_max_judge.specs.Judge.{badReach}
+use Rattle.window.specs.Window.{badReach}
 use Rattle.correlate_spec.specs.Correlated.{correlate1dZ}
 use Rattle.correlate_spec.proofs.Bounds.{border-le, length-answer}
 use Rattle.correlate_judge.specs.Judge.{badWeight}

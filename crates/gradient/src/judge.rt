@@ -15,7 +15,7 @@ fn judge_passes(shape: &[usize], axis: usize, mode: BorderMode) -> u8
     if border::bad_constant(mode) {
         return numbers::CONSTANT;
     }
-    if min_max_judge::bad_reach_any(mode, shape, 3, 0) {
+    if window::bad_reach_any(mode, shape, 3, 0) {
         return numbers::REACH;
     }
     numbers::ACCEPTED

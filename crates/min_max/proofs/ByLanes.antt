@@ -27,8 +27,9 @@ use Rattle.border.specs.Border.{Border, constant, along, cellFor, inside, exten
 use Rattle.window.specs.Origin.{badOrigin}
 use Rattle.window.proofs.Origins.{SignedPads, axis-accepted}
 use Rattle.pad_line.specs.Line.{paddedAt, paddedLine}
-use Rattle.min_max_judge.proofs.Reach.{pads-size as window-pads}
-use Rattle.min_max_spec.specs.Call.{Call, left, right, leftPad, rightPad, alone, firstIn, window, axisLength, numberOf}
+use Rattle.window.proofs.Reach.{pads-size as window-pads}
+use Rattle.min_max_spec.specs.Call.{Call, left, right, alone, firstIn, window, axisLength, numberOf}
+use Rattle.window.specs.Window.{leftPad, rightPad}
 use Rattle.min_max_spec.specs.Run.{laneLevel, answerOf}
 use Rattle.min_max_spec.proofs.Passed.{Passed, passed, length-answer}
 use Rattle.min_max_spec.proofs.Sweep.{inside-lt}
@@ -36,7 +37,7 @@ use Rattle.min_max_spec.proofs.Windows.{Lands, in-window, cell-inside, lands}
 
 -- for each cell of a lane the first level, in the order, of its window of the padded line
 abbrev pub lineOf : (ℤ → ℤ → Bool) → Call → List ℤ → List ℤ
-lineOf le c s = tabulate (λ i. least le (pos 0) (windowOf (paddedLine (pos 0) (c .border) (natAbs (leftPad c)) (natAbs (rightPad c)) s) i (c .size))) 0 (length s)
+lineOf le c s = tabulate (λ i. least le (pos 0) (windowOf (paddedLine (pos 0) (c .border) (leftPad (c .size) (c .origin)) (rightPad (c .size) (c .origin)) s) i (c .size))) 0 (length s)
 
 -- two lanes that agree on the axis have the same extension where it lands on the axis
 lane-agree : {A : Type 0} (b : Border A) (n : ℕ) (h h′ : ℕ → A) (z : ℤ) → ((j : ℕ) → j < n → h j ≡ h′ j) → Lands b n z → extendedLane b n h z ≡ extendedLane b n h′ z
@@ -75,27 +76,27 @@ module _ (cells : List ℤ) (c : Call) (P : Passed cells c) (padded : alone c �
   signed : SignedPads (left c) (right c) (c .origin)
   signed = axis-accepted (c .size) (c .origin) origin-in
 
-  pub pads-size : natAbs (leftPad c) + natAbs (rightPad c) + 1 ≡ c .size
+  pub pads-size : leftPad (c .size) (c .origin) + rightPad (c .size) (c .origin) + 1 ≡ c .size
   pads-size = window-pads (c .size) (c .origin) origin-in
 
   -- the window of cell i of a lane s, as coordinates and as a part of the padded line
   module _ (h : ℕ → ℤ) (s : List ℤ) (i : ℕ) (len : length s ≡ axisLength c) (l : i < axisLength c) (same : (j : ℕ) → j < axisLength c → h j ≡ getD s j (pos 0)) where
-    at-place : (t : ℕ) → t < c .size → extendedLane (c .border) (axisLength c) h (firstIn c (pos i) +ℤ pos t) ≡ paddedAt (pos 0) (c .border) (natAbs (leftPad c)) s (i + t)
+    at-place : (t : ℕ) → t < c .size → extendedLane (c .border) (axisLength c) h (firstIn c (pos i) +ℤ pos t) ≡ paddedAt (pos 0) (c .border) (leftPad (c .size) (c .origin)) s (i + t)
     unfolding paddedAt
     at-place t m =
         lane-agree (c .border) (axisLength c) h (λ j. getD s j (pos 0)) (firstIn c (pos i) +ℤ pos t) same
         (lands cells c P i l (firstIn c (pos i) +ℤ pos t) (in-window c (pos i) (firstIn c (pos i) +ℤ pos t) (up-mem (firstIn c (pos i)) (c .size) t m)))
         ∙ (λ j. extendedLane (c .border) (sym len j) (λ j. getD s j (pos 0)) (coordinate-is j))
       where
-        coordinate-is : firstIn c (pos i) +ℤ pos t ≡ pos (i + t) -ℤ pos (natAbs (leftPad c))
+        coordinate-is : firstIn c (pos i) +ℤ pos t ≡ pos (i + t) -ℤ pos (leftPad (c .size) (c .origin))
         coordinate-is =
             ap (λ (x : ℤ). x +ℤ pos t) (first-padded c (pos i) padded) ∙ first-is i t (pos (left c)) (c .origin) ∙ ap (λ (x : ℤ). pos (i + t) -ℤ x) (sym (signed .left-pad))
 
-    same-window : map (extendedLane (c .border) (axisLength c) h) (window c (pos i)) ≡ windowOf (paddedLine (pos 0) (c .border) (natAbs (leftPad c)) (natAbs (rightPad c)) s) i (c .size)
+    same-window : map (extendedLane (c .border) (axisLength c) h) (window c (pos i)) ≡ windowOf (paddedLine (pos 0) (c .border) (leftPad (c .size) (c .origin)) (rightPad (c .size) (c .origin)) s) i (c .size)
     unfolding paddedLine
     same-window =
-        let p = natAbs (leftPad c) in
-        let q = natAbs (rightPad c) in
+        let p = leftPad (c .size) (c .origin) in
+        let q = rightPad (c .size) (c .origin) in
         let g = paddedAt (pos 0) (c .border) p s in
         let total = p + length s + q in
         let fits : i + c .size ≤ length (tabulate g 0 total) = omega (arith, length-tabulate g 0 total, pads-size) in
@@ -142,7 +143,7 @@ module _ (le : ℤ → ℤ → Bool) (cells : List ℤ) (c : Call) (accept : num
           ∙ ap (least le (pos 0)) (same-window cells c P padded f s (p (c .axis)) ls m (λ j l. sym (getD-tabulate f n j (pos 0) l)))
           ∙ sym (ap (λ x. getD (alongAxis (pos 0) (lineOf le c) (c .shape) (c .axis) cells) x (pos 0)) (sym (place-coordinate (c .shape) k full b))
           ∙ getD-along (pos 0) (lineOf le c) (c .shape) (c .axis) cells p full on (coordinate-within (c .shape) k full b) count
-          ∙ getD-tabulate (λ i. least le (pos 0) (windowOf (paddedLine (pos 0) (c .border) (natAbs (leftPad c)) (natAbs (rightPad c)) s) i (c .size))) (length s) (p (c .axis)) (pos 0) (subst (λ (x : ℕ). p (c .axis) < x) (sym ls) m))
+          ∙ getD-tabulate (λ i. least le (pos 0) (windowOf (paddedLine (pos 0) (c .border) (leftPad (c .size) (c .origin)) (rightPad (c .size) (c .origin)) s) i (c .size))) (length s) (p (c .axis)) (pos 0) (subst (λ (x : ℕ). p (c .axis) < x) (sym ls) m))
 
   pub answer-copied : alone c ≡ true → answerOf le cells c ≡ cells
   answer-copied one =

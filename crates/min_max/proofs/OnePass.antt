@@ -17,7 +17,8 @@ use Rattle.border.specs.Border.{Border}
 use Rattle.pad_line.specs.Line.{paddedLine}
 use Rattle.border.specs.Reach.{badPad}
 use Rattle.min_max_ring.specs.Firsts.{firsts}
-use Rattle.min_max_spec.specs.Call.{Call, alone, leftPad, rightPad, axisLength, numberOf}
+use Rattle.min_max_spec.specs.Call.{Call, alone, axisLength, numberOf}
+use Rattle.window.specs.Window.{leftPad, rightPad}
 use Rattle.min_max_spec.specs.Run.{answerOf}
 use Rattle.min_max_spec.proofs.Passed.{Passed, passed}
 use Rattle.axis_filter.specs.Lane.{filteredLane, Sweep}
@@ -59,16 +60,16 @@ module _ (le : ℤ → ℤ → Bool) (cells : List ℤ) (c : Call) (accept : num
     padded : alone c ≡ false
     padded = ne-eqb (c .size) 1 more
 
-    fills : (badPad (c .border) (axisLength c) (natAbs (leftPad c)) ≡ false) × (badPad (c .border) (axisLength c) (natAbs (rightPad c)) ≡ false)
+    fills : (badPad (c .border) (axisLength c) (leftPad (c .size) (c .origin)) ≡ false) × (badPad (c .border) (axisLength c) (rightPad (c .size) (c .origin)) ≡ false)
     fills =
-        let l = badPad (c .border) (axisLength c) (natAbs (leftPad c)) in
-        let r = badPad (c .border) (axisLength c) (natAbs (rightPad c)) in
+        let l = badPad (c .border) (axisLength c) (leftPad (c .size) (c .origin)) in
+        let r = badPad (c .border) (axisLength c) (rightPad (c .size) (c .origin)) in
         or-false l r (ap (λ t. not t && (l || r)) (sym padded) ∙ P .pads)
 
     sizes : (1 ≤ c .size) × (c .size ≤ 65)
     sizes = let p = or-false (ltb (c .size) 1) (ltb 65 (c .size)) (P .size) in (omega (arith, ltb-false (c .size) 1 (p .0)), omega (arith, ltb-false 65 (c .size) (p .1)))
 
-    module _ {l g : ℕ} (L : l ≡ natAbs (leftPad c)) (G : g ≡ natAbs (rightPad c)) where
+    module _ {l g : ℕ} (L : l ≡ leftPad (c .size) (c .origin)) (G : g ≡ rightPad (c .size) (c .origin)) where
       total : l + g + 1 ≡ c .size
       total = (λ j. L j + G j + 1) ∙ pads-size cells c P padded
 

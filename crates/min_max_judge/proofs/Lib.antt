@@ -1,2 +1,2 @@
 -- Laws.
-pub mod Reach
+pub mod Taken

@@ -1,8 +1,6 @@
 -- The conditions of the minimum and maximum filters, one-axis and grid forms. Which number a one-axis call gets stands in `sweeps`;
 -- here is how the arguments of the program's calls make such a call, and which number a grid call gets.
 --   callOf ns size a m o held   the one-axis call of these arguments, `held` the lent output as it stands
---   windowOrigin size o         7: a window of more than one cell refuses the origin o
---   badReach b size o n         11: the border cannot fill the left or the right pad of a lane of n cells
 --   sizeJudged size o           conditions 5 and 7 of a window
 --   axesJudged ns size b o      conditions 5, 7, 9 and 11 (of any axis) of a window along every axis
 --   filterJudged cells c second conditions 1, 2 (input, output, second grid), 3, 5, 7, 9 and 11 of a grid call
@@ -22,22 +20,17 @@ use Rattle.border.specs.Modes.{borderOf, badConstantBy}
 use Rattle.window.specs.Origin.{badOrigin}
 use Rattle.border.specs.Reach.{badPad}
 use Rattle.min_max_spec.specs.Call.{Call}
+use Rattle.window.specs.Window.{badSize, badWindowOrigin, badReach}
 
 abbrev pub callOf : List ℕ → ℕ → ℕ → BorderMode → ℤ → List ℤ → Call
 callOf ns size a m o held = record { shape = ns; size = size; axis = a; border = borderOf m; origin = o; out = held }
 
-abbrev pub windowOrigin : ℕ → ℤ → Bool
-windowOrigin size o = not (eqb size 1) && badOrigin size o
-
-abbrev pub badReach : {A : Type 0} → Border A → ℕ → ℤ → ℕ → Bool
-badReach b size o n = badPad b n (natAbs (pos (size / 2) +ℤ o)) || badPad b n (natAbs (pos (size - size / 2 - 1) -ℤ o))
-
 abbrev pub sizeJudged : ℕ → ℤ → Judged
-sizeJudged size o = (outside 1 65 size, 5) ∷ (windowOrigin size o, 7) ∷ []
+sizeJudged size o = (badSize size, 5) ∷ (badWindowOrigin size o, 7) ∷ []
 
 abbrev pub axesJudged : List ℕ → ℕ → Border ℤ → ℤ → Judged
 axesJudged ns size b o =
-    sizeJudged size o ++ ((badConstantBy badLevel b, 9) ∷ (not (eqb size 1) && anyOf (badReach b size o) ns, 11) ∷ [])
+    sizeJudged size o ++ ((badConstantBy badLevel b, 9) ∷ (anyOf (badReach b size o) ns, 11) ∷ [])
 
 abbrev pub filterJudged : List ℤ → Call → ℕ → Judged
 filterJudged cells c second =

@@ -1,8 +1,8 @@
--- Worked rows of this crate's definitions: origins and reaches at their limits, and the refusals of both forms. Each holds by computing.
+-- Worked rows of this crate's definitions: the refusals of both forms. Each holds by computing.
 --   square            the rows 5 3 / 4 9
 --   onSquare ..       a call on them
 --   alongSquare ..    the number of a one-axis call on them
---   FilterJudgeRows   the rows
+--   MinMaxJudgeRows   the rows
 use Prim.Native.Nat.{ℕ}
 use mathlib.Core.Path.{_≡_}
 use mathlib.Core.Bool.{true, false}
@@ -15,7 +15,7 @@ use Rattle.border.specs.declared.Along.the-variants.{Mirror}
 use Rattle.border.specs.declared.BorderMode.{BorderMode}
 use Rattle.border.specs.declared.BorderMode.the-variants as modes
 use Rattle.min_max_spec.specs.Call.{Call, callJudged}
-use Rattle.min_max_judge.specs.Judge.{callOf, windowOrigin, badReach, axesJudged, filterJudged}
+use Rattle.min_max_judge.specs.Judge.{callOf, axesJudged, filterJudged}
 
 abbrev pub square : List ℤ
 square = pos 5 ∷ pos 3 ∷ pos 4 ∷ pos 9 ∷ []
@@ -26,13 +26,7 @@ onSquare size m o = callOf (2 ∷ 2 ∷ []) size 0 m o square
 abbrev pub alongSquare : ℕ → ℕ → BorderMode → ℤ → ℕ
 alongSquare size a m o = refusalOf (callJudged square (callOf (2 ∷ 2 ∷ []) size a m o square))
 
-pub record FilterJudgeRows : Type 0 where
-  -- length 4: origins −2 and 1 pass, −3 and 2 do not; length 1 passes with origin 99
-  pub origins : map (windowOrigin 4) (negsuc 1 ∷ pos 1 ∷ negsuc 2 ∷ pos 2 ∷ []) ≡ false ∷ false ∷ true ∷ true ∷ []
-  pub origin-alone : windowOrigin 1 (pos 99) ≡ false
-  -- three cells: Mirror takes length 5 and refuses 7, Reflect takes 7 and refuses 9; length 4 with origin −2 needs 0 and 3 places
-  pub reaches : badReach (borderOf modes.Mirror) 5 (pos 0) 3 ∷ badReach (borderOf modes.Mirror) 7 (pos 0) 3 ∷ badReach (borderOf modes.Reflect) 7 (pos 0) 3 ∷ badReach (borderOf modes.Reflect) 9 (pos 0) 3 ∷ [] ≡ false ∷ true ∷ false ∷ true ∷ []
-  pub reach-right : badReach (borderOf modes.Mirror) 4 (negsuc 1) 3 ∷ badReach (borderOf modes.Reflect) 4 (negsuc 1) 3 ∷ [] ≡ true ∷ false ∷ []
+pub record MinMaxJudgeRows : Type 0 where
   -- the refusals of a one-axis call: accepted on the last axis, length 66, origin 1 of length 2, axis 2, Constant 2^31, Mirror with length 5 on two cells
   pub last-axis : alongSquare 2 1 modes.Wrap (pos 0) ≡ 0
   pub along-size-66 : alongSquare 66 0 modes.Nearest (pos 0) ≡ 5

@@ -8,63 +8,21 @@ ghost use Rattle.numbers.specs.Ranges.{outside};
 ghost use Rattle.numbers.specs.Refusal.{refusalOf};
 ghost use Rattle.border.specs.Modes.{borderOf};
 ghost use Rattle.min_max_spec.specs.Call.{windowJudged, callJudged};
-ghost use Rattle.min_max_judge.specs.Judge.{callOf, windowOrigin, badReach, sizeJudged, axesJudged, filterJudged};
-ghost use Rattle.min_max_judge.specs.Rows.{FilterJudgeRows};
+ghost use Rattle.min_max_judge.specs.Judge.{callOf, sizeJudged, axesJudged, filterJudged};
+ghost use Rattle.min_max_judge.specs.Rows.{MinMaxJudgeRows};
 use border::BorderMode;
-use window::Origin;
-
-// Condition 5: the length of the window, or the count of weights, is outside 1..65. Refuses nothing.
-pub fn bad_size(size: usize) -> bool
-    ensures { λ r. ⌜ r ≡ outside 1 65 size ⌝ }
-{
-    if size < 1 {
-        return true;
-    }
-    65 < size
-}
-
-// Condition 7: a window of more than one cell refuses the origin. Refuses nothing.
-// bad_window_origin(4, 2) is true, bad_window_origin(1, 99) is false.
-pub fn bad_window_origin(size: usize, origin: isize) -> bool
-    ensures { λ r. ⌜ r ≡ windowOrigin size origin ⌝ }
-{
-    if size == 1 {
-        return false;
-    }
-    window::bad_origin(size, origin)
-}
 
 // Conditions 5 and 7, which every window has.
 fn judge_size(size: usize, origin: isize) -> u8
     ensures { λ r. ⌜ r ≡ refusalOf (sizeJudged size origin) ⌝ }
 {
-    if bad_size(size) {
+    if window::bad_size(size) {
         return numbers::KERNEL;
     }
-    if bad_window_origin(size, origin) {
+    if window::bad_window_origin(size, origin) {
         return numbers::ORIGIN;
     }
     numbers::ACCEPTED
-}
-
-// Condition 11 of a lane of n cells: the border cannot fill one of the pads that an accepted window needs. Refuses nothing.
-// Of three cells Mirror fills the pads of a window of 5 with origin 0, and not of 7.
-pub fn bad_reach(mode: BorderMode, n: usize, size: usize, origin: isize) -> bool
-    requires { ⌜ windowOrigin size origin ≡ false ⌝ }
-    ensures { λ r. ⌜ r ≡ (not (eqb size 1) && badReach (borderOf mode) size origin n) ⌝ }
-{
-    if size == 1 {
-        return false;
-    }
-    match window::origin_check(size, origin) {
-        Origin::Refused => false,
-        Origin::Pads(left, right) => {
-            if border::bad_pad(mode, n, left) {
-                return true;
-            }
-            border::bad_pad(mode, n, right)
-        }
-    }
 }
 
 // Conditions 5, 7, 8, 9 and 11 of a window along one axis.
@@ -82,7 +40,7 @@ fn judge_window(shape: &[usize], size: usize, axis: usize, mode: BorderMode, ori
         return numbers::CONSTANT;
     }
     let n = array::len_of(shape, axis);
-    if bad_reach(mode, n, size, origin) {
+    if window::bad_reach(mode, n, size, origin) {
         return numbers::REACH;
     }
     numbers::ACCEPTED
@@ -119,23 +77,6 @@ pub fn judge_call(
     judge_window(shape, size, axis, mode, origin)
 }
 
-// Condition 11 of a grid, for an accepted window: a lane of some axis has it. Refuses nothing.
-// Of the shape 9 2 Mirror fills the pads of a window of 3 with origin 0, and not of 5.
-pub fn bad_reach_any(mode: BorderMode, shape: &[usize], size: usize, origin: isize) -> bool
-    requires { ⌜ windowOrigin size origin ≡ false ⌝ }
-    ensures { λ r. ⌜ r ≡ (not (eqb size 1) && anyOf (badReach (borderOf mode) size origin) (now (shape .entry))) ⌝ }
-{
-    let mut a = 0;
-    while a < shape.len() {
-        let n = shape[a];
-        if bad_reach(mode, n, size, origin) {
-            return true;
-        }
-        a += 1;
-    }
-    false
-}
-
 // Conditions 5, 7, 9 and 11 of a window along every axis.
 fn judge_axes(shape: &[usize], size: usize, mode: BorderMode, origin: isize) -> u8
     ensures { λ r. ⌜ r ≡ refusalOf (axesJudged (now (shape .entry)) size (borderOf mode) origin) ⌝ }
@@ -147,7 +88,7 @@ fn judge_axes(shape: &[usize], size: usize, mode: BorderMode, origin: isize) -> 
     if border::bad_constant(mode) {
         return numbers::CONSTANT;
     }
-    if bad_reach_any(mode, shape, size, origin) {
+    if window::bad_reach_any(mode, shape, size, origin) {
         return numbers::REACH;
     }
     numbers::ACCEPTED
@@ -181,7 +122,7 @@ pub fn judge_filter(
     judge_axes(shape, size, mode, origin)
 }
 
-// Worked rows of this crate's definitions: origins and reaches at their limits, and the refusals of both forms. Refuses nothing.
+// Worked rows of this crate's definitions: the refusals of both forms. Refuses nothing.
 pub fn rows()
-    ensures { λ _. ⌜ FilterJudgeRows ⌝ }
+    ensures { λ _. ⌜ MinMaxJudgeRows ⌝ }
 {}

@@ -21,7 +21,8 @@ use Rattle.border.specs.Border.{Border, constant, along, inside, extendedLane}
 use Rattle.border.specs.Modes.{badConstantBy}
 use Rattle.window.specs.Origin.{badOrigin}
 use Rattle.border.specs.Reach.{badPad}
-use Rattle.min_max_spec.specs.Call.{Call, window, alone, leftPad, rightPad, axisLength, windowJudged, numberOf}
+use Rattle.min_max_spec.specs.Call.{Call, window, alone, axisLength, windowJudged, numberOf}
+use Rattle.window.specs.Window.{leftPad, rightPad}
 use Rattle.min_max_spec.specs.Run.{laneLevel, answerOf, after, run, numbers, accepted}
 
 -- ---- tests
@@ -36,7 +37,7 @@ pub record Passed (cells : List ℤ) (c : Call) : Type 0 where
   pub origin : (not (alone c) && badOrigin (c .size) (c .origin)) ≡ false
   pub axis : badAxis (c .shape) (c .axis) ≡ false
   pub level : badConstantBy badLevel (c .border) ≡ false
-  pub pads : (not (alone c) && (badPad (c .border) (axisLength c) (natAbs (leftPad c)) || badPad (c .border) (axisLength c) (natAbs (rightPad c)))) ≡ false
+  pub pads : (not (alone c) && (badPad (c .border) (axisLength c) (leftPad (c .size) (c .origin)) || badPad (c .border) (axisLength c) (rightPad (c .size) (c .origin)))) ≡ false
 
 pub passed : (cells : List ℤ) (c : Call) → numberOf cells c ≡ 0 → Passed cells c
 unfolding numberOf

@@ -19,7 +19,8 @@ use Rattle.border.specs.declared.Along.the-variants.{Nearest, Mirror, Reflect, 
 use Rattle.window.specs.Origin.{badOrigin}
 use Rattle.window.proofs.Origins.{axis-accepted}
 use Rattle.border.specs.Reach.{badPad}
-use Rattle.min_max_spec.specs.Call.{Call, left, right, leftPad, rightPad, alone, firstIn, lastIn, InWindow, window, axisLength}
+use Rattle.min_max_spec.specs.Call.{Call, left, right, alone, firstIn, lastIn, InWindow, window, axisLength}
+use Rattle.window.specs.Window.{leftPad, rightPad}
 use Rattle.min_max_spec.proofs.Passed.{Passed}
 use Rattle.min_max_spec.proofs.Reach.{ends, reach-left, reach-right, carried}
 
@@ -110,11 +111,11 @@ unfolding firstIn lastIn
 lands cells c P i h z w = go (alone c) (P .origin) (P .pads) (w .from) (w .to)
   where
     go : (t : Bool) → (not t && badOrigin (c .size) (c .origin)) ≡ false
-        → (not t && (badPad (c .border) (axisLength c) (natAbs (leftPad c)) || badPad (c .border) (axisLength c) (natAbs (rightPad c)))) ≡ false
+        → (not t && (badPad (c .border) (axisLength c) (leftPad (c .size) (c .origin)) || badPad (c .border) (axisLength c) (rightPad (c .size) (c .origin)))) ≡ false
         → cond t (pos i) (pos i -ℤ pos (left c) -ℤ c .origin) ≤ℤ z → z ≤ℤ cond t (pos i) (pos i +ℤ pos (right c) -ℤ c .origin)
         → Lands (c .border) (axisLength c) z
     go true o e f k = subst (Lands (c .border) (axisLength c)) (≤ℤ-antisymm f k) (lands-inside (c .border) (axisLength c) i h)
     go false o e f k =
-        let s = or-false (badPad (c .border) (axisLength c) (natAbs (leftPad c))) (badPad (c .border) (axisLength c) (natAbs (rightPad c))) e in
+        let s = or-false (badPad (c .border) (axisLength c) (leftPad (c .size) (c .origin))) (badPad (c .border) (axisLength c) (rightPad (c .size) (c .origin))) e in
         let a = axis-accepted (c .size) (c .origin) o in
-        by-pads (axisLength c) i h (pos (left c)) (pos (right c)) (c .origin) (natAbs (leftPad c)) (natAbs (rightPad c)) (a .left-pad) (a .right-pad) (c .border) z (s .0) (s .1) f k
+        by-pads (axisLength c) i h (pos (left c)) (pos (right c)) (c .origin) (leftPad (c .size) (c .origin)) (rightPad (c .size) (c .origin)) (a .left-pad) (a .right-pad) (c .border) z (s .0) (s .1) f k

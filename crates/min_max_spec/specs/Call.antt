@@ -2,7 +2,6 @@
 -- Written from SciPy's pages on minimum_filter1d and maximum_filter1d, and from document 01 where it speaks.
 --   Call                  shape, size, axis, border, origin, and the lent output as it stands
 --   left, right           floor(len/2), and len − left − 1
---   leftPad, rightPad     left + origin, and right − origin
 --   alone c               whether the length is 1: nothing is padded and no origin is read
 --   axisLength c          the length of the call's axis
 --   firstIn, lastIn c i   the ends of the window of coordinate i
@@ -27,6 +26,7 @@ use Rattle.border.specs.Border.{Border}
 use Rattle.border.specs.Modes.{badConstantBy}
 use Rattle.window.specs.Origin.{badOrigin}
 use Rattle.border.specs.Reach.{badPad}
+use Rattle.window.specs.Window.{leftOf, rightOf, badSize, badWindowOrigin, badReach}
 
 pub record Call : Type 0 where
   pub shape : List ℕ
@@ -37,16 +37,10 @@ pub record Call : Type 0 where
   pub out : List ℤ
 
 abbrev pub left : Call → ℕ
-left c = c .size / 2
+left c = leftOf (c .size)
 
 abbrev pub right : Call → ℕ
-right c = c .size - c .size / 2 - 1
-
-abbrev pub leftPad : Call → ℤ
-leftPad c = pos (left c) +ℤ c .origin
-
-abbrev pub rightPad : Call → ℤ
-rightPad c = pos (right c) -ℤ c .origin
+right c = rightOf (c .size)
 
 abbrev pub alone : Call → Bool
 alone c = eqb (c .size) 1
@@ -73,8 +67,8 @@ window c i = upFrom (firstIn c i) (c .size)
 
 abbrev pub windowJudged : Call → Judged
 windowJudged c =
-    (outside 1 65 (c .size), 5) ∷ (not (alone c) && badOrigin (c .size) (c .origin), 7) ∷ (badAxis (c .shape) (c .axis), 8) ∷ (badConstantBy badLevel (c .border), 9)
-    ∷ (not (alone c) && (badPad (c .border) (axisLength c) (natAbs (leftPad c)) || badPad (c .border) (axisLength c) (natAbs (rightPad c))), 11) ∷ []
+    (badSize (c .size), 5) ∷ (badWindowOrigin (c .size) (c .origin), 7) ∷ (badAxis (c .shape) (c .axis), 8)
+    ∷ (badConstantBy badLevel (c .border), 9) ∷ (badReach (c .border) (c .size) (c .origin) (axisLength c), 11) ∷ []
 
 abbrev pub callJudged : List ℤ → Call → Judged
 callJudged cells c = gridJudged (c .shape) cells (length (c .out) ∷ []) ++ windowJudged c

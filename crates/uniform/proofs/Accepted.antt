@@ -23,7 +23,7 @@ use Rattle.lanes.proofs.AlongAxis.{length-along}
 use Rattle.border.specs.Border.{Border}
 use Rattle.border.specs.Modes.{badConstantBy}
 use Rattle.border.specs.Reach.{badPad}
-use Rattle.min_max_judge.specs.Judge.{badReach}
+use Rattle.window.specs.Window.{badReach}
 use Rattle.uniform_spec.specs.Mean.{means}
 use Rattle.axis_filter.specs.Lane.{Sweep}
 use Rattle.uniform.specs.Averaging.{Averaging}

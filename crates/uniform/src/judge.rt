@@ -6,7 +6,7 @@ ghost use Rattle.numbers.specs.Lists.{anyOf};
 ghost use Rattle.numbers.specs.Ranges.{outside};
 ghost use Rattle.numbers.specs.Refusal.{refusalOf};
 ghost use Rattle.border.specs.Modes.{borderOf};
-ghost use Rattle.min_max_judge.specs.Judge.{badReach};
+ghost use Rattle.window.specs.Window.{badReach};
 ghost use Rattle.uniform_spec.specs.Judge.{badGridReach, alongJudged, axesJudged, uniform1dJudged, uniformJudged};
 use border::BorderMode;
 
@@ -15,7 +15,7 @@ fn bad_window(mode: BorderMode, n: usize, size: usize) -> bool
     requires { ⌜ outside 1 65 size ≡ false ⌝ }
     ensures { λ r. ⌜ r ≡ badReach (borderOf mode) size (pos 0) n ⌝ }
 {
-    min_max_judge::bad_reach(mode, n, size, 0)
+    window::bad_reach(mode, n, size, 0)
 }
 
 // Condition 11 of a lane of n cells in the grid form: the same, or half the window is longer than the lane.
@@ -49,7 +49,7 @@ fn bad_grid(mode: BorderMode, shape: &[usize], size: usize) -> bool
 fn judge_along(shape: &[usize], size: usize, axis: usize, mode: BorderMode) -> u8
     ensures { λ r. ⌜ r ≡ refusalOf (alongJudged (borderOf mode) size (now (shape .entry)) axis) ⌝ }
 {
-    if min_max_judge::bad_size(size) {
+    if window::bad_size(size) {
         return numbers::KERNEL;
     }
     if array::bad_axis(shape, axis) {
@@ -69,7 +69,7 @@ fn judge_along(shape: &[usize], size: usize, axis: usize, mode: BorderMode) -> u
 fn judge_axes(shape: &[usize], size: usize, mode: BorderMode) -> u8
     ensures { λ r. ⌜ r ≡ refusalOf (axesJudged (borderOf mode) size (now (shape .entry))) ⌝ }
 {
-    if min_max_judge::bad_size(size) {
+    if window::bad_size(size) {
         return numbers::KERNEL;
     }
     if border::bad_constant(mode) {

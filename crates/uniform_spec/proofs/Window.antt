@@ -12,7 +12,7 @@ use Rattle.border.specs.Border.{Border, constant, along}
 use Rattle.border.specs.declared.Along.the-variants.{Nearest, Mirror, Reflect, Wrap}
 use Rattle.window.proofs.Origins.{origin-on}
 use Rattle.border.specs.Reach.{badPad}
-use Rattle.min_max_judge.specs.Judge.{windowOrigin, badReach}
+use Rattle.window.specs.Window.{badWindowOrigin, badReach}
 
 module _ (size : ℕ) (h : outside 1 65 size ≡ false) where
   pub size-some : 0 < size
@@ -21,7 +21,7 @@ module _ (size : ℕ) (h : outside 1 65 size ≡ false) where
   pub size-few : size ≤ 65
   size-few = ltb-false 65 size (or-false (ltb size 1) (ltb 65 size) h .1)
 
-  pub origin-in : windowOrigin size (pos 0) ≡ false
+  pub origin-in : badWindowOrigin size (pos 0) ≡ false
   origin-in = ap (λ t. not (eqb size 1) && t) (origin-on size 0 size-some ∙ le-ltb ((size - 1) / 2) 0 zero-le) ∙ none (not (eqb size 1))
     where
       none : (t : Bool) → t && false ≡ false

@@ -1,7 +1,6 @@
 // The origin of a window: how far the window is moved back along the axis, and the pads that it then needs.
 ghost use Prim.Native.Nat.{_-_, _/_, _≤_};
 ghost use mathlib.Core.Path.{_≡_};
-ghost use Rattle.window.specs.Rows.{OriginRows};
 ghost use Rattle.window.specs.Origin.{badOrigin, originPads, signedOf};
 
 // The answer to an origin.
@@ -83,8 +82,3 @@ pub fn kernel_origin_check(side: usize, origin: isize) -> Origin
 {
     pads(side, side / 2, split(origin))
 }
-
-// Worked rows of this crate's definitions: origins at their limits, and the pads that they give. Refuses nothing.
-pub fn rows()
-    ensures { λ _. ⌜ OriginRows ⌝ }
-{}

@@ -9,8 +9,8 @@ use mir.Syntax.{w64}
 use mir.Val.{toZ, ofZ}
 use Rattle.border.specs.Modes.{borderOf}
 use Rattle.window.specs.Origin.{badOrigin}
-use Rattle.correlate_spec.specs.Correlated.{changedOrigin}
-use Rattle.correlate_spec.specs.Kernel.{sidesOf, sideOf, kernelLeft, kernelAnswer}
+use Rattle.window.specs.Window.{changedOrigin, kernelLeft}
+use Rattle.correlate_spec.specs.Kernel.{sidesOf, sideOf, kernelAnswer}
 use Rattle.correlate.proofs.Accepted.{Passed, passed, suits-as, own-sides}
 use borrow.Author.Needs.{needs}
 use Rattle.correlate.proofs.convolve_cells.Statement.{statement}

@@ -8,7 +8,8 @@ use denote.Ref.{now}
 use Rattle.border.specs.Modes.{borderOf}
 use Rattle.window.specs.Origin.{originPads}
 use Rattle.window.proofs.Answered.{not-refused, left-is, right-is}
-use Rattle.correlate_spec.specs.Kernel.{sidesOf, kernelLeft, kernelRight, kernelAnswer}
+use Rattle.correlate_spec.specs.Kernel.{sidesOf, kernelAnswer}
+use Rattle.window.specs.Window.{kernelLeft, kernelRight}
 use Rattle.correlate.proofs.Accepted.{padded-as, exchanged}
 use borrow.Author.Needs.{needs}
 use Rattle.correlate.proofs.sum_windows.Statement.{statement}

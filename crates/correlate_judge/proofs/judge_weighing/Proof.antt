@@ -11,8 +11,7 @@ use Rattle.numbers.proofs.Tests.{told}
 use Rattle.array_spec.specs.Conditions.{badAxis}
 use Rattle.array_spec.specs.Grid.{lengthOf}
 use Rattle.border.specs.Modes.{borderOf}
-use Rattle.min_max_judge.specs.Judge.{windowOrigin, badReach}
-use Rattle.correlate_judge.specs.Judge.{appliedOrigin}
+use Rattle.window.specs.Window.{badWindowOrigin, badReach, appliedOrigin}
 use borrow.Author.Needs.{needs}
 use Rattle.correlate_judge.proofs.judge_weighing.Statement.{statement}
 use Rattle.correlate_judge.proofs.judge_weighing.Tie as tie
@@ -25,19 +24,19 @@ same-origin s = search needs
 size-in : (c : tie.Else1) → outside 1 65 (c .before .before .before .args .len) ≡ false
 size-in c = told (c .before .bad-size .ensures) (c .if1 .left)
 
-origin-told : (c : tie.After-bad-window-origin) → let a = c .before .before .before .before .before .args in c .bad-window-origin .result ≡ windowOrigin (a .len) (a .origin)
-origin-told c = let s = c .before .before .before .before .before in c .bad-window-origin .ensures ∙ ap (windowOrigin (s .args .len)) (same-origin s)
+origin-told : (c : tie.After-bad-window-origin) → let a = c .before .before .before .before .before .args in c .bad-window-origin .result ≡ badWindowOrigin (a .len) (a .origin)
+origin-told c = let s = c .before .before .before .before .before in c .bad-window-origin .ensures ∙ ap (badWindowOrigin (s .args .len)) (same-origin s)
 
-origin-in : (c : tie.Else3) → let a = c .before .before .before .before .before .before .args in windowOrigin (a .len) (a .origin) ≡ false
+origin-in : (c : tie.Else3) → let a = c .before .before .before .before .before .before .args in badWindowOrigin (a .len) (a .origin) ≡ false
 origin-in c = told (origin-told (c .before)) (c .if3 .left)
 
 axis-in : (c : tie.Else4) → let a = c .before .before .before .before .before .before .before .before .args in badAxis (now (a .shape)) (a .axis) ≡ false
 axis-in c = told (c .before .bad-axis .ensures) (c .if4 .left)
 
-reached : (c : tie.After-bad-reach) → let a = c .before .before .before .before .before .before .before .before .before .before .before .args in c .bad-reach .result ≡ not (eqb (a .len) 1) && badReach (borderOf (a .mode)) (a .len) (appliedOrigin (a .turned) (a .len) (a .origin)) (lengthOf (now (a .shape)) (a .axis))
+reached : (c : tie.After-bad-applied-reach) → let a = c .before .before .before .before .before .before .before .before .before .before .before .args in c .bad-applied-reach .result ≡ badReach (borderOf (a .mode)) (a .len) (appliedOrigin (a .turned) (a .len) (a .origin)) (lengthOf (now (a .shape)) (a .axis))
 reached c =
     let s = c .before .before .before .before .before .before .before .before .before .before .before in
-    c .bad-reach .ensures ∙ (λ j. not (eqb (s .args .len) 1) && badReach (borderOf (s .args .mode)) (s .args .len) (appliedOrigin (s .args .turned) (s .args .len) (same-origin s j)) (c .before .len-of .ensures j))
+    c .bad-applied-reach .ensures ∙ (λ j. badReach (borderOf (s .args .mode)) (s .args .len) (appliedOrigin (s .args .turned) (s .args .len) (same-origin s j)) (c .before .len-of .ensures j))
 
 bad-size-requires : tie.Need-bad-size-requires
 bad-size-requires c κs = search needs
@@ -66,8 +65,8 @@ returns-5 c = simp (size-in (c .before .before .before .before .before .before),
 len-of-requires : tie.Need-len-of-requires
 len-of-requires c κs = search needs
 
-bad-reach-requires : tie.Need-bad-reach-requires
-bad-reach-requires c κs = let s = c .before .before .before .before .before .before .before .before .before .before in ap (windowOrigin (s .args .len)) (same-origin s) ∙ origin-in (c .before .before .before .before)
+bad-applied-reach-requires : tie.Need-bad-applied-reach-requires
+bad-applied-reach-requires c κs = let s = c .before .before .before .before .before .before .before .before .before .before in ap (badWindowOrigin (s .args .len)) (same-origin s) ∙ origin-in (c .before .before .before .before)
 
 returns-6 : tie.Need-returns-6
 returns-6 c = simp (size-in (c .before .before .before .before .before .before .before .before .before), c .before .before .before .before .before .before .before .before .if2 .left, origin-in (c .before .before .before .before .before .before), axis-in (c .before .before .before .before), c .before .before .before .if5 .left, told (reached (c .before)) (c .if6 .taken)) refl
@@ -88,6 +87,6 @@ judge-weighing-spec =
     returns-4
     returns-5
     len-of-requires
-    bad-reach-requires
+    bad-applied-reach-requires
     returns-6
     returns-7)

@@ -11,8 +11,9 @@ use Rattle.numbers.specs.Lists.{anyOf}
 use Rattle.numbers.proofs.Tests.{told}
 use Rattle.array_spec.specs.Conditions.{badLevel}
 use Rattle.border.specs.Modes.{borderOf, badConstantBy}
-use Rattle.min_max_judge.specs.Judge.{badReach, axesJudged}
-use Rattle.min_max_judge.proofs.Reach.{Taken, window-taken, window-stops}
+use Rattle.min_max_judge.specs.Judge.{axesJudged}
+use Rattle.window.specs.Window.{badReach}
+use Rattle.min_max_judge.proofs.Taken.{Taken, window-taken, window-stops}
 use borrow.Author.Needs.{needs}
 use Rattle.min_max_judge.proofs.judge_axes.Statement.{statement}
 use Rattle.min_max_judge.proofs.judge_axes.Tie as tie
@@ -28,10 +29,10 @@ taken c = window-taken (c .before .before .before .args .size) (same-origin (c .
 constant-in : (c : tie.Else2) → badConstantBy badLevel (borderOf (c .before .before .before .before .before .args .mode)) ≡ false
 constant-in c = told (c .before .bad-constant .ensures) (c .if2 .left)
 
-reached : (c : tie.After-bad-reach-any) → let a = c .before .before .before .before .before .before .args in c .bad-reach-any .result ≡ not (eqb (a .size) 1) && anyOf (badReach (borderOf (a .mode)) (a .size) (a .origin)) (now (a .shape))
+reached : (c : tie.After-bad-reach-any) → let a = c .before .before .before .before .before .before .args in c .bad-reach-any .result ≡ anyOf (badReach (borderOf (a .mode)) (a .size) (a .origin)) (now (a .shape))
 reached c =
     let s = c .before .before .before .before .before .before in
-    c .bad-reach-any .ensures ∙ ap (λ (o : ℤ). not (eqb (s .args .size) 1) && anyOf (badReach (borderOf (s .args .mode)) (s .args .size) o) (now (s .args .shape))) (same-origin s)
+    c .bad-reach-any .ensures ∙ ap (λ (o : ℤ). anyOf (badReach (borderOf (s .args .mode)) (s .args .size) o) (now (s .args .shape))) (same-origin s)
 
 judge-size-requires : tie.Need-judge-size-requires
 judge-size-requires c κs = search needs

@@ -4,16 +4,16 @@ use mathlib.Core.Path.{_≡_, refl, ap, _∙_}
 use mir.Syntax.{w64}
 use mir.Val.{toZ, ofZ}
 use Rattle.numbers.proofs.Tests.{told}
-use Rattle.min_max_judge.specs.Judge.{windowOrigin}
+use Rattle.window.specs.Window.{badWindowOrigin}
 use borrow.Author.Needs.{needs}
 use Rattle.min_max_judge.proofs.judge_size.Statement.{statement}
 use Rattle.min_max_judge.proofs.judge_size.Tie as tie
 
-window-origin : (c : tie.After-bad-window-origin) → let a = c .before .before .before .args in c .bad-window-origin .result ≡ windowOrigin (a .size) (a .origin)
+window-origin : (c : tie.After-bad-window-origin) → let a = c .before .before .before .args in c .bad-window-origin .result ≡ badWindowOrigin (a .size) (a .origin)
 window-origin c =
     let a = c .before .before .before .args in
     let e : toZ w64 (ofZ w64 (a .origin)) ≡ a .origin = search needs in
-    c .bad-window-origin .ensures ∙ ap (windowOrigin (a .size)) e
+    c .bad-window-origin .ensures ∙ ap (badWindowOrigin (a .size)) e
 
 bad-size-requires : tie.Need-bad-size-requires
 bad-size-requires c κs = search needs

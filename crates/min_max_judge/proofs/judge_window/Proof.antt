@@ -12,8 +12,9 @@ use Rattle.array_spec.specs.Conditions.{badLevel, badAxis}
 use Rattle.array_spec.specs.Grid.{lengthOf}
 use Rattle.border.specs.Modes.{borderOf, badConstantBy}
 use Rattle.min_max_spec.specs.Call.{windowJudged}
-use Rattle.min_max_judge.specs.Judge.{callOf, badReach}
-use Rattle.min_max_judge.proofs.Reach.{Taken, window-taken, window-stops}
+use Rattle.min_max_judge.specs.Judge.{callOf}
+use Rattle.window.specs.Window.{badReach}
+use Rattle.min_max_judge.proofs.Taken.{Taken, window-taken, window-stops}
 use borrow.Author.Needs.{needs}
 use Rattle.min_max_judge.proofs.judge_window.Statement.{statement}
 use Rattle.min_max_judge.proofs.judge_window.Tie as tie
@@ -32,10 +33,10 @@ axis-in c = told (c .before .bad-axis .ensures) (c .if2 .left)
 constant-in : (c : tie.Else3) → badConstantBy badLevel (borderOf (c .before .before .before .before .before .before .before .args .mode)) ≡ false
 constant-in c = told (c .before .bad-constant .ensures) (c .if3 .left)
 
-reached : (c : tie.After-bad-reach) → let a = c .before .before .before .before .before .before .before .before .before .args in c .bad-reach .result ≡ not (eqb (a .size) 1) && badReach (borderOf (a .mode)) (a .size) (a .origin) (lengthOf (now (a .shape)) (a .axis))
+reached : (c : tie.After-bad-reach) → let a = c .before .before .before .before .before .before .before .before .before .args in c .bad-reach .result ≡ badReach (borderOf (a .mode)) (a .size) (a .origin) (lengthOf (now (a .shape)) (a .axis))
 reached c =
     let s = c .before .before .before .before .before .before .before .before .before in
-    c .bad-reach .ensures ∙ (λ j. not (eqb (s .args .size) 1) && badReach (borderOf (s .args .mode)) (s .args .size) (same-origin s j) (c .before .len-of .ensures j))
+    c .bad-reach .ensures ∙ (λ j. badReach (borderOf (s .args .mode)) (s .args .size) (same-origin s j) (c .before .len-of .ensures j))
 
 judge-size-requires : tie.Need-judge-size-requires
 judge-size-requires c κs = search needs

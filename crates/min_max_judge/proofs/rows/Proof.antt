@@ -9,10 +9,6 @@ use Rattle.min_max_judge.proofs.rows.Tie as tie
 returns : tie.Need-returns
 unfolding badOrigin badShape gridCount badLevel
 returns c = record {
-  origins = refl;
-  origin-alone = refl;
-  reaches = refl;
-  reach-right = refl;
   last-axis = refl;
   along-size-66 = refl;
   along-origin-1 = refl;

@@ -12,8 +12,9 @@ use Rattle.array_spec.specs.Conditions.{badLevel}
 use Rattle.border.specs.Modes.{borderOf, badConstantBy}
 use Rattle.window.specs.Origin.{badOrigin}
 use Rattle.correlate_spec.specs.Kernel.{sideOf}
-use Rattle.correlate_judge.specs.Judge.{badWeight, appliedOrigin}
-use Rattle.correlate_judge.specs.KernelJudge.{badKernel, badKernelReach}
+use Rattle.correlate_judge.specs.Judge.{badWeight}
+use Rattle.window.specs.Window.{appliedOrigin, badKernelReach}
+use Rattle.correlate_judge.specs.KernelJudge.{badKernel}
 use borrow.Author.Needs.{needs}
 use Rattle.correlate_judge.proofs.kernel.judge_placed.Statement.{statement}
 use Rattle.correlate_judge.proofs.kernel.judge_placed.Tie as tie
@@ -38,11 +39,11 @@ origin-in c = told (origin-told (c .before)) (c .if3 .left)
 constant-in : (c : tie.Else4) → badConstantBy badLevel (borderOf (c .before .before .before .before .before .before .before .before .before .before .before .args .mode)) ≡ false
 constant-in c = told (c .before .bad-constant .ensures) (c .if4 .left)
 
-reached : (c : tie.After-bad-reach) → let a = c .before .before .before .before .before .before .before .before .before .before .before .before .args in c .bad-reach .result ≡ badKernelReach (borderOf (a .mode)) (sideOf (now (a .sides))) (appliedOrigin (a .turned) (sideOf (now (a .sides))) (a .origin)) (now (a .shape))
+reached : (c : tie.After-bad-kernel-reach) → let a = c .before .before .before .before .before .before .before .before .before .before .before .before .args in c .bad-kernel-reach .result ≡ badKernelReach (borderOf (a .mode)) (sideOf (now (a .sides))) (appliedOrigin (a .turned) (sideOf (now (a .sides))) (a .origin)) (now (a .shape))
 reached c =
     let s = c .before .before .before .before .before .before .before .before .before .before .before .before in
     let side = c .before .before .before .before .before .len-of .ensures in
-    c .bad-reach .ensures ∙ (λ j. badKernelReach (borderOf (s .args .mode)) (side j) (appliedOrigin (s .args .turned) (side j) (same-origin s j)) (now (s .args .shape)))
+    c .bad-kernel-reach .ensures ∙ (λ j. badKernelReach (borderOf (s .args .mode)) (side j) (appliedOrigin (s .args .turned) (side j) (same-origin s j)) (now (s .args .shape)))
 
 bad-kernel-requires : tie.Need-bad-kernel-requires
 bad-kernel-requires c κs = c .before .before .pre
@@ -71,8 +72,8 @@ bad-constant-requires c κs = search needs
 returns-4 : tie.Need-returns-4
 returns-4 c = simp (kernel-in (c .before .before .before .before .before .before .before), weights-in (c .before .before .before .before .before), origin-in (c .before .before), told (c .before .bad-constant .ensures) (c .if4 .taken)) refl
 
-bad-reach-requires : tie.Need-bad-reach-requires
-bad-reach-requires c κs = told (c .before .before .before .bad-origin .ensures) (c .before .before .if3 .left)
+bad-kernel-reach-requires : tie.Need-bad-kernel-reach-requires
+bad-kernel-reach-requires c κs = told (c .before .before .before .bad-origin .ensures) (c .before .before .if3 .left)
 
 returns-5 : tie.Need-returns-5
 returns-5 c = simp (kernel-in (c .before .before .before .before .before .before .before .before .before), weights-in (c .before .before .before .before .before .before .before), origin-in (c .before .before .before .before), constant-in (c .before .before), told (reached (c .before)) (c .if5 .taken)) refl
@@ -93,6 +94,6 @@ judge-placed-spec =
     returns-3
     bad-constant-requires
     returns-4
-    bad-reach-requires
+    bad-kernel-reach-requires
     returns-5
     returns-6)

@@ -13,7 +13,7 @@ use Rattle.border.specs.Border.{Border}
 use Rattle.border.specs.Modes.{borderOf, badConstantBy}
 use Rattle.window.specs.Origin.{badOrigin}
 use Rattle.border.specs.Reach.{badPad}
-use Rattle.min_max_judge.specs.Judge.{badReach}
+use Rattle.window.specs.Window.{badReach}
 use borrow.Author.Needs.{needs}
 use Rattle.gradient.proofs.judge.judge_passes.Statement.{statement}
 use Rattle.gradient.proofs.judge.judge_passes.Tie as tie
