@@ -39,7 +39,6 @@ fn main() {
     padded::pad_conditions();
     padded::fits();
     padded::lines();
-    padded::lines_f64();
     padded::windows();
     weighing::weights();
     weighing::judges();

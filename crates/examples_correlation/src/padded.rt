@@ -1,22 +1,19 @@
-// The examples of `pad_line`, `pad_line_f64` and `window`.
+// The examples of `pad_line` and `window`.
 use border::BorderMode;
-use border::BorderModeF64;
 use examples_print::levels;
 use examples_print::line;
 use examples_print::test;
 
 // Pads of three cells.
 pub(crate) fn pad_conditions() {
-    test(border::bad_pad(BorderMode::Mirror, 3, 2));
-    test(border::bad_pad(BorderMode::Mirror, 3, 3));
-    test(border::bad_pad(BorderMode::Reflect, 3, 3));
-    test(border::bad_pad(BorderMode::Reflect, 3, 4));
-    test(border::bad_pad(BorderMode::Wrap, 3, 3));
-    test(border::bad_pad(BorderMode::Wrap, 3, 4));
-    test(border::bad_pad(BorderMode::Nearest, 3, 18446744073709551615));
-    test(border::bad_pad(BorderMode::Constant(0), 3, 18446744073709551615));
-    test(pad_line_f64::bad_pad_f64(BorderModeF64::Mirror, 3, 2));
-    test(pad_line_f64::bad_pad_f64(BorderModeF64::Mirror, 3, 3));
+    test(pad_line::bad_pad(BorderMode::Mirror, 3, 2));
+    test(pad_line::bad_pad(BorderMode::Mirror, 3, 3));
+    test(pad_line::bad_pad(BorderMode::Reflect, 3, 3));
+    test(pad_line::bad_pad(BorderMode::Reflect, 3, 4));
+    test(pad_line::bad_pad(BorderMode::Wrap, 3, 3));
+    test(pad_line::bad_pad(BorderMode::Wrap, 3, 4));
+    test(pad_line::bad_pad(BorderMode::Nearest, 3, 18446744073709551615));
+    test(pad_line::bad_pad(BorderMode::Constant(0), 3, 18446744073709551615));
 }
 
 // Lanes of three cells of a grid of 6, with pads 2 and 2.
@@ -37,15 +34,6 @@ fn padded_by(left: usize) {
 pub(crate) fn lines() {
     padded_by(2);
     padded_by(3);
-}
-
-pub(crate) fn lines_f64() {
-    let grid = [4.0f64, 5.0, 6.0, 1.0, 2.0, 3.0];
-    let mut padded = [9.0f64; 8];
-    pad_line_f64::pad_lane_f64(&grid, 1, 1, 3, BorderModeF64::Mirror, 2, 2, &mut padded);
-    test(padded[0] == 3.0);
-    test(padded[6] == 1.0);
-    test(padded[7] == 9.0);
 }
 
 fn two_windows(cells: &[i64]) {

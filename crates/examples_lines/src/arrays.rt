@@ -101,9 +101,3 @@ pub(crate) fn read_lanes() {
     column(1);
     column(3);
 }
-
-pub(crate) fn write_lanes() {
-    let mut grid = [1i64, 2, 3, 4, 5, 6];
-    lane_cells::write_lane(&[7, 8], 3, 1, &mut grid);
-    levels(&grid);
-}

@@ -34,7 +34,6 @@ fn main() {
     arrays::judges();
     arrays::copies();
     arrays::read_lanes();
-    arrays::write_lanes();
     borders::modes();
     borders::origins();
     extremes::rings();

@@ -3,7 +3,7 @@ ghost use mathlib.Core.Path.{_≡_};
 ghost use Prim.Native.Nat.{_+_, _*_, _<_};
 ghost use lib.Ieee.{nan};
 ghost use lib.ListN.{length};
-ghost use Rattle.lanes.specs.Lanes.{laneBase, laneAt, withLane, readLane, writeLane};
+ghost use Rattle.lanes.specs.Lanes.{laneBase, laneAt, withLane};
 
 // Copies the cells from base on, stride apart, into the line.
 fn gather_f64(grid: &[f64], base: usize, stride: usize, line: &mut [f64])
@@ -57,28 +57,4 @@ pub fn write_from_f64(line: &[f64], stride: usize, lane: usize, base: usize, gri
         return;
     }
     scatter_f64(line, stride, lane, base, grid);
-}
-
-// As `read_lane`, of float levels.
-fn read_lane_f64(grid: &[f64], stride: usize, lane: usize, line: &mut [f64])
-    ensures { λ _. ⌜ now (line .exit) ≡ readLane nan stride lane (now (grid .entry)) (now (line .entry)) ⌝ }
-{
-    let count = grid.len();
-    let base = lanes::first_place(count, line.len(), stride, lane);
-    if base == count {
-        return;
-    }
-    read_from_f64(grid, base, stride, line);
-}
-
-// As `write_lane`, of float levels.
-fn write_lane_f64(line: &[f64], stride: usize, lane: usize, grid: &mut [f64])
-    ensures { λ _. ⌜ now (grid .exit) ≡ writeLane nan stride lane (now (line .entry)) (now (grid .entry)) ⌝ }
-{
-    let count = grid.len();
-    let base = lanes::first_place(count, line.len(), stride, lane);
-    if base == count {
-        return;
-    }
-    write_from_f64(line, stride, lane, base, grid);
 }

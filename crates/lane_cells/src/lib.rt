@@ -1,10 +1,10 @@
-// A lane of whole levels read into a line, and a line written back to a lane. Where the cells are neighbours, the step is the constant 1, so that the compiler makes a
-// plain copy of the loop.
+// A lane of whole levels read into a line, and a line written back to a lane. Where the cells are neighbours, the
+// step is the constant 1, so that the compiler makes a plain copy of the loop.
 ghost use mathlib.Core.Path.{_≡_};
 ghost use Prim.Native.Nat.{_+_, _*_, _<_};
 ghost use lib.IntN.{pos};
 ghost use lib.ListN.{length};
-ghost use Rattle.lanes.specs.Lanes.{laneBase, laneAt, withLane, readLane, writeLane};
+ghost use Rattle.lanes.specs.Lanes.{laneBase, laneAt, withLane, readLane};
 
 mod float;
 
@@ -41,7 +41,8 @@ fn scatter(line: &[i64], stride: usize, lane: usize, base: usize, grid: &mut [i6
     }
 }
 
-// Copies the cells from base on, stride apart, into the line. Of 1 2 3 4 5 6 the two cells from place 1 on, 3 apart, are 2 5.
+// Copies the cells from base on, stride apart, into the line.
+// Of 1 2 3 4 5 6 the two cells from place 1 on, 3 apart, are 2 5.
 pub fn read_from(grid: &[i64], base: usize, stride: usize, line: &mut [i64])
     requires { ⌜ base + length (now line) * stride < length (now grid) + stride ⌝ }
     ensures { λ _. ⌜ now (line .exit) ≡ laneAt (pos 0) (now (grid .entry)) base stride (length (now (line .entry))) ⌝ }
@@ -54,6 +55,7 @@ pub fn read_from(grid: &[i64], base: usize, stride: usize, line: &mut [i64])
 }
 
 // Copies the line to the cells of the lane, whose first cell is at base.
+// 7 8 written to lane 1 of axis 0 of the rows 1 2 3 / 4 5 6, with base 1 and stride 3, give 1 7 3 / 4 8 6.
 pub fn write_from(line: &[i64], stride: usize, lane: usize, base: usize, grid: &mut [i64])
     requires { ⌜ (0 < length (now line)) × (0 < stride) × (base ≡ laneBase (length (now line)) stride lane) × (base + length (now line) * stride < length (now grid) + stride) ⌝ }
     ensures { λ _. ⌜ now (grid .exit) ≡ withLane (pos 0) (length (now (line .entry))) stride lane (now (line .entry)) (now (grid .entry)) ⌝ }
@@ -83,19 +85,4 @@ pub fn read_lane(grid: &[i64], stride: usize, lane: usize, line: &mut [i64])
         return;
     }
     read_from(grid, base, stride, line);
-}
-
-// Writes the line to a lane of the grid; the arguments are those of `read_lane`.
-//
-// Where the lane is not inside the grid, or the grid has over 32,768 cells, the grid stays as it was.
-// 7 8 written to lane 1 of axis 0 of the rows 1 2 3 / 4 5 6 gives 1 7 3 / 4 8 6.
-pub fn write_lane(line: &[i64], stride: usize, lane: usize, grid: &mut [i64])
-    ensures { λ _. ⌜ now (grid .exit) ≡ writeLane (pos 0) stride lane (now (line .entry)) (now (grid .entry)) ⌝ }
-{
-    let count = grid.len();
-    let base = lanes::first_place(count, line.len(), stride, lane);
-    if base == count {
-        return;
-    }
-    write_from(line, stride, lane, base, grid);
 }

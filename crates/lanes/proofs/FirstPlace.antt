@@ -1,13 +1,13 @@
--- The first place of a lane as the code answers it, the count where the lane is not inside; and what reading and writing a lane leave, over any element.
+-- The first place of a lane as the code answers it, the count where the lane is not inside; and what reading a lane leaves, over any element.
 -- Assumes nothing.
-use mathlib.Core.Path.{_≡_, refl, sym, ap, subst, _∙_}
+use mathlib.Core.Path.{_≡_, refl, sym, subst, _∙_}
 use mathlib.Core.Bool.{Bool, true, false, cond}
 use mathlib.Core.List.{List}
 use Prim.Native.Nat.{ℕ, _+_, _*_, _-_, _<_}
 use native.Mathlib.Omega.{arith}
 use lib.ListN.{length}
 use Rattle.numbers.proofs.Tests.{cond-yes, cond-no}
-use Rattle.lanes.specs.Lanes.{laneBase, laneAt, lane, withLane, laneInside, readLane, writeLane}
+use Rattle.lanes.specs.Lanes.{laneBase, laneAt, lane, laneInside, readLane}
 use Rattle.lanes.proofs.Cells.{lane-inside, inside-yes, inside-no, inside-whole}
 
 module _ (n s l count r : ℕ) (e : r ≡ cond (laneInside n s l count) (laneBase n s l) count) where
@@ -30,13 +30,10 @@ module _ (n s l count r : ℕ) (e : r ≡ cond (laneInside n s l count) (laneBas
   pub place-whole : (r ≡ count → ⊥) → r + n * s < count + s
   place-whole h = subst (λ (b : ℕ). b + n * s < count + s) (sym (place-base h)) (inside-whole (lane-inside n s l count (place-some h)))
 
--- ---- reading and writing, where the lane is not inside, and where it is
+-- ---- reading, where the lane is not inside, and where it is
 module _ {A : Type 0} (d : A) (s l : ℕ) (line g : List A) (r : ℕ) (e : r ≡ cond (laneInside (length line) s l (length g)) (laneBase (length line) s l) (length g)) where
   pub read-none : r ≡ length g → line ≡ readLane d s l g line
   read-none q = sym (cond-no _ _ line (place-none (length line) s l (length g) r e q))
-
-  pub write-none : r ≡ length g → g ≡ writeLane d s l line g
-  write-none q = sym (cond-no _ _ g (place-none (length line) s l (length g) r e q))
 
   module _ (h : r ≡ length g → ⊥) where
     pub read-room : r + length line * s < length g + s
@@ -46,11 +43,3 @@ module _ {A : Type 0} (d : A) (s l : ℕ) (line g : List A) (r : ℕ) (e : r ≡
     read-some q =
         q ∙ (λ i. laneAt d g (place-base (length line) s l (length g) r e h i) s (length line))
         ∙ sym (cond-yes _ (lane d (length line) s l g) line (place-some (length line) s l (length g) r e h))
-
-    pub write-room : (0 < length line) × (0 < s) × (r ≡ laneBase (length line) s l) × (r + length line * s < length g + s)
-    write-room =
-        let I = lane-inside (length line) s l (length g) (place-some (length line) s l (length g) r e h) in
-        (I .some, I .apart, place-base (length line) s l (length g) r e h, read-room)
-
-    pub write-some : {left : List A} → left ≡ withLane d (length line) s l line g → left ≡ writeLane d s l line g
-    write-some q = q ∙ sym (cond-yes _ (withLane d (length line) s l line g) g (place-some (length line) s l (length g) r e h))

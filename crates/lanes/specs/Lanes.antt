@@ -5,7 +5,7 @@
 --   lane d n s l g           lane l of the grid g, as a line
 --   withLane d n s l line g  the grid g with the line written to lane l
 --   laneInside n s l count   whether lane l is inside a grid of that many cells, of at most 32,768
---   readLane, writeLane      what reading and writing leave: nothing changes where the lane is not inside
+--   readLane d s l g line    what reading lane l leaves in the line: nothing changes where the lane is not inside
 --   alongAxis d f ns a g     f on every lane of axis a of the grid g of shape ns
 --   lanesOf ns a             length, stride and number of the lanes of axis a; all 0 where condition 1 holds
 use Prim.Native.Nat.{ℕ, _+_, _-_, _*_, _/_, _%_}
@@ -38,9 +38,6 @@ laneInside n s l count = leb count 32768 && leb 1 n && leb 1 s && leb s count &&
 
 abbrev pub readLane : {A : Type 0} → A → ℕ → ℕ → List A → List A → List A
 readLane d s l g line = cond (laneInside (length line) s l (length g)) (lane d (length line) s l g) line
-
-abbrev pub writeLane : {A : Type 0} → A → ℕ → ℕ → List A → List A → List A
-writeLane d s l line g = cond (laneInside (length line) s l (length g)) (withLane d (length line) s l line g) g
 
 unfoldable pub alongAxis : {A : Type 0} → A → (List A → List A) → List ℕ → ℕ → List A → List A
 alongAxis d f ns a g =

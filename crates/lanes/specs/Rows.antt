@@ -9,7 +9,7 @@ use mathlib.Core.Bool.{true, false}
 use mathlib.Core.List.{List, [], _∷_, map, reverse}
 use lib.IntN.{ℤ, pos}
 use Rattle.lanes.specs.Axes.{overAxes}
-use Rattle.lanes.specs.Lanes.{laneOf, lane, withLane, laneInside, readLane, writeLane, alongAxis, lanesOf}
+use Rattle.lanes.specs.Lanes.{laneOf, lane, withLane, laneInside, readLane, alongAxis, lanesOf}
 
 abbrev pub wholes : List ℕ → List ℤ
 wholes ns = map pos ns
@@ -33,8 +33,6 @@ pub record LanesRows : Type 0 where
   pub insides : laneInside 2 3 0 6 ∷ laneInside 2 3 2 6 ∷ laneInside 2 3 3 6 ∷ laneInside 0 3 0 6 ∷ laneInside 2 0 0 6 ∷ laneInside 2 3 0 32769 ∷ [] ≡ true ∷ true ∷ false ∷ false ∷ false ∷ false ∷ []
   pub read-in : readLane (pos 0) 3 2 two (wholes (9 ∷ 9 ∷ [])) ≡ wholes (3 ∷ 6 ∷ [])
   pub read-out : readLane (pos 0) 3 3 two (wholes (9 ∷ 9 ∷ [])) ≡ wholes (9 ∷ 9 ∷ [])
-  pub write-in : writeLane (pos 0) 3 2 (wholes (7 ∷ 8 ∷ [])) two ≡ wholes (1 ∷ 2 ∷ 7 ∷ 4 ∷ 5 ∷ 8 ∷ [])
-  pub write-out : writeLane (pos 0) 3 3 (wholes (7 ∷ 8 ∷ [])) two ≡ two
   -- every lane of an axis read from its end
   pub turned-down : turned 0 ≡ wholes (4 ∷ 5 ∷ 6 ∷ 1 ∷ 2 ∷ 3 ∷ [])
   pub turned-across : turned 1 ≡ wholes (3 ∷ 2 ∷ 1 ∷ 6 ∷ 5 ∷ 4 ∷ [])

@@ -16,11 +16,13 @@ use Rattle.numbers.proofs.Tabulate.{length-tabulate, getD-tabulate}
 use Rattle.numbers.proofs.Tests.{or-false}
 use Rattle.array_spec.specs.Conditions.{badLevel}
 use Rattle.array_spec.specs.Grid.{cellCount, lengthOf}
-use Rattle.array_spec.proofs.Judged.{PassedGrid, grid-passed}
+use Rattle.array_spec.proofs.Shapes.{count-accepted, length-judged}
+use Rattle.border.specs.declared.Along.{Along}
 use Rattle.border.specs.declared.PadMode.{PadMode}
-use Rattle.border.specs.Reach.{badPad}
-use Rattle.pad_spec.specs.Fill.{rimOf}
-use Rattle.pad_spec.specs.Conditions.{badConstant, badCount, overPad, paddedCount, badPads, badReachOn, badReach, padsJudged, padJudged}
+use Rattle.pad_line.specs.Line.{badAlong, badPad}
+use Rattle.pad_spec.specs.Fill.{fillerOf, borderBy, rimOf}
+use Rattle.pad_spec.specs.declared.rim.Filler.the-variants.{Cells}
+use Rattle.pad_spec.specs.Conditions.{badCount, overPad, paddedCount, badPads, badReachOn, badReach, padJudged}
 use Rattle.pad_spec.specs.Pads.{pairOf, leftsOf, rightsOf, paddedShape}
 use Rattle.pad_spec.specs.declared.pairs.Pair.{Pair}
 use Rattle.pad_spec.proofs.PairOf.{axis-at, padded-length, padded-short}
@@ -28,8 +30,9 @@ use Rattle.pad_spec.specs.Frame.{Framed, Filling}
 
 -- what each condition of an accepted call says
 pub record Passed (mode : PadMode) (ns : List ℕ) (pads : List Pair) (count : ℕ) (cells : List ℤ) (out : ℕ) : Type 0 where
-  pub grid : PassedGrid badLevel ns cells []
-  pub level : badConstant mode ≡ false
+  pub shape : badShape ns ≡ false
+  pub whole : length cells ≡ cellCount ns
+  pub levels : anyOf badLevel cells ≡ false
   pub pairs : badCount ns count ≡ false
   pub limits : anyOf overPad (take count pads) ≡ false
   pub small : paddedCount ns pads count ≤ 32768
@@ -42,9 +45,11 @@ passed mode ns pads count cells out z =
     let J = grid-passed badLevel ns cells [] (padsJudged mode ns pads count cells out) (tt, (tt, (tt, (tt, tt)))) z in
     let p = or-false (badCount ns count) _ (J .1 .1 .0) in
     let q = or-false (anyOf overPad (take count pads)) _ (p .1) in
-    let r = or-false (ltb 32768 (paddedCount ns pads count)) _ (q .1) in record {
-      grid = J .0;
-      level = J .1 .0;
+    let r = or-false (ltb 32768 (paddedCount ns pads count)) _ (q .1) in
+    let l = or-false (badLength ns (length cells)) false (J .1 .0) in record {
+      shape = J .0;
+      whole = length-judged ns (length cells) (l .0) ∙ count-accepted ns (J .0);
+      levels = J .1 .1 .0;
       pairs = p .0;
       limits = q .0;
       small = ltb-false 32768 (paddedCount ns pads count) (r .0);
@@ -78,21 +83,26 @@ module _ {mode : PadMode} {ns : List ℕ} {pads : List Pair} {count : ℕ} {cell
       → (badPad (rimOf mode []) (lengthOf ns a) (pairOf pads count a .left) ≡ false) × (badPad (rimOf mode []) (lengthOf ns a) (pairOf pads count a .right) ≡ false)
   reach-both a h = or-false (badPad (rimOf mode []) (lengthOf ns a) (pairOf pads count a .left)) (badPad (rimOf mode []) (lengthOf ns a) (pairOf pads count a .right)) (P .reach a h)
 
-  pub filling : Filling mode ns (leftsOf ns pads count) (paddedShape ns (leftsOf ns pads count) (rightsOf ns pads count))
-  filling = record {
+  pub filling : {m : Along} → fillerOf mode ≡ Cells m → Filling m ns (leftsOf ns pads count) (paddedShape ns (leftsOf ns pads count) (rightsOf ns pads count))
+  filling {m} e = record {
     framed = framed;
-    level = P .level;
-    fills-left = λ a h. ap (badPad (rimOf mode []) (lengthOf ns a)) (left-is a h) ∙ reach-both a h .0;
-    fills-right = λ a h. ap (badPad (rimOf mode []) (lengthOf ns a)) (rest a h) ∙ reach-both a h .1;
+    fills-left = λ a h. ap (badAlong m (lengthOf ns a)) (left-is a h) ∙ sym (judged a (pairOf pads count a .left)) ∙ reach-both a h .0;
+    fills-right = λ a h. ap (badAlong m (lengthOf ns a)) (rest a h) ∙ sym (judged a (pairOf pads count a .right)) ∙ reach-both a h .1;
   }
     where
+      judged : (a x : ℕ) → badPad (rimOf mode []) (lengthOf ns a) x ≡ badAlong m (lengthOf ns a) x
+      judged a x = ap (λ f. badPad (borderBy f []) (lengthOf ns a) x) e
+
       rest : (a : ℕ) → a < length ns
           → lengthOf (paddedShape ns (leftsOf ns pads count) (rightsOf ns pads count)) a - (getD (leftsOf ns pads count) a 0 + lengthOf ns a) ≡ pairOf pads count a .right
       rest a h = omega (arith, left-is a h, padded-length ns pads count a h)
 
   -- the same of the frame as it was set
-  pub filling-set : {l p : List ℕ} → l ≡ leftsOf ns pads count → p ≡ paddedShape ns (leftsOf ns pads count) (rightsOf ns pads count) → Filling mode ns l p
-  filling-set {l} {p} e f = subst (λ (x : List ℕ). Filling mode ns x p) (sym e) (subst (Filling mode ns (leftsOf ns pads count)) (sym f) filling)
+  pub framed-set : {l p : List ℕ} → l ≡ leftsOf ns pads count → p ≡ paddedShape ns (leftsOf ns pads count) (rightsOf ns pads count) → Framed ns l p
+  framed-set {l} {p} e f = subst (λ (x : List ℕ). Framed ns x p) (sym e) (subst (Framed ns (leftsOf ns pads count)) (sym f) framed)
+
+  pub filling-set : {m : Along} {l p : List ℕ} → fillerOf mode ≡ Cells m → l ≡ leftsOf ns pads count → p ≡ paddedShape ns (leftsOf ns pads count) (rightsOf ns pads count) → Filling m ns l p
+  filling-set {m} {l} {p} c e f = subst (λ (x : List ℕ). Filling m ns x p) (sym e) (subst (Filling m ns (leftsOf ns pads count)) (sym f) (filling c))
 
   pub lent-set : {p : List ℕ} → p ≡ paddedShape ns (leftsOf ns pads count) (rightsOf ns pads count) → out ≡ cellCount p
   lent-set f = P .lent ∙ ap cellCount (sym f)

@@ -1,6 +1,6 @@
 -- Laws of the calls.
 pub mod Accepted
-pub mod LaidOver
+pub mod Laid
 pub mod Started
 pub mod Targets
 pub mod Row

@@ -1,4 +1,5 @@
--- `pad` lays the grid over what it started with: under Constant every place outside the middle holds the constant, so the whole is the padded grid.
+-- A grid laid under Constant: every place outside the middle holds the constant, so that the middle laid over such a start is the padded grid, and laid over what was
+-- lent it is what `pad_to` promises.
 -- Assumes nothing.
 use mathlib.Core.Path.{_≡_, refl, sym, ap, subst, _∙_}
 use mathlib.Core.Bool.{Bool, true, false, _&&_, not, cond, true≢false}
@@ -10,18 +11,21 @@ use borrow.Author.Tests.{leb-false, ltb-false}
 use lib.Dec.{leb, ltb}
 use lib.IntN.{ℤ, pos}
 use lib.ListN.{length, getD}
-use Rattle.numbers.proofs.Tabulate.{length-tabulate, tabulate-agree}
+use Rattle.numbers.specs.Lists.{tabulate}
+use Rattle.numbers.proofs.Tabulate.{length-tabulate, tabulate-unique}
 use Rattle.array_spec.specs.Grid.{cellCount, lengthOf, coordinate, moved}
 use Rattle.border.specs.Border.{constant}
 use Rattle.border.specs.declared.PadMode.{PadMode}
-use Rattle.border.specs.declared.PadMode.the-variants.{Constant, Edge, Maximum, Mean, Median, Minimum, Reflect, Symmetric, Wrap}
+use Rattle.border.specs.declared.PadMode.the-variants.{Constant}
 use Rattle.pad_line.specs.Line.{paddedAt}
 use Rattle.pad_line.proofs.Padded.{constant-before, constant-after}
 use Rattle.pad_spec.specs.Levels.{keepsRim, levelTo, ownCells, paddedLevel, paddedGrid, paddedOver}
 use Rattle.pad_spec.specs.Pads.{inMiddle, allFrom, middleFrom, paddedShape}
 use Rattle.pad_spec.proofs.Levels.{level-middle}
+use Rattle.pad_spec.specs.Frame.{middleSet}
 use Rattle.pad.specs.Around.{Around}
-use Rattle.pad.specs.Laid.{laidOver, Started}
+use Rattle.pad.specs.Laid.{laid, Started}
+use Rattle.pad.proofs.Laid.{middle-final, middle-read, middle-kept}
 
 -- a run's last member
 all-last : (t : ℕ → Bool) (a n : ℕ) → allFrom t a (suc n) ≡ allFrom t a n && t (a + n)
@@ -74,69 +78,77 @@ module _ (c : ℤ) (ns lefts : List ℕ) (cells : List ℤ) where
   pub outside-constant : (q : ℕ → ℕ) → middleFrom ns lefts 0 q ≡ false → levelTo (Constant c) ns lefts cells (length ns) q ≡ c
   outside-constant q e = let n : length ns ≡ length ns - 0 = omega arith in outside-from (length ns) (omega arith) q (ap (allFrom (inMiddle ns lefts q) 0) n ∙ e)
 
-  over-constant : (rights : List ℕ) (held : List ℤ) → Around c ns lefts (paddedShape ns lefts rights) held → paddedOver (Constant c) ns lefts rights cells held ≡ paddedGrid (Constant c) ns lefts rights cells
-  unfolding paddedOver paddedGrid
-  over-constant rights held A = tabulate-agree _ (paddedLevel (Constant c) ns lefts rights cells) 0 (cellCount ps) (λ k b. at (0 + k) (less k b) (middleFrom ns lefts 0 (coordinate ps (0 + k))) refl)
+  -- ---- the middle laid over a start
+  module _ (ps : List ℕ) where
+    laid-around : (held : List ℤ) {out : List ℤ} → Around c ns lefts ps held → out ≡ middleSet ns lefts ps cells held → out ≡ laid (Constant c) ns lefts ps cells
+    unfolding laid
+    laid-around held {out} A e =
+        tabulate-unique (pos 0) _ out (cellCount ps) (middle-kept (Constant c) ns lefts ps cells held e (A .count))
+        (λ k b. middle-read (Constant c) ns lefts ps cells held e (A .count) k b ∙ at k b (middleFrom ns lefts 0 (coordinate ps k)) refl)
+      where
+        at : (k : ℕ) → k < cellCount ps → (t : Bool) → middleFrom ns lefts 0 (coordinate ps k) ≡ t → cond t (levelTo (Constant c) ns lefts cells 0 (coordinate ps k)) (getD held k (pos 0))
+            ≡ levelTo (Constant c) ns lefts cells (length ns) (coordinate ps k)
+        at k b true m = middle-final (Constant c) ns lefts ps cells k m
+        at k b false m = A .beside k b m ∙ sym (outside-constant (coordinate ps k) m)
+
+    pub laid-started : (whole : Bool) (held over : List ℤ) {z : ℤ} {out : List ℤ} → z ≡ c → Started whole z ns lefts ps held over → out ≡ middleSet ns lefts ps cells over
+        → out ≡ cond whole (laid (Constant c) ns lefts ps cells) (middleSet ns lefts ps cells held)
+    laid-started true held over q S e = laid-around over (subst (λ (x : ℤ). Around x ns lefts ps over) q S) e
+    laid-started false held over q S e = e ∙ ap (middleSet ns lefts ps cells) S
+
+  over-middle : (rights : List ℕ) (held : List ℤ) → length held ≡ cellCount (paddedShape ns lefts rights)
+      → middleSet ns lefts (paddedShape ns lefts rights) cells held ≡ paddedOver (Constant c) ns lefts rights cells held
+  unfolding paddedOver
+  over-middle rights held h =
+      tabulate-unique (pos 0) _ (middleSet ns lefts ps cells held) (cellCount ps) (middle-kept (Constant c) ns lefts ps cells held refl h)
+      (λ k b. middle-read (Constant c) ns lefts ps cells held refl h k b ∙ at k (middleFrom ns lefts 0 (coordinate ps k)) refl)
     where
       ps : List ℕ
       ps = paddedShape ns lefts rights
 
-      less : (k : ℕ) → k < cellCount ps → 0 + k < cellCount ps
-      less k b = omega arith
+      at : (k : ℕ) (t : Bool) → middleFrom ns lefts 0 (coordinate ps k) ≡ t → cond t (levelTo (Constant c) ns lefts cells 0 (coordinate ps k)) (getD held k (pos 0))
+          ≡ cond (true && not t) (getD held k (pos 0)) (paddedLevel (Constant c) ns lefts rights cells k)
+      at k true m = middle-final (Constant c) ns lefts ps cells k m
+      at k false m = refl
 
-      at : (k : ℕ) → k < cellCount ps → (t : Bool) → middleFrom ns lefts 0 (coordinate ps k) ≡ t
-          → cond (true && not t) (getD held k (pos 0)) (paddedLevel (Constant c) ns lefts rights cells k) ≡ paddedLevel (Constant c) ns lefts rights cells k
-      at k b true m = refl
-      at k b false m = A .beside k b m ∙ sym (outside-constant (coordinate ps k) m)
+-- a start
+module _ (c : ℤ) (ns lefts ps : List ℕ) (held : List ℤ) where
+  pub none-started : (whole : Bool) → not whole ≡ true → Started whole c ns lefts ps held held
+  none-started true e = absurd (true≢false (sym e))
+  none-started false e = refl
 
--- a start that fills nothing: the whole is not asked for, or the mode fills the rim later
-module _ (ns lefts ps : List ℕ) (held : List ℤ) where
-  pub none-started : (whole : Bool) (mode : PadMode) → not whole ≡ true → Started whole mode ns lefts ps held held
-  none-started true mode e = absurd (true≢false (sym e))
-  none-started false mode e = refl
+  pub constant-started : (whole : Bool) {z : ℤ} {out : List ℤ} → not whole ≡ false → z ≡ c → Around z ns lefts ps out → Started whole c ns lefts ps held out
+  constant-started false w q A = absurd (true≢false w)
+  constant-started true {out = out} w q A = subst (λ (x : ℤ). Around x ns lefts ps out) q A
 
-  pub rest-started : (whole : Bool) (mode : PadMode) → keepsRim mode ≡ false → Started whole mode ns lefts ps held held
-  rest-started false mode e = refl
-  rest-started true (Constant c) e = absurd (true≢false e)
-  rest-started true Edge e = refl
-  rest-started true Maximum e = refl
-  rest-started true Mean e = refl
-  rest-started true Median e = refl
-  rest-started true Minimum e = refl
-  rest-started true Reflect e = refl
-  rest-started true Symmetric e = refl
-  rest-started true Wrap e = refl
+-- ---- what the calls promise of a mode, by what it fills a rim with and the frame as it was set
+module _ (ns lefts rights : List ℕ) (cells held : List ℤ) {l p : List ℕ} (e : l ≡ lefts) (f : p ≡ paddedShape ns lefts rights) (whole : Bool) where
+  abbrev asked : PadMode → List ℤ
+  asked mode = cond whole (paddedGrid mode ns lefts rights cells) (paddedOver mode ns lefts rights cells held)
 
-  -- a start that fills the rim
-  pub constant-started : (whole : Bool) (mode : PadMode) {c z : ℤ} {out : List ℤ} → not whole ≡ false → mode ≡ Constant c → z ≡ c → Around z ns lefts ps out → Started whole mode ns lefts ps held out
-  constant-started false mode w e q A = absurd (true≢false w)
-  constant-started true mode {c} {z} {out} w e q A = subst (λ m. Started true m ns lefts ps held out) (sym e) (subst (λ (x : ℤ). Around x ns lefts ps out) q A)
+  laid-whole : (mode : PadMode) → laid mode ns l p cells ≡ paddedGrid mode ns lefts rights cells
+  unfolding laid paddedGrid
+  laid-whole mode = (λ j. laid mode ns (e j) (f j) cells)
 
--- what is laid over a start is the padded grid where the whole is asked for, else what `pad_to` promises
-module _ (ns lefts rights : List ℕ) (cells held : List ℤ) where
-  abbrev asked : Bool → PadMode → List ℤ
-  asked whole mode = cond whole (paddedGrid mode ns lefts rights cells) (paddedOver mode ns lefts rights cells held)
+  pub asked-level : (mode : PadMode) {c z : ℤ} {new : List ℤ} → mode ≡ Constant c → z ≡ c → length held ≡ cellCount p
+      → new ≡ cond whole (laid (Constant z) ns l p cells) (middleSet ns l p cells held) → new ≡ asked mode
+  asked-level mode {c} m q h n =
+      n ∙ (λ j. cond whole (laid (Constant (q j)) ns l p cells) (middleSet ns l p cells held))
+      ∙ (λ j. cond whole (laid-whole (Constant c) j) (over j))
+      ∙ ap asked (sym m)
+    where
+      over : middleSet ns l p cells held ≡ paddedOver (Constant c) ns lefts rights cells held
+      over = (λ j. middleSet ns (e j) (f j) cells held) ∙ over-middle c ns lefts cells rights held (h ∙ ap cellCount f)
 
-  over-started : (whole : Bool) (mode : PadMode) (out : List ℤ) → Started whole mode ns lefts (paddedShape ns lefts rights) held out → paddedOver mode ns lefts rights cells out ≡ asked whole mode
-  unfolding paddedOver paddedGrid
-  over-started false mode out S = ap (paddedOver mode ns lefts rights cells) S
-  over-started true (Constant c) out S = over-constant c ns lefts cells rights out S
-  over-started true Edge out S = refl
-  over-started true Maximum out S = refl
-  over-started true Mean out S = refl
-  over-started true Median out S = refl
-  over-started true Minimum out S = refl
-  over-started true Reflect out S = refl
-  over-started true Symmetric out S = refl
-  over-started true Wrap out S = refl
+  over-filled : (mode : PadMode) → keepsRim mode ≡ false → paddedGrid mode ns lefts rights cells ≡ paddedOver mode ns lefts rights cells held
+  unfolding paddedGrid paddedOver
+  over-filled mode r =
+      let ps = paddedShape ns lefts rights in
+      (λ j. tabulate (λ k. cond (sym r j && not (middleFrom ns lefts 0 (coordinate ps k))) (getD held k (pos 0)) (paddedLevel mode ns lefts rights cells k)) 0 (cellCount ps))
 
-  laid-padded : (mode : PadMode) (out : List ℤ) → laidOver mode ns lefts (paddedShape ns lefts rights) cells out ≡ paddedOver mode ns lefts rights cells out
-  unfolding laidOver paddedOver
-  laid-padded mode out = refl
-
-  -- the same of the frame as it was set
-  pub laid-started : (whole : Bool) (mode : PadMode) {l p : List ℕ} (out : List ℤ) {new : List ℤ} → l ≡ lefts → p ≡ paddedShape ns lefts rights → Started whole mode ns l p held out
-      → new ≡ laidOver mode ns l p cells out → new ≡ asked whole mode
-  laid-started whole mode {l} {p} out {new} e f S q =
-      q ∙ (λ j. laidOver mode ns (e j) (f j) cells out) ∙ laid-padded mode out
-      ∙ over-started whole mode out (subst (λ (x : List ℕ). Started whole mode ns x (paddedShape ns lefts rights) held out) e (subst (λ (x : List ℕ). Started whole mode ns l x held out) f S))
+  pub asked-filled : (mode : PadMode) {other : PadMode} {new : List ℤ} → mode ≡ other → keepsRim mode ≡ false → new ≡ laid other ns l p cells → new ≡ asked mode
+  asked-filled mode m r n = n ∙ ap (λ (x : PadMode). laid x ns l p cells) (sym m) ∙ laid-whole mode ∙ go whole
+    where
+      go : (t : Bool) → paddedGrid mode ns lefts rights cells ≡ cond t (paddedGrid mode ns lefts rights cells) (paddedOver mode ns lefts rights cells held)
+      go true = refl
+      go false = over-filled mode r

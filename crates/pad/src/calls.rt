@@ -1,4 +1,4 @@
-// The two calls: a judge that only returns a number, then the grid laid over what the output holds.
+// The two calls: a judge that only returns a number, then the grid laid in the output.
 ghost use mathlib.Core.Path.{_≡_};
 ghost use mathlib.Core.Bool.{false, cond};
 ghost use lib.ListN.{length};
@@ -6,35 +6,25 @@ ghost use Rattle.numbers.specs.Lists.{anyOf};
 ghost use Rattle.numbers.specs.Refusal.{refusalOf, Answers};
 ghost use Rattle.array_spec.specs.Conditions.{badLevel};
 ghost use Rattle.array_spec.specs.Grid.{cellCount};
+ghost use Rattle.border.specs.declared.PadMode.the-variants.{Constant};
+ghost use Rattle.pad_spec.specs.Fill.{modeAlong, modeTaking};
 ghost use Rattle.pad_spec.specs.Conditions.{padJudged};
-ghost use Rattle.pad_spec.specs.Levels.{keepsRim, paddedGrid, paddedOver};
+ghost use Rattle.pad_spec.specs.Levels.{paddedGrid, paddedOver};
 ghost use Rattle.pad_spec.specs.Pads.{leftsOf, rightsOf};
-ghost use Rattle.pad_spec.specs.Frame.{Framed, Filling};
-ghost use Rattle.pad.specs.Laid.{laidOver, Started};
+ghost use Rattle.pad_spec.specs.Frame.{Framed, Filling, middleSet};
+ghost use Rattle.pad.specs.Laid.{laid, Started};
+use crate::middle::copy_middle;
+use border::Along;
 use border::PadMode;
+use pad_spec::Filler;
 use pad_spec::Pair;
+use pad_spec::Statistic;
 
-// Whether the rim keeps what was lent: under Constant.
-fn keeps_rim(mode: PadMode) -> bool
-    ensures { λ r. ⌜ r ≡ keepsRim mode ⌝ }
-{
-    match mode {
-        PadMode::Constant(_) => true,
-        PadMode::Edge => false,
-        PadMode::Maximum => false,
-        PadMode::Mean => false,
-        PadMode::Median => false,
-        PadMode::Minimum => false,
-        PadMode::Reflect => false,
-        PadMode::Symmetric => false,
-        PadMode::Wrap => false,
-    }
-}
-
-// Where the whole padded grid is asked for, sets every place that is not in its middle to the constant, under Constant.
+// Makes what a grid is laid over under Constant: where the whole padded grid is asked for, every place that is not in
+// its middle is set to the constant.
 fn start(
     whole: bool,
-    mode: PadMode,
+    c: i64,
     cells: usize,
     shape: &[usize],
     lefts: &[usize],
@@ -42,46 +32,66 @@ fn start(
     out: &mut [i64],
 )
     requires { ⌜ Framed (now shape) (now lefts) (now padded) × (cells ≡ cellCount (now shape)) × (length (now out) ≡ cellCount (now padded)) ⌝ }
-    ensures { λ _. ⌜ Started whole mode (now (shape .entry)) (now (lefts .entry)) (now (padded .entry)) (now (out .entry)) (now (out .exit)) ⌝ }
+    ensures { λ _. ⌜ Started whole c (now (shape .entry)) (now (lefts .entry)) (now (padded .entry)) (now (out .entry)) (now (out .exit)) ⌝ }
 {
     if !whole {
         return;
     }
-    match mode {
-        PadMode::Constant(c) => {
-            crate::around::fill_around(c, cells, shape, lefts, padded, out);
-        }
-        PadMode::Edge => {}
-        PadMode::Maximum => {}
-        PadMode::Mean => {}
-        PadMode::Median => {}
-        PadMode::Minimum => {}
-        PadMode::Reflect => {}
-        PadMode::Symmetric => {}
-        PadMode::Wrap => {}
-    }
+    crate::around::fill_around(c, cells, shape, lefts, padded, out);
 }
 
-// Lays a grid over a padded grid, in its middle, and fills the rim unless the mode keeps it.
-fn lay_over(
+// Lays a grid in the middle of a padded grid under Constant: the rim holds the constant where the whole is asked for,
+// else what was lent.
+fn lay_level(
     data: &[i64],
     shape: &[usize],
     lefts: &[usize],
     padded: &[usize],
-    mode: PadMode,
+    c: i64,
+    whole: bool,
     out: &mut [i64],
 )
-    requires { ⌜ Filling mode (now shape) (now lefts) (now padded) × (anyOf badLevel (now «data») ≡ false) × (length (now «data») ≡ cellCount (now shape)) × (length (now out) ≡ cellCount (now padded)) ⌝ }
-    ensures { λ _. ⌜ now (out .exit) ≡ laidOver mode (now (shape .entry)) (now (lefts .entry)) (now (padded .entry)) (now («data» .entry)) (now (out .entry)) ⌝ }
+    requires { ⌜ Framed (now shape) (now lefts) (now padded) × (length (now «data») ≡ cellCount (now shape)) × (length (now out) ≡ cellCount (now padded)) ⌝ }
+    ensures { λ _. ⌜ now (out .exit) ≡ cond whole (laid (Constant c) (now (shape .entry)) (now (lefts .entry)) (now (padded .entry)) (now («data» .entry))) (middleSet (now (shape .entry)) (now (lefts .entry)) (now (padded .entry)) (now («data» .entry)) (now (out .entry))) ⌝ }
 {
-    crate::middle::copy_middle(data, shape, lefts, padded, out);
-    if keeps_rim(mode) {
-        return;
-    }
-    crate::rims::fill_axes(mode, shape, lefts, padded, out);
+    start(whole, c, data.len(), shape, lefts, padded, out);
+    copy_middle(data, shape, lefts, padded, out);
 }
 
-// The same from the pairs of pads, over a start where the whole padded grid is asked for; lefts and padded are buffers, as long as the shape.
+// Lays a grid in the middle of a padded grid, and fills the rims with cells of their lanes.
+fn lay_cells(
+    data: &[i64],
+    shape: &[usize],
+    lefts: &[usize],
+    padded: &[usize],
+    along: Along,
+    out: &mut [i64],
+)
+    requires { ⌜ Filling along (now shape) (now lefts) (now padded) × (anyOf badLevel (now «data») ≡ false) × (length (now «data») ≡ cellCount (now shape)) × (length (now out) ≡ cellCount (now padded)) ⌝ }
+    ensures { λ _. ⌜ now (out .exit) ≡ laid (modeAlong along) (now (shape .entry)) (now (lefts .entry)) (now (padded .entry)) (now («data» .entry)) ⌝ }
+{
+    copy_middle(data, shape, lefts, padded, out);
+    pad_copy::copy_axes(along, shape, lefts, padded, out);
+}
+
+// Lays a grid in the middle of a padded grid, and fills the rims with a statistic of their lanes.
+fn lay_statistic(
+    data: &[i64],
+    shape: &[usize],
+    lefts: &[usize],
+    padded: &[usize],
+    statistic: Statistic,
+    out: &mut [i64],
+)
+    requires { ⌜ Framed (now shape) (now lefts) (now padded) × (anyOf badLevel (now «data») ≡ false) × (length (now «data») ≡ cellCount (now shape)) × (length (now out) ≡ cellCount (now padded)) ⌝ }
+    ensures { λ _. ⌜ now (out .exit) ≡ laid (modeTaking statistic) (now (shape .entry)) (now (lefts .entry)) (now (padded .entry)) (now («data» .entry)) ⌝ }
+{
+    copy_middle(data, shape, lefts, padded, out);
+    crate::rims::fill_levels(statistic, shape, lefts, padded, out);
+}
+
+// Lays a grid in a padded one from the pairs of pads, by what the mode fills a rim with; lefts and padded are
+// buffers, as long as the shape.
 fn lay_in(
     data: &[i64],
     shape: &[usize],
@@ -97,8 +107,12 @@ fn lay_in(
     ensures { λ _. ⌜ now (out .exit) ≡ cond whole (paddedGrid mode (now (shape .entry)) (leftsOf (now (shape .entry)) pads count) (rightsOf (now (shape .entry)) pads count) (now («data» .entry))) (paddedOver mode (now (shape .entry)) (leftsOf (now (shape .entry)) pads count) (rightsOf (now (shape .entry)) pads count) (now («data» .entry)) (now (out .entry))) ⌝ }
 {
     pad_spec::set_frame(shape, pads, count, lefts, padded);
-    start(whole, mode, data.len(), shape, lefts, padded, out);
-    lay_over(data, shape, lefts, padded, mode, out);
+    let filler = pad_spec::filler_of(mode);
+    match filler {
+        Filler::Level(c) => lay_level(data, shape, lefts, padded, c, whole, out),
+        Filler::Cells(along) => lay_cells(data, shape, lefts, padded, along, out),
+        Filler::Statistic(statistic) => lay_statistic(data, shape, lefts, padded, statistic, out),
+    }
 }
 
 // The same with buffers of its own.
@@ -130,8 +144,9 @@ fn lay(
     );
 }
 
-// Pads a grid into a lent output, axis by axis in rising order, later axes reading what earlier ones filled. Under Constant only the middle is
-// written and the rim keeps what was lent; in every other mode nothing lent affects the result.
+// Pads a grid into a lent output, axis by axis in rising order, later axes reading what earlier ones filled. Under
+// Constant only the middle is written and the rim keeps what was lent; in every other mode nothing lent affects the
+// result.
 //
 // * `data` - the cells of the grid.
 // * `shape` - the length of each axis.
@@ -158,7 +173,8 @@ pub fn pad_to(
     numbers::ACCEPTED
 }
 
-// Pads a grid into a lent output as `pad_to` does, and under Constant fills the rim with the constant: nothing lent affects the result.
+// Pads a grid into a lent output as `pad_to` does, and under Constant fills the rim with the constant: nothing lent
+// affects the result.
 //
 // * `data` - the cells of the grid.
 // * `shape` - the length of each axis.
@@ -166,7 +182,8 @@ pub fn pad_to(
 // * `mode` - the padding mode.
 // * `out` - the lent output, as many cells as the padded grid.
 //
-// Refuses: 1, 2, 3, 9, 10, 11, 12. Of 1 2 3 with pads of 2: Edge gives 1 1 1 2 3 3 3, Reflect 3 2 1 2 3 2 1, Constant(7) 7 7 1 2 3 7 7.
+// Refuses: 1, 2, 3, 9, 10, 11, 12.
+// Of 1 2 3 with pads of 2: Edge gives 1 1 1 2 3 3 3, Reflect 3 2 1 2 3 2 1, Constant(7) 7 7 1 2 3 7 7.
 pub fn pad(
     data: &[i64],
     shape: &[usize],

@@ -1,39 +1,30 @@
 -- An axis whose rims are copied: the padded grid is blocks of runs, and where the places in the middle from the axis on hold their levels, both rims
 -- filled give every place in the middle from the next axis on its level, whatever the other places hold.
 -- Assumes nothing.
-use mathlib.Core.Path.{_≡_, refl, sym, ap, _∙_}
-use mathlib.Core.Bool.{false}
-use mathlib.Core.List.{List, []}
+use mathlib.Core.Path.{_≡_, sym, ap, _∙_}
+use mathlib.Core.List.{List}
 use Prim.Native.Nat.{ℕ, suc, _+_, _-_, _*_, _/_, _%_, _≤_, _<_}
 use native.Mathlib.Nat.{mul-pos, mul-div-cancel, mul-le-mul, le-refl}
 use native.Mathlib.Omega.{arith}
 use lib.IntN.{ℤ, pos}
 use lib.ListN.{length, getD}
 use Rattle.numbers.proofs.Tabulate.{length-tabulate, getD-tabulate}
-use Rattle.array_spec.specs.Grid.{cellCount, lengthOf, strideOf, coordinate}
+use Rattle.array_spec.specs.Grid.{cellCount, lengthOf, strideOf}
 use Rattle.array_spec.proofs.Places.{length-pos}
 use Rattle.array_spec.proofs.Strides.{outerOf, outer-pos, count-split}
 use Rattle.lanes.specs.Lanes.{laneOf}
-use Rattle.border.specs.Border.{along}
 use Rattle.border.specs.declared.Along.{Along}
-use Rattle.border.specs.declared.Along.the-variants.{Nearest, Mirror, Reflect, Wrap}
-use Rattle.pad_line.specs.Line.{paddedAt}
-use Rattle.border.specs.Reach.{badAlong, badPad}
-use Rattle.pad_spec.specs.Fill.{rimOf}
+use Rattle.pad_line.specs.Line.{paddedAt, badAlong}
+use Rattle.pad_spec.specs.Fill.{rimOf, modeAlong}
+use Rattle.pad_spec.proofs.Fillers.{rim-along}
 use Rattle.pad_spec.proofs.Rims.{ownOf}
 use Rattle.pad_spec.proofs.Axis.{final-lane}
 use Rattle.pad_spec.specs.Frame.{Framed, Filling}
 use Rattle.pad_spec.specs.Filled.{Fills}
-use Rattle.pad_spec.specs.Runs.{modeAlong, Runs, extendedAt, axisSet}
+use Rattle.pad_spec.specs.Runs.{Runs, extendedAt, axisSet}
 use Rattle.pad_spec.proofs.Room.{grid-accepted, padded-full, frame, axis-length, axis-stride}
 
-rim-along : (m : Along) (s : List ℤ) → rimOf (modeAlong m) s ≡ along m
-rim-along Nearest s = refl
-rim-along Mirror s = refl
-rim-along Reflect s = refl
-rim-along Wrap s = refl
-
-module _ (m : Along) {ns lefts ps : List ℕ} (G : Filling (modeAlong m) ns lefts ps) {a p n s len : ℕ} (h : a < length ns) (e : p ≡ lengthOf ps a) (f : n ≡ lengthOf ns a) (g : s ≡ strideOf ps a)
+module _ (m : Along) {ns lefts ps : List ℕ} (G : Filling m ns lefts ps) {a p n s len : ℕ} (h : a < length ns) (e : p ≡ lengthOf ps a) (f : n ≡ lengthOf ns a) (g : s ≡ strideOf ps a)
     (k : len ≡ cellCount ps) where
   F : Framed ns lefts ps
   F = G .framed
@@ -56,10 +47,8 @@ module _ (m : Along) {ns lefts ps : List ℕ} (G : Filling (modeAlong m) ns left
     short = omega (arith, e, F .short a);
     whole = whole;
     small = omega (arith, k, F .small);
-    fills-left = (λ j. badAlong m (f j) (getD lefts a 0)) ∙ sym (ap (λ r. badPad r (lengthOf ns a) (getD lefts a 0)) (rim-along m [])) ∙ G .fills-left a h;
-    fills-right =
-        (λ j. badAlong m (f j) (e j - (getD lefts a 0 + f j)))
-        ∙ sym (ap (λ r. badPad r (lengthOf ns a) (lengthOf ps a - (getD lefts a 0 + lengthOf ns a))) (rim-along m [])) ∙ G .fills-right a h;
+    fills-left = (λ j. badAlong m (f j) (getD lefts a 0)) ∙ G .fills-left a h;
+    fills-right = (λ j. badAlong m (f j) (e j - (getD lefts a 0 + f j))) ∙ G .fills-right a h;
   }
     where
       blocks : len ≡ outerOf ps a * (p * s)

@@ -1,12 +1,14 @@
-// The rims under the modes that copy cells: Edge, Reflect, Symmetric and Wrap. Of each axis some blocks are filled at a time. Lent cells are
-// copied too, onto places that are not in the middle on a later axis: filling that axis overwrites them.
+// The rims under the modes that copy cells: Edge, Reflect, Symmetric and Wrap. Of each axis some blocks are filled at a
+// time. Lent cells are copied too, onto places that are not in the middle on a later axis: filling that axis
+// overwrites them.
 ghost use mathlib.Core.Path.{_≡_};
 ghost use Prim.Native.Nat.{suc, _≤_, _<_};
 ghost use lib.ListN.{length};
 ghost use Rattle.array_spec.specs.Grid.{cellCount};
+ghost use Rattle.pad_spec.specs.Fill.{modeAlong};
 ghost use Rattle.pad_spec.specs.Filled.{Fills};
 ghost use Rattle.pad_spec.specs.Frame.{Filling};
-ghost use Rattle.pad_spec.specs.Runs.{modeAlong, Runs, axisSet};
+ghost use Rattle.pad_spec.specs.Runs.{Runs, axisSet};
 use crate::rims::copy_rims;
 use border::Along;
 
@@ -55,7 +57,8 @@ fn copy_blocks(
     }
 }
 
-// Fills an axis: the places that are in the middle on every later axis then hold their levels, where those in the middle on this one too held them.
+// Fills an axis: the places that are in the middle on every later axis then hold their levels, where those in the
+// middle on this one too held them.
 fn copy_axis(
     mode: Along,
     shape: &[usize],
@@ -64,7 +67,7 @@ fn copy_axis(
     axis: usize,
     out: &mut [i64],
 )
-    requires { ⌜ Filling (modeAlong mode) (now shape) (now lefts) (now padded) × (axis < length (now shape)) × (length (now out) ≡ cellCount (now padded)) ⌝ }
+    requires { ⌜ Filling mode (now shape) (now lefts) (now padded) × (axis < length (now shape)) × (length (now out) ≡ cellCount (now padded)) ⌝ }
     ensures { λ _. ⌜ Fills (modeAlong mode) (now (shape .entry)) (now (lefts .entry)) (now (padded .entry)) axis (suc axis) (now (out .entry)) (now (out .exit)) ⌝ }
 {
     let p = array::len_of(padded, axis);
@@ -85,7 +88,7 @@ fn copy_axis(
 //
 // Supposes `Filling`, and refuses nothing. Of 9 1 2 8 with 1 2 in the middle, under Wrap: 2 1 2 1.
 pub fn copy_axes(mode: Along, shape: &[usize], lefts: &[usize], padded: &[usize], out: &mut [i64])
-    requires { ⌜ Filling (modeAlong mode) (now shape) (now lefts) (now padded) × (length (now out) ≡ cellCount (now padded)) ⌝ }
+    requires { ⌜ Filling mode (now shape) (now lefts) (now padded) × (length (now out) ≡ cellCount (now padded)) ⌝ }
     ensures { λ _. ⌜ Fills (modeAlong mode) (now (shape .entry)) (now (lefts .entry)) (now (padded .entry)) 0 (length (now (shape .entry))) (now (out .entry)) (now (out .exit)) ⌝ }
 {
     let mut axis = 0;

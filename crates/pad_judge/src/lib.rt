@@ -1,7 +1,9 @@
-// Conditions 9 and 11 on the pads of a grid, and the judge of `pad` and `pad_to`: what both refuse, before anything is stored. Condition 10 is `padded_count`'s.
+// Conditions 9 and 11 on the pads of a grid, and the judge of `pad` and `pad_to`: what both refuse, before anything
+// is stored. Condition 10 is `padded_count`'s.
 ghost use mathlib.Core.Path.{_≡_};
 ghost use Rattle.numbers.specs.Refusal.{refusalOf};
 ghost use Rattle.pad_spec.specs.Conditions.{badConstant, badReachOn, badReach, padJudged};
+use pad_spec::Filler;
 use pad_spec::Pair;
 use pad_spec::pair_of;
 
@@ -11,16 +13,11 @@ mod count;
 fn bad_constant(mode: border::PadMode) -> bool
     ensures { λ r. ⌜ r ≡ badConstant mode ⌝ }
 {
-    match mode {
-        border::PadMode::Constant(t) => array::bad_level(t),
-        border::PadMode::Edge => false,
-        border::PadMode::Maximum => false,
-        border::PadMode::Mean => false,
-        border::PadMode::Median => false,
-        border::PadMode::Minimum => false,
-        border::PadMode::Reflect => false,
-        border::PadMode::Symmetric => false,
-        border::PadMode::Wrap => false,
+    let filler = pad_spec::filler_of(mode);
+    match filler {
+        Filler::Level(t) => array::bad_level(t),
+        Filler::Cells(_) => false,
+        Filler::Statistic(_) => false,
     }
 }
 

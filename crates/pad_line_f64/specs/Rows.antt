@@ -11,8 +11,7 @@ use Rattle.numbers.specs.Windows.{windowOf}
 use Rattle.border.specs.Modes.{borderOfF64}
 use Rattle.border.specs.declared.BorderModeF64.{BorderModeF64}
 use Rattle.border.specs.declared.BorderModeF64.the-variants as F64
-use Rattle.pad_line.specs.Line.{paddedLine, paddedLane}
-use Rattle.border.specs.Reach.{badPad}
+use Rattle.pad_line.specs.Line.{paddedLine, badPad}
 
 abbrev pub padded : BorderModeF64 → ℕ → ℕ → List Float → List Float
 padded m left right s = paddedLine nan (borderOfF64 m) left right s
@@ -33,9 +32,6 @@ pub record PadLineF64Rows : Type 0 where
   pub bad-reflect : bad F64.Reflect 3 (3 ∷ 4 ∷ []) ≡ false ∷ true ∷ []
   pub bad-wrap : bad F64.Wrap 3 (3 ∷ 4 ∷ []) ≡ false ∷ true ∷ []
   pub bad-nearest : bad F64.Nearest 3 (64 ∷ []) ≡ false ∷ []
-  -- lane 1 of two cells, 2 apart: padded, and a line that stays where Mirror cannot fill the pad
-  pub down-wrap : (x y z t : Float) → paddedLane nan (borderOfF64 F64.Wrap) 2 2 1 1 0 (x ∷ y ∷ z ∷ t ∷ []) (x ∷ x ∷ x ∷ z ∷ []) ≡ t ∷ y ∷ t ∷ z ∷ []
-  pub down-bad : (x y z t : Float) → paddedLane nan (borderOfF64 F64.Mirror) 2 2 1 2 0 (x ∷ y ∷ z ∷ t ∷ []) (x ∷ x ∷ x ∷ z ∷ []) ≡ x ∷ x ∷ x ∷ z ∷ []
   -- a window that ends with the line, and one that passes its end
   pub last-window : (x y z : Float) → windowOf (x ∷ y ∷ z ∷ []) 1 2 ≡ y ∷ z ∷ []
   pub past-window : (x y z : Float) → windowOf (x ∷ y ∷ z ∷ []) 2 2 ≡ []

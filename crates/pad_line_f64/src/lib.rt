@@ -1,4 +1,4 @@
-// The float twin of `pad_line`: a lane of floats read into a lent line and extended in place, and condition 11.
+// The float twin of `pad_line`: a lane of floats read into a lent line and extended in place.
 ghost use mathlib.Core.Path.{_≡_};
 ghost use mathlib.Core.List.{_++_};
 ghost use Prim.Native.Nat.{_+_};
@@ -6,30 +6,11 @@ ghost use lib.Ieee.{nan};
 ghost use lib.ListN.{drop};
 ghost use Rattle.lanes.specs.Lanes.{laneAt};
 ghost use Rattle.border.specs.Modes.{borderOfF64};
-ghost use Rattle.pad_line.specs.Line.{paddedLine, paddedLane, Padding};
-ghost use Rattle.border.specs.Reach.{badPad};
+ghost use Rattle.pad_line.specs.Line.{paddedLine, Padding};
 ghost use Rattle.pad_line_f64.specs.Rows.{PadLineF64Rows};
 use border::BorderModeF64;
 
 mod extension;
-
-// As `pad_line::bad_pad`, of a float border.
-pub fn bad_pad_f64(mode: BorderModeF64, n: usize, pad: usize) -> bool
-    ensures { λ r. ⌜ r ≡ badPad (borderOfF64 mode) n pad ⌝ }
-{
-    match mode {
-        BorderModeF64::Constant(_) => false,
-        BorderModeF64::Mirror => {
-            if n < 1 {
-                return 0 < pad;
-            }
-            n - 1 < pad
-        }
-        BorderModeF64::Nearest => false,
-        BorderModeF64::Reflect => n < pad,
-        BorderModeF64::Wrap => n < pad,
-    }
-}
 
 // As `pad_line::pad_from`, of float levels.
 pub fn pad_from_f64(
@@ -50,33 +31,7 @@ pub fn pad_from_f64(
     extension::extend_f64(mode, left, n, right, line);
 }
 
-// As `pad_line::pad_lane`, of float levels.
-pub fn pad_lane_f64(
-    grid: &[f64],
-    stride: usize,
-    lane: usize,
-    n: usize,
-    mode: BorderModeF64,
-    left: usize,
-    right: usize,
-    line: &mut [f64],
-)
-    ensures { λ _. ⌜ now (line .exit) ≡ paddedLane nan (borderOfF64 mode) n stride lane left right (now (grid .entry)) (now (line .entry)) ⌝ }
-{
-    if bad_pad_f64(mode, n, left) {
-        return;
-    }
-    if bad_pad_f64(mode, n, right) {
-        return;
-    }
-    if !pad_line::lane_fits(grid.len(), stride, lane, n, left, right, line.len()) {
-        return;
-    }
-    let base = lanes::first_place(grid.len(), n, stride, lane);
-    pad_from_f64(grid, base, stride, n, mode, left, right, line);
-}
-
-// Worked rows on floats of `pad_line`'s definitions: T1 on any three floats, condition 11, a window, and a line that stays. Refuses nothing.
+// Worked rows on floats of `pad_line`'s definitions: T1 on any three floats, condition 11, a window. Refuses nothing.
 pub fn rows()
     ensures { λ _. ⌜ PadLineF64Rows ⌝ }
 {}

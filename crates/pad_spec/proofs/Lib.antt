@@ -1,4 +1,5 @@
--- Laws of lanes padded in place that belong to no one function.
+-- Laws of what fills a lane's rims, and of lanes padded in place, that belong to no one function.
+pub mod Fillers
 pub mod Rims
 pub mod Serves
 pub mod PairOf

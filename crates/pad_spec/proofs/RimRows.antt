@@ -13,6 +13,7 @@ use Rattle.pad_line.specs.Line.{paddedAt, paddedLine}
 use Rattle.statistics_spec.specs.Sorting.{inserted, sorted}
 use Rattle.statistics_spec.specs.Statistics.{meanOf, medianOf, unserved}
 use Rattle.pad_spec.specs.Fill.{rimOf, laneServes, filledLane}
+use Rattle.pad_spec.proofs.Fillers.{filler-along, filler-taking}
 use Rattle.pad_spec.specs.RimRows.{RimRows}
 
 modes : (m : BorderMode) (s : List ℤ) → rimOf (padModeOf m) s ≡ borderOf m
@@ -29,13 +30,19 @@ rim-rows = record {
   median = refl;
   median-below = refl;
   mean-below = refl;
-  down-constant = refl;
-  down-edge = refl;
+  maximum = refl;
+  minimum = refl;
+  along-mode = filler-along;
+  taking-mode = filler-taking;
+  carried = refl;
+  mean-far = refl;
+  median-far = refl;
+  maximum-far = refl;
+  minimum-far = refl;
   down-mean = refl;
   down-maximum = refl;
   down-minimum = refl;
-  down-reflect = refl;
-  down-symmetric = refl;
-  down-wrap = refl;
-  down-refused = refl;
+  down-median = refl;
+  down-past = refl;
+  down-none = refl;
 }

@@ -10,17 +10,15 @@ use borrow.Author.Tests.{lt-ltb, le-ltb, ltb-true, ltb-false, eqb-true}
 use lib.Dec.{ltb, eqb}
 use lib.ListN.{length, getD, take, drop, set, length-take, length-drop}
 use lib.Seq.{getD-take, getD-drop, ext-getD}
-use Rattle.numbers.specs.Lists.{tabulate}
 use Rattle.numbers.proofs.Stored.{Stored, stored-none, stored-one, stored-then, stored-table, stored-agree}
 use Rattle.numbers.proofs.Tabulate.{tabulate-agree}
 use Rattle.numbers.proofs.Tests.{ltb-more}
 use Rattle.lanes.specs.Lanes.{laneOf, laneBase, laneInside, lane, withLane}
 use Rattle.lanes.proofs.Cells.{Inside, lane-inside, inside-whole, index-in, length-laneAt, getD-laneAt, same-cell, place-of-cell, cell-of-lane}
 use Rattle.lanes.proofs.Stores.{onLane}
-use Rattle.border.specs.Border.{Border, constant, along, cellBefore, cellAfter}
-use Rattle.border.specs.declared.Along.{Along}
+use Rattle.border.specs.Border.{Border, constant}
 use Rattle.pad_line.specs.Line.{paddedAt, paddedLine}
-use Rattle.pad_line.proofs.Padded.{padded-inside, padded-before, padded-after, constant-before, constant-after, getD-padded}
+use Rattle.pad_line.proofs.Padded.{padded-inside, constant-before, constant-after, getD-padded}
 
 -- the lane's own cells
 abbrev pub ownOf : {A : Type 0} → A → ℕ → ℕ → ℕ → ℕ → ℕ → List A → List A
@@ -178,7 +176,7 @@ module _ {A : Type 0} {d : A} {b : Border A} {p s l left n : ℕ} {g₀ g : List
           whole true q = q
           whole false q = refl
 
--- ---- one place more, of either rim: the constant, or cell r of the lane
+-- ---- one place more, of either rim, where both hold one level
 module _ {A : Type 0} {d c : A} {p s l left n : ℕ} {g₀ g : List A} {k at : ℕ} (F : Filled d (constant c) p s l left n g₀ g k)
     (inside : laneInside p s l (length g₀) ≡ true) (e : at ≡ laneBase p s l) (room : left + n ≤ p) where
   pub before-constant : (v : A) → k < left → v ≡ c → Filled d (constant c) p s l left n g₀ (set g (at + k * s) v) (k + 1)
@@ -186,21 +184,3 @@ module _ {A : Type 0} {d c : A} {p s l left n : ℕ} {g₀ g : List A} {k at : �
 
   pub after-constant : (v : A) → left + n ≤ k → k < p → v ≡ c → Filled d (constant c) p s l left n g₀ (set g (at + k * s) v) (k + 1)
   after-constant v h b q = more F inside e v b (q ∙ constant-after d left (ownOf d p s l left n g₀) c k (omega (arith, length-own d p s l left n g₀ room)))
-
-module _ {A : Type 0} {d : A} {m : Along} {p s l left n : ℕ} {g₀ g : List A} {k at : ℕ} (F : Filled d (along m) p s l left n g₀ g k)
-    (inside : laneInside p s l (length g₀) ≡ true) (e : at ≡ laneBase p s l) (room : left + n ≤ p) where
-  pub before-more : {r : ℕ} (v : A) → k < left → r ≡ cellBefore m n (left - k) → r < n → v ≡ getD g (at + (left + r) * s) d
-      → Filled d (along m) p s l left n g₀ (set g (at + k * s) v) (k + 1)
-  before-more {r} v h q b u =
-      more F inside e v (omega arith)
-      (u ∙ own-kept F inside e room r b ∙ (λ j. getD (ownOf d p s l left n g₀) (q j) d)
-      ∙ ap (λ (j : ℕ). getD (ownOf d p s l left n g₀) (cellBefore m j (left - k)) d) (sym (length-own d p s l left n g₀ room))
-      ∙ sym (padded-before d left (ownOf d p s l left n g₀) m k h))
-
-  pub after-more : {r : ℕ} (v : A) → left + n ≤ k → k < p → r ≡ cellAfter m n (k + 1 - (left + n)) → r < n → v ≡ getD g (at + (left + r) * s) d
-      → Filled d (along m) p s l left n g₀ (set g (at + k * s) v) (k + 1)
-  after-more {r} v h f q b u =
-      more F inside e v f
-      (u ∙ own-kept F inside e room r b ∙ (λ j. getD (ownOf d p s l left n g₀) (q j) d)
-      ∙ ap (λ (j : ℕ). getD (ownOf d p s l left n g₀) (cellAfter m j (k + 1 - (left + j))) d) (sym (length-own d p s l left n g₀ room))
-      ∙ sym (padded-after d left (ownOf d p s l left n g₀) m k (omega (arith, length-own d p s l left n g₀ room))))

@@ -1,8 +1,8 @@
 -- Where a lane is padded and where the grid stays as it was, by the answers of the tests.
 -- Assumes nothing.
 use mathlib.Core.Path.{_≡_, refl, sym, ap, _∙_}
-use mathlib.Core.Bool.{Bool, true, false, _&&_, not, cond, true≢false}
-use mathlib.Core.List.{List, []}
+use mathlib.Core.Bool.{Bool, true, false, _&&_, not, true≢false}
+use mathlib.Core.List.{List}
 use Prim.Native.Nat.{ℕ, _+_, _-_, _*_, _≤_, _<_}
 use native.Mathlib.Nat.{mul-one}
 use native.Mathlib.Omega.{arith}
@@ -14,19 +14,16 @@ use lib.Seq.{getD-take, getD-drop, ext-getD}
 use Rattle.numbers.proofs.Tests.{and-true, cond-yes, cond-no}
 use Rattle.lanes.specs.Lanes.{lane, laneBase, laneInside, withLane, readLane}
 use Rattle.lanes.proofs.Cells.{lane-inside, inside-whole}
-use Rattle.border.specs.declared.PadMode.{PadMode}
+use Rattle.border.specs.Border.{constant}
 use Rattle.pad_line.specs.Line.{paddedLine}
-use Rattle.border.specs.Reach.{badPad}
-use Rattle.pad_spec.specs.Fill.{rimOf, answeredRim, laneServes, filledLane}
+use Rattle.pad_spec.specs.Fill.{statisticOf, laneServes, filledLane}
+use Rattle.pad_spec.specs.declared.rim.Statistic.{Statistic}
 use Rattle.pad_spec.proofs.Rims.{ownOf, length-own, getD-own}
 
-pub record Serving (mode : PadMode) (p s l count left n : ℕ) : Type 0 where
+pub record Serving (p s l count left n : ℕ) : Type 0 where
   pub inside : laneInside p s l count ≡ true
   pub short : p ≤ 1152
-  pub some : 0 < n
   pub room : left + n ≤ p
-  pub fills-left : badPad (rimOf mode []) n left ≡ false
-  pub fills-right : badPad (rimOf mode []) n (p - (left + n)) ≡ false
 
 not-true : (t : Bool) → not t ≡ true → t ≡ false
 not-true true e = absurd (true≢false (sym e))
@@ -36,39 +33,32 @@ not-no : (t : Bool) → not t ≡ false → t ≡ true
 not-no true e = refl
 not-no false e = absurd (true≢false e)
 
-pub serving : (mode : PadMode) (p s l count left n : ℕ) → laneServes mode p s l count left n ≡ true → Serving mode p s l count left n
+pub serving : (p s l count left n : ℕ) → laneServes p s l count left n ≡ true → Serving p s l count left n
 unfolding laneServes
-serving mode p s l count left n e =
-    let b = badPad (rimOf mode []) n left in
-    let r = badPad (rimOf mode []) n (p - (left + n)) in
+serving p s l count left n e =
     let i = laneInside p s l count in
-    let t₁ = and-true (i && leb p 1152 && leb 1 n && leb (left + n) p && not b) (not r) e in
-    let t₂ = and-true (i && leb p 1152 && leb 1 n && leb (left + n) p) (not b) (t₁ .0) in
-    let t₃ = and-true (i && leb p 1152 && leb 1 n) (leb (left + n) p) (t₂ .0) in
-    let t₄ = and-true (i && leb p 1152) (leb 1 n) (t₃ .0) in
-    let t₅ = and-true i (leb p 1152) (t₄ .0) in record {
-      inside = t₅ .0;
-      short = leb-true p 1152 (t₅ .1);
-      some = leb-true 1 n (t₄ .1);
-      room = leb-true (left + n) p (t₃ .1);
-      fills-left = not-true b (t₂ .1);
-      fills-right = not-true r (t₁ .1);
+    let t = and-true (i && leb p 1152 && leb 1 n) (leb (left + n) p) e in
+    let u = and-true (i && leb p 1152) (leb 1 n) (t .0) in
+    let v = and-true i (leb p 1152) (u .0) in record {
+      inside = v .0;
+      short = leb-true p 1152 (v .1);
+      room = leb-true (left + n) p (t .1);
     }
 
 -- what a call leaves, where the lane is not served and where it is
-module _ (mode : PadMode) (p s l left n : ℕ) (g : List ℤ) {t : Bool} (e : t ≡ laneServes mode p s l (length g) left n) where
-  pub lane-stays : not t ≡ true → g ≡ filledLane mode p s l left n g
+module _ (which : Statistic) (p s l left n : ℕ) (g : List ℤ) {t : Bool} (e : t ≡ laneServes p s l (length g) left n) where
+  pub lane-stays : not t ≡ true → g ≡ filledLane which p s l left n g
   unfolding filledLane
-  lane-stays q = sym (cond-no (laneServes mode p s l (length g) left n) _ g (sym e ∙ not-true t q))
+  lane-stays q = sym (cond-no (laneServes p s l (length g) left n) _ g (sym e ∙ not-true t q))
 
-  pub lane-served : not t ≡ false → Serving mode p s l (length g) left n
-  lane-served q = serving mode p s l (length g) left n (sym e ∙ not-no t q)
+  pub lane-served : not t ≡ false → Serving p s l (length g) left n
+  lane-served q = serving p s l (length g) left n (sym e ∙ not-no t q)
 
   pub lane-filled : {h : List ℤ} → not t ≡ false
-      → h ≡ withLane (pos 0) p s l (paddedLine (pos 0) (answeredRim mode (ownOf (pos 0) p s l left n g)) left (p - (left + n)) (ownOf (pos 0) p s l left n g)) g
-      → h ≡ filledLane mode p s l left n g
+      → h ≡ withLane (pos 0) p s l (paddedLine (pos 0) (constant (statisticOf which (ownOf (pos 0) p s l left n g))) left (p - (left + n)) (ownOf (pos 0) p s l left n g)) g
+      → h ≡ filledLane which p s l left n g
   unfolding filledLane
-  lane-filled q u = u ∙ sym (cond-yes (laneServes mode p s l (length g) left n) _ g (sym e ∙ not-no t q))
+  lane-filled q u = u ∙ sym (cond-yes (laneServes p s l (length g) left n) _ g (sym e ∙ not-no t q))
 
 -- ---- the lane's own cells as a part of the line that the lane was read into
 pub own-read : (s l left n : ℕ) (g held : List ℤ) {line : List ℤ} → line ≡ readLane (pos 0) s l g held → laneInside (length held) s l (length g) ≡ true

@@ -24,7 +24,11 @@ use Rattle.border.specs.declared.PadMode.the-variants.{Constant, Edge, Maximum,
 use Rattle.pad_line.proofs.Sizes.{SizedBorder, padded-sized}
 use Rattle.statistics_spec.specs.Statistics.{ranked}
 use Rattle.statistics_spec.proofs.Sizes.{size-minimum, size-maximum, size-mean, size-ranked, size-median}
-use Rattle.pad_spec.specs.Fill.{rimOf}
+use Rattle.pad_spec.specs.Fill.{fillerOf, levelOf, borderBy, rimOf, carries}
+use Rattle.pad_spec.specs.declared.rim.Filler.{Filler}
+use Rattle.pad_spec.specs.declared.rim.Filler.the-variants as Filler
+use Rattle.pad_spec.specs.declared.rim.Statistic.{Statistic}
+use Rattle.pad_spec.specs.declared.rim.Statistic.the-variants as Statistic
 use Rattle.pad_spec.specs.Conditions.{badConstant, badSum, badSums}
 use Rattle.pad_spec.specs.Levels.{levelTo, ownCells}
 use Rattle.pad_spec.specs.Pads.{leftsOf, rightsOf, paddedShape, middleFrom}
@@ -35,17 +39,17 @@ abbrev pub limit : ℕ
 limit = 2147483647
 
 -- ---- the level of a lane that is extended
-rim-sized : (mode : PadMode) → badConstant mode ≡ false → (s : List ℤ) → Sized limit s → SizedBorder limit (rimOf mode s)
+level-sized : (which : Statistic) (s : List ℤ) → Sized limit s → Size (levelOf which s) limit
+level-sized Statistic.Maximum s h = size-maximum limit s h
+level-sized Statistic.Mean s h = size-mean limit s h
+level-sized Statistic.Median s h = size-median limit s h
+level-sized Statistic.Minimum s h = size-minimum limit s h
+
+rim-sized : (f : Filler) → carries badLevel f ≡ false → (s : List ℤ) → Sized limit s → SizedBorder limit (borderBy f s)
 unfolding badLevel
-rim-sized (Constant c) e s h = size-inside limit c e
-rim-sized Edge e s h = tt
-rim-sized Maximum e s h = size-maximum limit s h
-rim-sized Mean e s h = size-mean limit s h
-rim-sized Median e s h = size-median limit s h
-rim-sized Minimum e s h = size-minimum limit s h
-rim-sized Reflect e s h = tt
-rim-sized Symmetric e s h = tt
-rim-sized Wrap e s h = tt
+rim-sized (Filler.Level c) e s h = size-inside limit c e
+rim-sized (Filler.Cells m) e s h = tt
+rim-sized (Filler.Statistic which) e s h = level-sized which s h
 
 module _ (mode : PadMode) (ns lefts : List ℕ) (cells : List ℤ) (c : badConstant mode ≡ false) (h : Sized limit cells) where
   pub size-level : (d : ℕ) (q : ℕ → ℕ) → Size (levelTo mode ns lefts cells d q) limit
@@ -54,7 +58,7 @@ module _ (mode : PadMode) (ns lefts : List ℕ) (cells : List ℤ) (c : badConst
   size-level (suc d) q =
       let own = ownCells mode ns lefts cells d q in
       let s = every-table (λ x. Size x limit) (λ i. levelTo mode ns lefts cells d (moved d (getD lefts d 0 + i) q)) 0 (lengthOf ns d) (λ i. size-level d (moved d (getD lefts d 0 + i) q)) in
-      padded-sized limit (rimOf mode own) (rim-sized mode c own s) (getD lefts d 0) own s (q d)
+      padded-sized limit (rimOf mode own) (rim-sized (fillerOf mode) c own s) (getD lefts d 0) own s (q d)
 
   pub size-own : (d : ℕ) (q : ℕ → ℕ) → Sized limit (ownCells mode ns lefts cells d q)
   size-own d q = every-table (λ x. Size x limit) (λ i. levelTo mode ns lefts cells d (moved d (getD lefts d 0 + i) q)) 0 (lengthOf ns d) (λ i. size-level d (moved d (getD lefts d 0 + i) q))

@@ -26,21 +26,13 @@ use Rattle.border.specs.declared.PadMode.{PadMode}
 use Rattle.border.specs.declared.PadMode.the-variants.{Constant, Edge, Maximum, Mean, Median, Minimum, Reflect, Symmetric, Wrap}
 use Rattle.border.specs.Reach.{badPad}
 use Rattle.statistics_spec.specs.Statistics.{ranked}
-use Rattle.pad_spec.specs.Fill.{rimOf}
+use Rattle.pad_spec.specs.Fill.{fillerOf, rimOf, carries}
 use Rattle.pad_spec.specs.Levels.{ownCells}
 use Rattle.pad_spec.specs.Pads.{pairOf, leftsOf, rightsOf, paddedShape, middleFrom}
 use Rattle.pad_spec.specs.declared.pairs.Pair.{Pair}
 
 abbrev pub badConstant : PadMode → Bool
-badConstant (Constant c) = badLevel c
-badConstant Edge = false
-badConstant Maximum = false
-badConstant Mean = false
-badConstant Median = false
-badConstant Minimum = false
-badConstant Reflect = false
-badConstant Symmetric = false
-badConstant Wrap = false
+badConstant mode = carries badLevel (fillerOf mode)
 
 abbrev pub badCount : List ℕ → ℕ → Bool
 badCount ns count = not (eqb count 1 || eqb count (length ns))

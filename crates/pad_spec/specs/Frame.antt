@@ -1,6 +1,6 @@
 -- A grid of shape ns inside a padded grid of shape ps, lefts cells from its start on each axis; its own cells stand in the middle.
 --   Framed ns lefts ps              the grid has room in the padded one
---   Filling mode ns lefts ps        and the mode fills both rims of every axis
+--   Filling m ns lefts ps           and cells of a lane along m fill both rims of every axis
 --   targetOf ns lefts ps k          the place in the padded grid of the cell at place k
 --   rowLength ns                    the length of the last axis, along which a grid's cells stand side by side
 --   rowSet cells from n at held     held with n of the cells, those from place from on, stored from place at on
@@ -8,17 +8,15 @@
 use Prim.Native.Nat.{ℕ, _+_, _-_, _≤_, _<_}
 use mathlib.Core.Path.{_≡_}
 use mathlib.Core.Bool.{false, _&&_, cond}
-use mathlib.Core.List.{List, []}
+use mathlib.Core.List.{List}
 use lib.Dec.{leb, ltb}
 use lib.IntN.{ℤ, pos}
 use lib.ListN.{length, getD}
 use Rattle.numbers.specs.Lists.{tabulate}
 use Rattle.array_spec.specs.Conditions.{badShape}
 use Rattle.array_spec.specs.Grid.{cellCount, lengthOf, placeOf, coordinate, levelAt}
-use Rattle.border.specs.declared.PadMode.{PadMode}
-use Rattle.border.specs.Reach.{badPad}
-use Rattle.pad_spec.specs.Fill.{rimOf}
-use Rattle.pad_spec.specs.Conditions.{badConstant}
+use Rattle.border.specs.declared.Along.{Along}
+use Rattle.pad_line.specs.Line.{badAlong}
 use Rattle.pad_spec.specs.Pads.{middleFrom}
 
 pub record Framed (ns lefts ps : List ℕ) : Type 0 where
@@ -29,11 +27,11 @@ pub record Framed (ns lefts ps : List ℕ) : Type 0 where
   pub short : (a : ℕ) → lengthOf ps a ≤ 1152
   pub small : cellCount ps ≤ 32768
 
-pub record Filling (mode : PadMode) (ns lefts ps : List ℕ) : Type 0 where
+pub record Filling (m : Along) (ns lefts ps : List ℕ) : Type 0 where
   pub framed : Framed ns lefts ps
-  pub level : badConstant mode ≡ false
-  pub fills-left : (a : ℕ) → a < length ns → badPad (rimOf mode []) (lengthOf ns a) (getD lefts a 0) ≡ false
-  pub fills-right : (a : ℕ) → a < length ns → badPad (rimOf mode []) (lengthOf ns a) (lengthOf ps a - (getD lefts a 0 + lengthOf ns a)) ≡ false
+  pub fills-left : (a : ℕ) → a < length ns → badAlong m (lengthOf ns a) (getD lefts a 0) ≡ false
+  pub fills-right : (a : ℕ) → a < length ns
+      → badAlong m (lengthOf ns a) (lengthOf ps a - (getD lefts a 0 + lengthOf ns a)) ≡ false
 
 abbrev pub targetOf : List ℕ → List ℕ → List ℕ → ℕ → ℕ
 targetOf ns lefts ps k = placeOf ps (λ a. getD lefts a 0 + coordinate ns k a)

@@ -6,16 +6,15 @@
 --   keepsRim mode                       whether `pad_to` writes the middle only: under Constant
 --   paddedOver mode ns lefts rights cells held  what `pad_to` leaves in a grid that held `held`
 use Prim.Native.Nat.{ℕ, zero, suc, _+_, _-_}
-use mathlib.Core.Bool.{Bool, true, false, _&&_, not, cond}
+use mathlib.Core.Bool.{Bool, true, _&&_, not, cond}
 use mathlib.Core.List.{List}
 use lib.IntN.{ℤ, pos}
 use lib.ListN.{length, getD}
 use Rattle.numbers.specs.Lists.{tabulate}
 use Rattle.array_spec.specs.Grid.{cellCount, lengthOf, coordinate, moved, levelAt}
 use Rattle.border.specs.declared.PadMode.{PadMode}
-use Rattle.border.specs.declared.PadMode.the-variants.{Constant, Edge, Maximum, Mean, Median, Minimum, Reflect, Symmetric, Wrap}
 use Rattle.pad_line.specs.Line.{paddedAt}
-use Rattle.pad_spec.specs.Fill.{rimOf}
+use Rattle.pad_spec.specs.Fill.{fillerOf, rimOf, carries}
 use Rattle.pad_spec.specs.Pads.{paddedShape, middleFrom}
 
 unfoldable pub levelTo : PadMode → List ℕ → List ℕ → List ℤ → ℕ → (ℕ → ℕ) → ℤ
@@ -34,15 +33,7 @@ unfoldable pub paddedGrid : PadMode → List ℕ → List ℕ → List ℕ → L
 paddedGrid mode ns lefts rights cells = tabulate (paddedLevel mode ns lefts rights cells) 0 (cellCount (paddedShape ns lefts rights))
 
 abbrev pub keepsRim : PadMode → Bool
-keepsRim (Constant c) = true
-keepsRim Edge = false
-keepsRim Maximum = false
-keepsRim Mean = false
-keepsRim Median = false
-keepsRim Minimum = false
-keepsRim Reflect = false
-keepsRim Symmetric = false
-keepsRim Wrap = false
+keepsRim mode = carries (λ c. true) (fillerOf mode)
 
 unfoldable pub paddedOver : PadMode → List ℕ → List ℕ → List ℕ → List ℤ → List ℤ → List ℤ
 paddedOver mode ns lefts rights cells held =

@@ -1,6 +1,5 @@
 -- Runs of a grid. Of an axis of p cells that stand s places apart, the cells with one coordinate stand in runs of s neighbouring cells, one in each
 -- block of p times s cells.
---   modeAlong m                      the padding mode that extends a lane along m
 --   Runs m p s blocks left n len     a grid of len cells is that many blocks, and m fills both rims of a lane whose own n cells stand from left on
 --   InRim left n p k                 coordinate k of the axis is in a rim
 --   readFrom m left n k              the coordinate that a coordinate k in a rim reads
@@ -20,17 +19,7 @@ use Rattle.numbers.specs.Lists.{tabulate}
 use Rattle.lanes.specs.Lanes.{laneOf, laneBase, lane}
 use Rattle.border.specs.Border.{along, cellBefore, cellAfter}
 use Rattle.border.specs.declared.Along.{Along}
-use Rattle.border.specs.declared.Along.the-variants as Along
-use Rattle.border.specs.declared.PadMode.{PadMode}
-use Rattle.border.specs.declared.PadMode.the-variants.{Edge, Reflect, Symmetric, Wrap}
-use Rattle.pad_line.specs.Line.{paddedAt}
-use Rattle.border.specs.Reach.{badAlong}
-
-abbrev pub modeAlong : Along → PadMode
-modeAlong Along.Nearest = Edge
-modeAlong Along.Mirror = Reflect
-modeAlong Along.Reflect = Symmetric
-modeAlong Along.Wrap = Wrap
+use Rattle.pad_line.specs.Line.{paddedAt, badAlong}
 
 pub record Runs (m : Along) (p s blocks left n len : ℕ) : Type 0 where
   pub apart : 0 < s

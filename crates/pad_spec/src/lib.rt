@@ -8,8 +8,10 @@ mod rim;
 pub use frame::set_frame;
 pub use pairs::Pair;
 pub use pairs::pair_of;
+pub use rim::Filler;
 pub use rim::Statistic;
 pub use rim::bad_pad;
+pub use rim::filler_of;
 
 // Worked rows of this crate's definitions: the rims of a lane, padded grids and refusals, what the workers leave. Refuses nothing.
 pub fn rows()

@@ -1,9 +1,11 @@
-// Padding a lane of a grid in place: its own cells, in the middle of the lane, are extended to both ends of it. What that leaves, and condition 11 of a lane by padding's
-// names; `lane_level` and `lane_rims` do it.
+// What the padding modes fill the rims of a lane with, and condition 11 of a lane by padding's names. `lane_level` and
+// `lane_rims` fill a lane with a statistic of its cells, in the grid itself.
 ghost use mathlib.Core.Path.{_≡_};
 ghost use mathlib.Core.List.{[]};
-ghost use Rattle.border.specs.Reach.{badPad};
-ghost use Rattle.pad_spec.specs.Fill.{rimOf};
+ghost use Rattle.pad_line.specs.Line.{badPad};
+ghost use Rattle.pad_spec.specs.Fill.{fillerOf, rimOf};
+use border::Along;
+use border::PadMode;
 
 // Which level of a lane's own cells fills its rims.
 pub enum Statistic {
@@ -13,25 +15,53 @@ pub enum Statistic {
     Minimum,
 }
 
+// What fills the rims of a lane.
+pub enum Filler {
+    // A level that the mode carries.
+    Level(i64),
+    // Cells of the lane.
+    Cells(Along),
+    // A level of the lane's own cells.
+    Statistic(Statistic),
+}
+
+// What a padding mode fills the rims of a lane with.
+//
+// * `mode` - the padding mode.
+//
+// Refuses nothing. PadMode::Constant(7) gives Filler::Level(7), PadMode::Symmetric Filler::Cells(Along::Reflect),
+// PadMode::Mean Filler::Statistic(Statistic::Mean).
+pub fn filler_of(mode: PadMode) -> Filler
+    ensures { λ r. ⌜ r ≡ fillerOf mode ⌝ }
+{
+    match mode {
+        PadMode::Constant(c) => Filler::Level(c),
+        PadMode::Edge => Filler::Cells(Along::Nearest),
+        PadMode::Maximum => Filler::Statistic(Statistic::Maximum),
+        PadMode::Mean => Filler::Statistic(Statistic::Mean),
+        PadMode::Median => Filler::Statistic(Statistic::Median),
+        PadMode::Minimum => Filler::Statistic(Statistic::Minimum),
+        PadMode::Reflect => Filler::Cells(Along::Mirror),
+        PadMode::Symmetric => Filler::Cells(Along::Reflect),
+        PadMode::Wrap => Filler::Cells(Along::Wrap),
+    }
+}
+
 // Condition 11 of a lane: whether the padding mode cannot fill a pad that long.
 //
 // * `mode` - the padding mode.
 // * `n` - how many cells the lane has.
 // * `pad` - how many places are padded on one side.
 //
-// Refuses nothing. Of three cells Reflect fills a pad of 2 and not of 3, Symmetric and Wrap fill 3 and not 4, the others any.
-pub fn bad_pad(mode: border::PadMode, n: usize, pad: usize) -> bool
+// Refuses nothing.
+// Of three cells Reflect fills a pad of 2 and not of 3, Symmetric and Wrap fill 3 and not 4, the others any.
+pub fn bad_pad(mode: PadMode, n: usize, pad: usize) -> bool
     ensures { λ r. ⌜ r ≡ badPad (rimOf mode []) n pad ⌝ }
 {
-    match mode {
-        border::PadMode::Constant(_) => false,
-        border::PadMode::Edge => false,
-        border::PadMode::Maximum => false,
-        border::PadMode::Mean => false,
-        border::PadMode::Median => false,
-        border::PadMode::Minimum => false,
-        border::PadMode::Reflect => border::bad_pad(border::BorderMode::Mirror, n, pad),
-        border::PadMode::Symmetric => border::bad_pad(border::BorderMode::Reflect, n, pad),
-        border::PadMode::Wrap => border::bad_pad(border::BorderMode::Wrap, n, pad),
+    let filler = filler_of(mode);
+    match filler {
+        Filler::Level(_) => false,
+        Filler::Cells(along) => pad_line::bad_along(along, n, pad),
+        Filler::Statistic(_) => false,
     }
 }

@@ -24,42 +24,39 @@ use Rattle.lanes.proofs.AlongAxis.{lanes-within, count-lanes}
 use Rattle.lanes.proofs.Cells.{lane-below}
 use Rattle.border.specs.Border.{constant}
 use Rattle.border.specs.declared.PadMode.{PadMode}
-use Rattle.border.specs.declared.PadMode.the-variants.{Constant, Edge, Maximum, Mean, Median, Minimum, Reflect, Symmetric, Wrap}
 use Rattle.pad_line.specs.Line.{paddedAt, paddedLine}
 use Rattle.pad_line.proofs.Padded.{getD-padded}
 use Rattle.statistics_spec.specs.Statistics.{meanOf, medianOf, unserved}
 use Rattle.statistics_spec.proofs.Served.{sized-served, answered-served}
-use Rattle.pad_spec.specs.Fill.{rimOf, answeredRim, laneServes, filledLane}
+use Rattle.pad_spec.specs.Fill.{levelOf, rimOf, carries, modeTaking, statisticOf, laneServes, filledLane}
+use Rattle.pad_spec.specs.declared.rim.Statistic.{Statistic}
+use Rattle.pad_spec.specs.declared.rim.Statistic.the-variants as Statistic
+use Rattle.pad_spec.proofs.Fillers.{filler-taking, rim-taking}
 use Rattle.pad_spec.proofs.Rims.{ownOf, length-own}
 use Rattle.pad_spec.specs.Levels.{levelTo}
 use Rattle.pad_spec.specs.Pads.{inMiddle, allFrom, middleFrom}
 use Rattle.pad_spec.proofs.Axis.{middle-ext, final, lane-place, same-coordinates, own-lane, final-lane}
 use Rattle.pad_spec.proofs.Levels.{middle-in, moved-off, all-agree}
 use Rattle.pad_spec.proofs.Sizes.{limit, size-level}
-use Rattle.pad_spec.specs.Frame.{Framed, Filling}
+use Rattle.pad_spec.specs.Frame.{Framed}
 use Rattle.pad_spec.specs.Filled.{Filled}
 use Rattle.pad_spec.proofs.Room.{grid-accepted, padded-full, frame, axis-length, axis-stride}
 
 -- a line that the statistics serve is padded with the statistic itself
-pub rim-answered : (mode : PadMode) (s : List ℤ) → unserved s ≡ false → answeredRim mode s ≡ rimOf mode s
-rim-answered (Constant c) s e = refl
-rim-answered Edge s e = refl
-rim-answered Maximum s e = refl
-rim-answered Mean s e = ap constant (answered-served meanOf s e)
-rim-answered Median s e = ap constant (answered-served medianOf s e)
-rim-answered Minimum s e = refl
-rim-answered Reflect s e = refl
-rim-answered Symmetric s e = refl
-rim-answered Wrap s e = refl
+level-answered : (which : Statistic) (s : List ℤ) → unserved s ≡ false → statisticOf which s ≡ levelOf which s
+level-answered Statistic.Maximum s e = refl
+level-answered Statistic.Mean s e = answered-served meanOf s e
+level-answered Statistic.Median s e = answered-served medianOf s e
+level-answered Statistic.Minimum s e = refl
+
+rim-answered : (which : Statistic) (s : List ℤ) → unserved s ≡ false → constant (statisticOf which s) ≡ rimOf (modeTaking which) s
+rim-answered which s e = ap constant (level-answered which s e) ∙ sym (rim-taking which s)
 
 -- the middle from axis d on: of that axis and from the next on
 pub middle-both : (ns lefts : List ℕ) (d : ℕ) → d < length ns → (q : ℕ → ℕ) → middleFrom ns lefts d q ≡ inMiddle ns lefts q d && middleFrom ns lefts (suc d) q
 middle-both ns lefts d h q = let m : length ns - d ≡ suc (length ns - suc d) = omega arith in ap (allFrom (inMiddle ns lefts q) d) m
 
-module _ {mode : PadMode} {ns lefts ps : List ℕ} (G : Filling mode ns lefts ps) (d : ℕ) (h : d < length ns) where
-  F : Framed ns lefts ps
-  F = G .framed
-
+module _ (which : Statistic) {ns lefts ps : List ℕ} (F : Framed ns lefts ps) (d : ℕ) (h : d < length ns) where
   abbrev N : ℕ
   N = lengthOf ps d
 
@@ -69,10 +66,15 @@ module _ {mode : PadMode} {ns lefts ps : List ℕ} (G : Filling mode ns lefts ps
   on : d < length ps
   on = omega (arith, F .axes)
 
-  pub lane-serves : (l : ℕ) → l < cellCount ps / lengthOf ps d → laneServes mode (lengthOf ps d) (strideOf ps d) l (cellCount ps) (getD lefts d 0) (lengthOf ns d) ≡ true
+  pub lane-serves : (l : ℕ) → l < cellCount ps / lengthOf ps d → laneServes (lengthOf ps d) (strideOf ps d) l (cellCount ps) (getD lefts d 0) (lengthOf ns d) ≡ true
   unfolding laneServes
   lane-serves l b =
-      simp (lanes-within ps d l (padded-full F) (F .small) on b, le-leb (lengthOf ps d) 1152 (F .short d), le-leb 1 (lengthOf ns d) (length-some), le-leb (getD lefts d 0 + lengthOf ns d) (lengthOf ps d) (F .room d h), G .fills-left d h, G .fills-right d h) refl
+      simp (
+        lanes-within ps d l (padded-full F) (F .small) on b,
+        le-leb (lengthOf ps d) 1152 (F .short d),
+        le-leb 1 (lengthOf ns d) (length-some),
+        le-leb (getD lefts d 0 + lengthOf ns d) (lengthOf ps d) (F .room d h),
+      ) refl
     where
       length-some : 1 ≤ lengthOf ns d
       length-some = length-pos ns d (grid-accepted F .full)
@@ -80,9 +82,9 @@ module _ {mode : PadMode} {ns lefts ps : List ℕ} (G : Filling mode ns lefts ps
   -- the coordinates on later axes are the same along a lane
   lane-middle : (l k : ℕ) → k < cellCount ps → laneOf N s k ≡ l → middleFrom ns lefts (suc d) (coordinate ps (laneBase N s l)) ≡ middleFrom ns lefts (suc d) (coordinate ps k)
   lane-middle l k b e =
-      ap (λ x. middleFrom ns lefts (suc d) (coordinate ps x)) (first ∙ lane-place mode ns lefts ps [] (frame F) d h k b 0)
-      ∙ middle-ext ns lefts (suc d) h _ _ (same-coordinates mode ns lefts ps [] (frame F) d h k b 0 (axis-length F d))
-      ∙ all-agree mode ns lefts [] (length ns - suc d) (suc d) (moved d 0 (coordinate ps k)) (coordinate ps k) (λ a g. moved-off d a 0 (coordinate ps k) (apart a g))
+      ap (λ x. middleFrom ns lefts (suc d) (coordinate ps x)) (first ∙ lane-place (modeTaking which) ns lefts ps [] (frame F) d h k b 0)
+      ∙ middle-ext ns lefts (suc d) h _ _ (same-coordinates (modeTaking which) ns lefts ps [] (frame F) d h k b 0 (axis-length F d))
+      ∙ all-agree (modeTaking which) ns lefts [] (length ns - suc d) (suc d) (moved d 0 (coordinate ps k)) (coordinate ps k) (λ a g. moved-off d a 0 (coordinate ps k) (apart a g))
     where
       first : laneBase N s l ≡ laneBase N s (laneOf N s k) + 0 * s
       first = ap (laneBase N s) (sym e) ∙ none (laneBase N s (laneOf N s k)) s
@@ -98,10 +100,10 @@ module _ {mode : PadMode} {ns lefts ps : List ℕ} (G : Filling mode ns lefts ps
     pub levels : anyOf badLevel cells ≡ false
     pub count : length out ≡ cellCount ps
     pub finals : (k : ℕ) → k < cellCount ps → middleFrom ns lefts (suc d) (coordinate ps k) ≡ true → inMiddle ns lefts (coordinate ps k) d || ltb (laneOf (lengthOf ps d) (strideOf ps d) k) l ≡ true
-        → getD out k (pos 0) ≡ levelTo mode ns lefts cells (length ns) (coordinate ps k)
+        → getD out k (pos 0) ≡ levelTo (modeTaking which) ns lefts cells (length ns) (coordinate ps k)
 
   module _ {cells : List ℤ} where
-    pub reached-none : {out : List ℤ} → Filled mode ns lefts ps cells d out → Reached cells 0 out
+    pub reached-none : {out : List ℤ} → Filled (modeTaking which) ns lefts ps cells d out → Reached cells 0 out
     reached-none {out} A = record { levels = A .levels; count = A .count; finals = λ k b m t. A .finals k b (middle-both ns lefts d h (coordinate ps k) ∙ (λ j. own k t j && m j)) }
       where
         own : (k : ℕ) → inMiddle ns lefts (coordinate ps k) d || ltb (laneOf N s k) 0 ≡ true → inMiddle ns lefts (coordinate ps k) d ≡ true
@@ -111,7 +113,7 @@ module _ {mode : PadMode} {ns lefts ps : List ℕ} (G : Filling mode ns lefts ps
             last true e = refl
             last false e = e
 
-    pub reached-all : {l : ℕ} {out : List ℤ} → cellCount ps / lengthOf ps d ≤ l → Reached cells l out → Filled mode ns lefts ps cells (suc d) out
+    pub reached-all : {l : ℕ} {out : List ℤ} → cellCount ps / lengthOf ps d ≤ l → Reached cells l out → Filled (modeTaking which) ns lefts ps cells (suc d) out
     reached-all {l} {out} g R = record { levels = R .levels; count = R .count; finals = λ k b m. R .finals k b m (any (inMiddle ns lefts (coordinate ps k) d) (lt-ltb (laneOf N s k) l (below k b))) }
       where
         any : (u : Bool) {v : Bool} → v ≡ true → u || v ≡ true
@@ -131,12 +133,12 @@ module _ {mode : PadMode} {ns lefts ps : List ℕ} (G : Filling mode ns lefts ps
       reached-skipped o = record { levels = R .levels; count = R .count; finals = λ k b m t. at k b m t (eqb (laneOf N s k) l) refl }
         where
           at : (k : ℕ) → k < cellCount ps → middleFrom ns lefts (suc d) (coordinate ps k) ≡ true → inMiddle ns lefts (coordinate ps k) d || ltb (laneOf N s k) (l + 1) ≡ true
-              → (u : Bool) → eqb (laneOf N s k) l ≡ u → getD out k (pos 0) ≡ levelTo mode ns lefts cells (length ns) (coordinate ps k)
+              → (u : Bool) → eqb (laneOf N s k) l ≡ u → getD out k (pos 0) ≡ levelTo (modeTaking which) ns lefts cells (length ns) (coordinate ps k)
           at k b m t true e = absurd (true≢false (sym m ∙ sym (lane-middle l k b (eqb-true (laneOf N s k) l e)) ∙ o))
           at k b m t false e = R .finals k b m (earlier k e t)
 
       -- the places in the middle on this axis too hold their levels
-      held : (j : ℕ) → j < cellCount ps → middleFrom ns lefts d (coordinate ps j) ≡ true → getD out j (pos 0) ≡ final mode ns lefts ps cells (frame F) j
+      held : (j : ℕ) → j < cellCount ps → middleFrom ns lefts d (coordinate ps j) ≡ true → getD out j (pos 0) ≡ final (modeTaking which) ns lefts ps cells (frame F) j
       held j b m =
           let p = and-true (inMiddle ns lefts (coordinate ps j) d) (middleFrom ns lefts (suc d) (coordinate ps j)) (sym (middle-both ns lefts d h (coordinate ps j)) ∙ m) in
           R .finals j b (p .1) (ap (λ u. u || ltb (laneOf N s j) l) (p .0))
@@ -145,12 +147,14 @@ module _ {mode : PadMode} {ns lefts ps : List ℕ} (G : Filling mode ns lefts ps
       own-served : (k : ℕ) → k < cellCount ps → middleFrom ns lefts (suc d) (coordinate ps k) ≡ true → unserved (ownOf (pos 0) N s (laneOf N s k) (getD lefts d 0) (lengthOf ns d) out) ≡ false
       own-served k b m =
           let own = ownOf (pos 0) N s (laneOf N s k) (getD lefts d 0) (lengthOf ns d) out in
-          let f : ℕ → ℤ = λ i. levelTo mode ns lefts cells (length ns) (moved d (getD lefts d 0 + i) (coordinate ps k)) in
+          let f : ℕ → ℤ = λ i. levelTo (modeTaking which) ns lefts cells (length ns) (moved d (getD lefts d 0 + i) (coordinate ps k)) in
           sized-served own (omega (arith, length-own (pos 0) N s (laneOf N s k) (getD lefts d 0) (lengthOf ns d) out (F .room d h), grid-accepted F .short d))
-          (subst (Sized limit) (sym (own-lane mode ns lefts ps cells (frame F) d h k b out m held))
-          (every-table _ f 0 (lengthOf ns d) (λ i. size-level mode ns lefts cells (G .level) (levels-sized cells (R .levels)) (length ns) (moved d (getD lefts d 0 + i) (coordinate ps k)))))
+          (subst (Sized limit) (sym (own-lane (modeTaking which) ns lefts ps cells (frame F) d h k b out m held))
+          (every-table _ f 0 (lengthOf ns d)
+          (λ i. size-level (modeTaking which) ns lefts cells (ap (carries badLevel) (filler-taking which)) (levels-sized cells (R .levels)) (length ns)
+          (moved d (getD lefts d 0 + i) (coordinate ps k)))))
 
-      pub reached-filled : {out′ : List ℤ} → l < cellCount ps / lengthOf ps d → out′ ≡ filledLane mode (lengthOf ps d) (strideOf ps d) l (getD lefts d 0) (lengthOf ns d) out
+      pub reached-filled : {out′ : List ℤ} → l < cellCount ps / lengthOf ps d → out′ ≡ filledLane which (lengthOf ps d) (strideOf ps d) l (getD lefts d 0) (lengthOf ns d) out
           → middleFrom ns lefts (suc d) (coordinate ps (laneBase (lengthOf ps d) (strideOf ps d) l)) ≡ true → Reached cells (l + 1) out′
       unfolding filledLane withLane
       reached-filled {out′} b₀ e o = record { levels = R .levels; count = ap length e′ ∙ length-tabulate _ 0 (length out) ∙ R .count; finals = λ k b m t. read k b ∙ at k b m t (eqb (laneOf N s k) l) refl }
@@ -165,26 +169,29 @@ module _ {mode : PadMode} {ns lefts ps : List ℕ} (G : Filling mode ns lefts ps
           own = ownOf (pos 0) N s l left n out
 
           line : List ℤ
-          line = paddedLine (pos 0) (answeredRim mode own) left (N - (left + n)) own
+          line = paddedLine (pos 0) (constant (statisticOf which own)) left (N - (left + n)) own
 
           e′ : out′ ≡ withLane (pos 0) N s l line out
-          e′ = e ∙ cond-yes (laneServes mode N s l (length out) left n) _ out (ap (λ (x : ℕ). laneServes mode N s l x left n) (R .count) ∙ lane-serves l b₀)
+          e′ = e ∙ cond-yes (laneServes N s l (length out) left n) _ out (ap (λ (x : ℕ). laneServes N s l x left n) (R .count) ∙ lane-serves l b₀)
 
           read : (k : ℕ) → k < cellCount ps → getD out′ k (pos 0) ≡ cond (eqb (laneOf N s k) l) (getD line (k / s % N) (pos 0)) (getD out k (pos 0))
           read k b = ap (λ x. getD x k (pos 0)) e′ ∙ getD-tabulate _ (length out) k (pos 0) (omega (arith, R .count))
 
-          padded : (k : ℕ) → k < cellCount ps → getD line (k / s % N) (pos 0) ≡ paddedAt (pos 0) (answeredRim mode own) left own (k / s % N)
-          padded k b = getD-padded (pos 0) left own (answeredRim mode own) (N - (left + n)) (k / s % N) (omega (arith, length-own (pos 0) N s l left n out (F .room d h), F .room d h, mod-lt (k / s) (axis-length F d)))
+          padded : (k : ℕ) → k < cellCount ps → getD line (k / s % N) (pos 0) ≡ paddedAt (pos 0) (constant (statisticOf which own)) left own (k / s % N)
+          padded k b =
+              getD-padded (pos 0) left own (constant (statisticOf which own)) (N - (left + n)) (k / s % N)
+              (omega (arith, length-own (pos 0) N s l left n out (F .room d h), F .room d h, mod-lt (k / s) (axis-length F d)))
 
-          lane-level : (k : ℕ) → k < cellCount ps → middleFrom ns lefts (suc d) (coordinate ps k) ≡ true → laneOf N s k ≡ l → paddedAt (pos 0) (answeredRim mode own) left own (k / s % N) ≡ levelTo mode ns lefts cells (length ns) (coordinate ps k)
+          lane-level : (k : ℕ) → k < cellCount ps → middleFrom ns lefts (suc d) (coordinate ps k) ≡ true → laneOf N s k ≡ l
+              → paddedAt (pos 0) (constant (statisticOf which own)) left own (k / s % N) ≡ levelTo (modeTaking which) ns lefts cells (length ns) (coordinate ps k)
           lane-level k b m q =
               let own′ = ownOf (pos 0) N s (laneOf N s k) left n out in
-              ap (λ (x : ℕ). paddedAt (pos 0) (answeredRim mode (ownOf (pos 0) N s x left n out)) left (ownOf (pos 0) N s x left n out) (k / s % N)) (sym q)
-              ∙ ap (λ r. paddedAt (pos 0) r left own′ (k / s % N)) (rim-answered mode own′ (own-served k b m))
-              ∙ sym (final-lane mode ns lefts ps cells (frame F) d h k b out m held)
+              ap (λ (x : ℕ). paddedAt (pos 0) (constant (statisticOf which (ownOf (pos 0) N s x left n out))) left (ownOf (pos 0) N s x left n out) (k / s % N)) (sym q)
+              ∙ ap (λ r. paddedAt (pos 0) r left own′ (k / s % N)) (rim-answered which own′ (own-served k b m))
+              ∙ sym (final-lane (modeTaking which) ns lefts ps cells (frame F) d h k b out m held)
 
           at : (k : ℕ) → k < cellCount ps → middleFrom ns lefts (suc d) (coordinate ps k) ≡ true → inMiddle ns lefts (coordinate ps k) d || ltb (laneOf N s k) (l + 1) ≡ true
-              → (u : Bool) → eqb (laneOf N s k) l ≡ u → cond u (getD line (k / s % N) (pos 0)) (getD out k (pos 0)) ≡ levelTo mode ns lefts cells (length ns) (coordinate ps k)
+              → (u : Bool) → eqb (laneOf N s k) l ≡ u → cond u (getD line (k / s % N) (pos 0)) (getD out k (pos 0)) ≡ levelTo (modeTaking which) ns lefts cells (length ns) (coordinate ps k)
           at k b m t true q = padded k b ∙ lane-level k b m (eqb-true (laneOf N s k) l q)
           at k b m t false q = R .finals k b m (earlier k q t)
 
@@ -210,30 +217,31 @@ pub record OnAxis (ps : List ℕ) (a p s count : ℕ) : Type 0 where
 pub on-axis : {ns lefts ps : List ℕ} {a p s k : ℕ} → Framed ns lefts ps → p ≡ lengthOf ps a → s ≡ strideOf ps a → k ≡ cellCount ps → OnAxis ps a p s (k / p)
 on-axis {p = p} {k = k} F e f g = record { long = e; apart = f; many = (λ j. g j / e j); split = ap (λ (x : ℕ). x / p) g; few = omega (arith, div-le-self k p, g, F .small) }
 
-pub record Along (mode : PadMode) (ns lefts ps : List ℕ) (d : ℕ) (out₀ : List ℤ) (l : ℕ) (out : List ℤ) : Type 0 where
+pub record Along (which : Statistic) (ns lefts ps : List ℕ) (d : ℕ) (out₀ : List ℤ) (l : ℕ) (out : List ℤ) : Type 0 where
   pub count : length out ≡ cellCount ps
-  pub reached : (G : Filling mode ns lefts ps) (h : d < length ns) (cells : List ℤ) → Filled mode ns lefts ps cells d out₀ → Reached G d h cells l out
+  pub reached : (F : Framed ns lefts ps) (h : d < length ns) (cells : List ℤ) → Filled (modeTaking which) ns lefts ps cells d out₀ → Reached which F d h cells l out
 
-module _ {mode : PadMode} {ns lefts ps : List ℕ} {d : ℕ} {out₀ : List ℤ} where
-  pub along-none : length out₀ ≡ cellCount ps → Along mode ns lefts ps d out₀ 0 out₀
-  along-none e = record { count = e; reached = λ G h cells A. reached-none G d h A }
+module _ {which : Statistic} {ns lefts ps : List ℕ} {d : ℕ} {out₀ : List ℤ} where
+  pub along-none : length out₀ ≡ cellCount ps → Along which ns lefts ps d out₀ 0 out₀
+  along-none e = record { count = e; reached = λ F h cells A. reached-none which F d h A }
 
-  pub along-all : (G : Filling mode ns lefts ps) → d < length ns → {p s count l : ℕ} {out : List ℤ} → OnAxis ps d p s count → count ≤ l → Along mode ns lefts ps d out₀ l out
-      → (cells : List ℤ) → Filled mode ns lefts ps cells d out₀ → Filled mode ns lefts ps cells (suc d) out
-  along-all G h O b W cells A = reached-all G d h (omega (arith, O .many)) (W .reached G h cells A)
+  pub along-all : Framed ns lefts ps → d < length ns → {p s count l : ℕ} {out : List ℤ} → OnAxis ps d p s count → count ≤ l → Along which ns lefts ps d out₀ l out
+      → (cells : List ℤ) → Filled (modeTaking which) ns lefts ps cells d out₀ → Filled (modeTaking which) ns lefts ps cells (suc d) out
+  along-all F h O b W cells A = reached-all which F d h (omega (arith, O .many)) (W .reached F h cells A)
 
-  pub along-more : {p s count l : ℕ} {out out′ : List ℤ} → OnAxis ps d p s count → l < count → Along mode ns lefts ps d out₀ l out → length out′ ≡ length out
-      → out′ ≡ cond (middleFrom ns lefts (suc d) (coordinate ps (laneBase p s l))) (filledLane mode p s l (getD lefts d 0) (lengthOf ns d) out) out
-      → Along mode ns lefts ps d out₀ (l + 1) out′
+  pub along-more : {p s count l : ℕ} {out out′ : List ℤ} → OnAxis ps d p s count → l < count → Along which ns lefts ps d out₀ l out → length out′ ≡ length out
+      → out′ ≡ cond (middleFrom ns lefts (suc d) (coordinate ps (laneBase p s l))) (filledLane which p s l (getD lefts d 0) (lengthOf ns d) out) out
+      → Along which ns lefts ps d out₀ (l + 1) out′
   along-more {p} {s} {count} {l} {out} {out′} O b W k e = record {
     count = k ∙ W .count;
-    reached = λ G h cells A. go G h cells (W .reached G h cells A) (middleFrom ns lefts (suc d) (coordinate ps (laneBase (lengthOf ps d) (strideOf ps d) l))) refl;
+    reached = λ F h cells A. go F h cells (W .reached F h cells A) (middleFrom ns lefts (suc d) (coordinate ps (laneBase (lengthOf ps d) (strideOf ps d) l))) refl;
   }
     where
-      e′ : out′ ≡ cond (middleFrom ns lefts (suc d) (coordinate ps (laneBase (lengthOf ps d) (strideOf ps d) l))) (filledLane mode (lengthOf ps d) (strideOf ps d) l (getD lefts d 0) (lengthOf ns d) out) out
-      e′ = e ∙ (λ j. cond (middleFrom ns lefts (suc d) (coordinate ps (laneBase (O .long j) (O .apart j) l))) (filledLane mode (O .long j) (O .apart j) l (getD lefts d 0) (lengthOf ns d) out) out)
+      e′ : out′ ≡ cond (middleFrom ns lefts (suc d) (coordinate ps (laneBase (lengthOf ps d) (strideOf ps d) l)))
+          (filledLane which (lengthOf ps d) (strideOf ps d) l (getD lefts d 0) (lengthOf ns d) out) out
+      e′ = e ∙ (λ j. cond (middleFrom ns lefts (suc d) (coordinate ps (laneBase (O .long j) (O .apart j) l))) (filledLane which (O .long j) (O .apart j) l (getD lefts d 0) (lengthOf ns d) out) out)
 
-      go : (G : Filling mode ns lefts ps) (h : d < length ns) (cells : List ℤ) → Reached G d h cells l out → (t : Bool)
-          → middleFrom ns lefts (suc d) (coordinate ps (laneBase (lengthOf ps d) (strideOf ps d) l)) ≡ t → Reached G d h cells (l + 1) out′
-      go G h cells R true q = reached-filled G d h R (omega (arith, O .many)) (e′ ∙ cond-yes _ _ out q) q
-      go G h cells R false q = subst (Reached G d h cells (l + 1)) (sym (e′ ∙ cond-no _ _ out q)) (reached-skipped G d h R q)
+      go : (F : Framed ns lefts ps) (h : d < length ns) (cells : List ℤ) → Reached which F d h cells l out → (t : Bool)
+          → middleFrom ns lefts (suc d) (coordinate ps (laneBase (lengthOf ps d) (strideOf ps d) l)) ≡ t → Reached which F d h cells (l + 1) out′
+      go F h cells R true q = reached-filled which F d h R (omega (arith, O .many)) (e′ ∙ cond-yes _ _ out q) q
+      go F h cells R false q = subst (Reached which F d h cells (l + 1)) (sym (e′ ∙ cond-no _ _ out q)) (reached-skipped which F d h R q)

@@ -14,7 +14,7 @@ use Rattle.array_spec.specs.Grid.{placeOf, coordinate}
 use Rattle.border.specs.Border.{cellFor, extendedLane}
 use Rattle.pad_line.specs.Line.{paddedAt}
 use Rattle.pad_spec.specs.Levels.{levelTo}
-use Rattle.pad.specs.Laid.{laidOver}
+use Rattle.pad.specs.Laid.{laid}
 use Rattle.pad.proofs.rows.Statement.{statement}
 use Rattle.pad.proofs.rows.Tie as tie
 
@@ -27,10 +27,11 @@ beside (suc (suc zero)) b m = refl
 beside (suc (suc (suc k))) b m = absurd (omega arith)
 
 returns : tie.Need-returns
-unfolding tabulate placeOf coordinate cellFor extendedLane paddedAt levelTo laidOver
+unfolding tabulate placeOf coordinate cellFor extendedLane paddedAt levelTo laid
 returns c = record {
-  over-constant = refl;
-  over-edge = refl;
+  laid-constant = refl;
+  laid-edge = refl;
+  laid-maximum = refl;
   starts = record { count = refl; beside = beside };
   starts-held = refl;
 }

@@ -3,14 +3,13 @@
 use mathlib.Core.Path.{refl}
 use Rattle.numbers.specs.Lists.{tabulate}
 use Rattle.numbers.specs.Windows.{windowOf}
-use Rattle.lanes.specs.Lanes.{laneAt, laneInside}
 use Rattle.border.specs.Border.{cellFor, extendedLane}
-use Rattle.pad_line.specs.Line.{paddedAt, paddedLine, padServes}
+use Rattle.pad_line.specs.Line.{paddedAt, paddedLine}
 use Rattle.pad_line_f64.proofs.rows.Statement.{statement}
 use Rattle.pad_line_f64.proofs.rows.Tie as tie
 
 returns : tie.Need-returns
-unfolding tabulate windowOf laneAt laneInside cellFor extendedLane paddedAt paddedLine padServes
+unfolding tabulate windowOf cellFor extendedLane paddedAt paddedLine
 returns c = record {
   floats-mirror = λ x y z. refl;
   floats-nearest = λ x y z. refl;
@@ -21,8 +20,6 @@ returns c = record {
   bad-reflect = refl;
   bad-wrap = refl;
   bad-nearest = refl;
-  down-wrap = λ x y z t. refl;
-  down-bad = λ x y z t. refl;
   last-window = λ x y z. refl;
   past-window = λ x y z. refl;
 }

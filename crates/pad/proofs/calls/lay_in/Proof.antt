@@ -1,11 +1,16 @@
--- `pad::calls::lay_in` meets its contract: an accepted call has a frame, and the grid is laid over a start in it.
+-- `pad::calls::lay_in` meets its contract: an accepted call has a frame, and the grid is laid in it as what the mode fills a rim with says.
 -- Assumes nothing.
-use mathlib.Core.Path.{_≡_, _∙_}
+use mathlib.Core.Path.{_≡_, sym, ap, _∙_}
+use mathlib.Core.Bool.{true}
+use mir.Syntax.{w64}
+use mir.Val.{toZ, ofZ}
 use lib.ListN.{length}
 use denote.Ref.{now}
+use Rattle.pad_spec.specs.Fill.{carries}
+use Rattle.pad_spec.proofs.Fillers.{mode-level, mode-cells, mode-statistic}
 use Rattle.pad_spec.specs.Pads.{leftsOf, rightsOf}
-use Rattle.pad.proofs.Accepted.{Passed, passed, filling-set, lent-set}
-use Rattle.pad.proofs.Started.{laid-started}
+use Rattle.pad.proofs.Accepted.{Passed, passed, framed-set, filling-set, lent-set}
+use Rattle.pad.proofs.Started.{asked-level, asked-filled}
 use borrow.Author.Needs.{needs}
 use Rattle.pad.proofs.calls.lay_in.Statement.{statement}
 use Rattle.pad.proofs.calls.lay_in.Tie as tie
@@ -22,22 +27,43 @@ set-frame-requires c κs =
     let P = accepted s in
     (P .grid .shape, P .pairs, P .limits, s .pre .1, s .pre .2)
 
-start-requires : tie.Need-start-requires
-start-requires c κs =
-    let f = c .before .before .before .before .before .before .before in
-    let s = f .before .before .before .before .before .before in
-    let P = accepted s in
-    let e = f .set-frame .ensures in
-    (filling-set P (three s) (e .0) (e .1) .framed, P .grid .count, lent-set P (three s) (e .1))
+filler-of-requires : tie.Need-filler-of-requires
+filler-of-requires c κs = search needs
 
-lay-over-requires : tie.Need-lay-over-requires
-lay-over-requires c κs =
-    let t = c .before .before .before .before in
-    let f = t .before .before .before .before .before .before .before .before in
+enum-known-filler : tie.Need-enum-known-filler
+enum-known-filler c = search needs
+
+lay-level-requires : tie.Need-lay-level-requires
+lay-level-requires c κs =
+    let f = c .before .before .before .before .before .before .before .before .before .before .before in
     let s = f .before .before .before .before .before .before in
     let P = accepted s in
     let e = f .set-frame .ensures in
-    (filling-set P (three s) (e .0) (e .1), P .grid .levels, P .grid .count, t .start .kept .1 .1 .1 .1 .1 .1 .0 ∙ lent-set P (three s) (e .1))
+    (framed-set P (three s) (e .0) (e .1), P .whole, lent-set P (three s) (e .1))
+
+enum-known-filler-2 : tie.Need-enum-known-filler-2
+enum-known-filler-2 c = search needs
+
+lay-cells-requires : tie.Need-lay-cells-requires
+lay-cells-requires c κs =
+    let t = c .before .before .before .before in
+    let g = t .before .before in
+    let f = g .before .before .before .before .before in
+    let s = f .before .before .before .before .before .before in
+    let P = accepted s in
+    let e = f .set-frame .ensures in
+    (filling-set P (three s) (sym (g .filler-of .ensures) ∙ t .filler2 .given .1) (e .0) (e .1), P .levels, P .whole, lent-set P (three s) (e .1))
+
+enum-known-filler-3 : tie.Need-enum-known-filler-3
+enum-known-filler-3 c = search needs
+
+lay-statistic-requires : tie.Need-lay-statistic-requires
+lay-statistic-requires c κs =
+    let f = c .before .before .before .before .before .before .before .before .before .before .before in
+    let s = f .before .before .before .before .before .before in
+    let P = accepted s in
+    let e = f .set-frame .ensures in
+    (framed-set P (three s) (e .0) (e .1), P .levels, P .whole, lent-set P (three s) (e .1))
 
 same-length : tie.Need-same-length
 same-length c = search needs
@@ -48,23 +74,86 @@ same-length-2 c = search needs
 same-length-3 : tie.Need-same-length-3
 same-length-3 c = search needs
 
+-- the level that the arm binds is read back as it was
+read-back : (t : tie.After-known-told) → let z = t .before .filler .given .0 .0 in toZ w64 (ofZ w64 z) ≡ z
+read-back t = search needs
+
 returns : tie.Need-returns
 returns c =
     let t = c .before .before .before .before .before .before in
-    let f = t .before .before .before .before .before .before .before .before in
-    let a = f .before .before .before .before .before .before .args in
-    let e = f .set-frame .ensures in
+    let g = t .before .before in
+    let f = g .before .before .before .before .before in
+    let s = f .before .before .before .before .before .before in
+    let a = s .args in
     let ns = now (a .shape) in
-    laid-started ns (leftsOf ns (a .pads) (a .count)) (rightsOf ns (a .pads) (a .count)) (now (a .«data»)) (now (a .out)) (a .whole) (a .mode) _ (e .0) (e .1) (t .start .ensures) (c .before .lay-over .ensures)
+    let e = f .set-frame .ensures in
+    asked-level ns (leftsOf ns (a .pads) (a .count)) (rightsOf ns (a .pads) (a .count)) (now (a .«data»)) (now (a .out)) (e .0) (e .1) (a .whole) (a .mode)
+    (mode-level (a .mode) (sym (g .filler-of .ensures) ∙ t .filler .given .1)) (read-back (c .before .before .before .before .before)) (lent-set (accepted s) (three s) (e .1))
+    (c .before .lay-level .ensures)
+
+same-length-4 : tie.Need-same-length-4
+same-length-4 c = search needs
+
+same-length-5 : tie.Need-same-length-5
+same-length-5 c = search needs
+
+same-length-6 : tie.Need-same-length-6
+same-length-6 c = search needs
+
+returns-2 : tie.Need-returns-2
+returns-2 c =
+    let t = c .before .before .before .before .before .before in
+    let g = t .before .before in
+    let f = g .before .before .before .before .before in
+    let a = f .before .before .before .before .before .before .args in
+    let ns = now (a .shape) in
+    let e = f .set-frame .ensures in
+    let m = sym (g .filler-of .ensures) ∙ t .filler2 .given .1 in
+    asked-filled ns (leftsOf ns (a .pads) (a .count)) (rightsOf ns (a .pads) (a .count)) (now (a .«data»)) (now (a .out)) (e .0) (e .1) (a .whole) (a .mode)
+    (mode-cells (a .mode) m) (ap (carries (λ x. true)) m) (c .before .lay-cells .ensures)
+
+same-length-7 : tie.Need-same-length-7
+same-length-7 c = search needs
+
+same-length-8 : tie.Need-same-length-8
+same-length-8 c = search needs
+
+same-length-9 : tie.Need-same-length-9
+same-length-9 c = search needs
+
+returns-3 : tie.Need-returns-3
+returns-3 c =
+    let t = c .before .before .before .before .before .before in
+    let g = t .before .before in
+    let f = g .before .before .before .before .before in
+    let a = f .before .before .before .before .before .before .args in
+    let ns = now (a .shape) in
+    let e = f .set-frame .ensures in
+    let m = sym (g .filler-of .ensures) ∙ t .filler3 .given .1 in
+    asked-filled ns (leftsOf ns (a .pads) (a .count)) (rightsOf ns (a .pads) (a .count)) (now (a .«data»)) (now (a .out)) (e .0) (e .1) (a .whole) (a .mode)
+    (mode-statistic (a .mode) m) (ap (carries (λ x. true)) m) (c .before .lay-statistic .ensures)
 
 pub lay-in-spec : {M : Type 1} → statement M
 lay-in-spec =
     tie.close
     (tie.spec
     set-frame-requires
-    start-requires
-    lay-over-requires
+    filler-of-requires
+    enum-known-filler
+    lay-level-requires
+    enum-known-filler-2
+    lay-cells-requires
+    enum-known-filler-3
+    lay-statistic-requires
     same-length
     same-length-2
     same-length-3
-    returns)
+    returns
+    same-length-4
+    same-length-5
+    same-length-6
+    returns-2
+    same-length-7
+    same-length-8
+    same-length-9
+    returns-3)

@@ -5,6 +5,7 @@ use Prim.Native.Nat.{_-_, _≤_}
 use native.Mathlib.Omega.{arith}
 use lib.ListN.{length}
 use Rattle.array_spec.specs.Grid.{cellCount}
+use Rattle.pad_spec.specs.Fill.{modeTaking}
 use Rattle.pad_spec.specs.Filled.{Fills}
 use Rattle.pad_spec.proofs.Fills.{fills-then, fills-last}
 use borrow.Author.Needs.{needs}
@@ -12,10 +13,11 @@ use Rattle.pad.proofs.rims.fill_in.Statement.{statement}
 use Rattle.pad.proofs.rims.fill_in.Tie as tie
 
 abbrev Inv-loop : tie.InvT-loop
-Inv-loop mode shape lefts padded line₀ out₀ axis₀ line out axis = Fills mode shape lefts padded 0 axis out₀ out × (axis ≤ length shape) × (length line ≡ 1152) × (length out ≡ cellCount padded)
+Inv-loop statistic shape lefts padded line₀ out₀ axis₀ line out axis =
+    Fills (modeTaking statistic) shape lefts padded 0 axis out₀ out × (axis ≤ length shape) × (length line ≡ 1152) × (length out ≡ cellCount padded)
 
 abbrev μ-loop : tie.MeasureT-loop
-μ-loop mode shape lefts padded line₀ out₀ axis₀ line out axis = length shape - axis
+μ-loop statistic shape lefts padded line₀ out₀ axis₀ line out axis = length shape - axis
 
 loop-holds : tie.Need-loop-holds Inv-loop μ-loop
 loop-holds c = (λ cells A. A, search needs, c .before .before .before .pre .1, c .before .before .before .pre .2)

@@ -16,7 +16,7 @@ fill-axis-requires : tie.Need-fill-axis-requires
 fill-axis-requires c κs =
     let t = c .before .before in
     let s = t .before .before .before .before in
-    (s .pre .0, omega (arith, t .if1 .taken), λ apart. absurd (apart (stride-past (now (s .args .padded)) 0 (omega (arith, t .if1 .taken, s .pre .0 .framed .axes)))), s .pre .1)
+    (s .pre .0, omega (arith, t .if1 .taken), λ apart. absurd (apart (stride-past (now (s .args .padded)) 0 (omega (arith, t .if1 .taken, s .pre .0 .axes)))), s .pre .1)
 
 same-length : tie.Need-same-length
 same-length c = search needs

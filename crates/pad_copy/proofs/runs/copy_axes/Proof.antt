@@ -5,8 +5,8 @@ use Prim.Native.Nat.{_-_, _≤_}
 use native.Mathlib.Omega.{arith}
 use lib.ListN.{length}
 use Rattle.array_spec.specs.Grid.{cellCount}
+use Rattle.pad_spec.specs.Fill.{modeAlong}
 use Rattle.pad_spec.specs.Filled.{Fills}
-use Rattle.pad_spec.specs.Runs.{modeAlong}
 use Rattle.pad_spec.proofs.Fills.{fills-then, fills-last}
 use borrow.Author.Needs.{needs}
 use Rattle.pad_copy.proofs.runs.copy_axes.Statement.{statement}

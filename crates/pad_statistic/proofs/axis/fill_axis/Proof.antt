@@ -11,10 +11,11 @@ use Rattle.pad_statistic.proofs.axis.fill_axis.Statement.{statement}
 use Rattle.pad_statistic.proofs.axis.fill_axis.Tie as tie
 
 abbrev Inv-loop : tie.InvT-loop
-Inv-loop mode shape lefts padded axis line₀ out₀ p s count lane₀ line out lane = OnAxis padded axis p s count × Along mode shape lefts padded axis out₀ lane out × (length line ≡ length line₀)
+Inv-loop statistic shape lefts padded axis line₀ out₀ p s count lane₀ line out lane =
+    OnAxis padded axis p s count × Along statistic shape lefts padded axis out₀ lane out × (length line ≡ length line₀)
 
 abbrev μ-loop : tie.MeasureT-loop
-μ-loop mode shape lefts padded axis line₀ out₀ p s count lane₀ line out lane = count - lane
+μ-loop statistic shape lefts padded axis line₀ out₀ p s count lane₀ line out lane = count - lane
 
 len-of-requires : tie.Need-len-of-requires Inv-loop μ-loop
 len-of-requires c κs = search needs
@@ -25,20 +26,20 @@ len-of-requires-2 c κs = search needs
 returns : tie.Need-returns Inv-loop μ-loop
 returns c =
     let s = c .before .before .before .before .before .before in
-    axis-full (s .pre .0 .framed) (s .args .axis) (s .pre .1) (sym (c .before .before .len-of .ensures) ∙ c .if1 .taken ∙ c .before .len-of2 .ensures)
+    axis-full (s .pre .0) (s .args .axis) (s .pre .1) (sym (c .before .before .len-of .ensures) ∙ c .if1 .taken ∙ c .before .len-of2 .ensures)
 
 stride-of-requires : tie.Need-stride-of-requires Inv-loop μ-loop
-stride-of-requires c κs = let F = c .before .before .before .before .before .before .pre .0 .framed in (padded-few F, F .short)
+stride-of-requires c κs = let F = c .before .before .before .before .before .before .pre .0 in (padded-few F, F .short)
 
 div-count : tie.Need-div-count Inv-loop μ-loop
 div-count c =
     let s = c .before .before .before .before .before .before .before in
-    subst (λ (x : ℕ). 0 < x) (sym (c .before .before .before .len-of .ensures)) (axis-length (s .pre .0 .framed) (s .args .axis))
+    subst (λ (x : ℕ). 0 < x) (sym (c .before .before .before .len-of .ensures)) (axis-length (s .pre .0) (s .args .axis))
 
 loop-holds : tie.Need-loop-holds Inv-loop μ-loop
 loop-holds c =
     let s = c .before .before .before .before .before .before .before in
-    (on-axis (s .pre .0 .framed) (c .before .before .before .len-of .ensures) (c .stride-of .ensures) (s .pre .3), along-none (s .pre .3), refl)
+    (on-axis (s .pre .0) (c .before .before .before .len-of .ensures) (c .stride-of .ensures) (s .pre .3), along-none (s .pre .3), refl)
 
 fill-lane-requires : tie.Need-fill-lane-requires Inv-loop μ-loop
 fill-lane-requires c κs =

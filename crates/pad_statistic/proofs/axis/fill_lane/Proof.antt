@@ -20,12 +20,12 @@ add-middle-from c = search needs
 middle-from-requires : tie.Need-middle-from-requires
 middle-from-requires c κs =
     let s = c .before .before .before .before in
-    (s .pre .0 .framed, first-in (s .pre .0 .framed) (s .pre .1) (s .pre .3) (s .pre .4) (s .pre .5) (s .pre .6) (c .first-place .ensures), omega (arith, s .pre .1))
+    (s .pre .0, first-in (s .pre .0) (s .pre .1) (s .pre .3) (s .pre .4) (s .pre .5) (s .pre .6) (c .first-place .ensures), omega (arith, s .pre .1))
 
 returns : tie.Need-returns
 returns c =
     let s = c .before .before .before .before .before .before in
-    sym (cond-no _ _ _ (lane-out (s .pre .0 .framed) (s .pre .1) (s .pre .3) (s .pre .4) (s .pre .5) (s .pre .6) (c .before .before .first-place .ensures) (c .before .middle-from .ensures) (c .if1 .taken)))
+    sym (cond-no _ _ _ (lane-out (s .pre .0) (s .pre .1) (s .pre .3) (s .pre .4) (s .pre .5) (s .pre .6) (c .before .before .first-place .ensures) (c .before .middle-from .ensures) (c .if1 .taken)))
 
 mul-fill-lane : tie.Need-mul-fill-lane
 mul-fill-lane c = search needs
@@ -48,8 +48,11 @@ same-length-2 c = search needs
 returns-2 : tie.Need-returns-2
 returns-2 c =
     let s = c .before .before .before .before .before .before .before .before .before .before .before .before .before in
-    c .before .before .fill-lane .ensures ∙ ap (λ x. filledLane (s .args .mode) (s .args .p) (s .args .s) (s .args .lane) (getD (now (s .args .lefts)) (s .args .axis) 0) x (now (s .args .out))) (c .before .before .before .before .before .len-of .ensures)
-    ∙ sym (cond-yes _ _ _ (lane-in (s .pre .0 .framed) (s .pre .1) (s .pre .3) (s .pre .4) (s .pre .5) (s .pre .6) (c .before .before .before .before .before .before .before .before .before .first-place .ensures) (c .before .before .before .before .before .before .before .before .middle-from .ensures) (c .before .before .before .before .before .before .before .if1 .left)))
+    let a = s .args in
+    let t = c .before .before .before .before .before .before .before in
+    c .before .before .fill-lane .ensures
+    ∙ ap (λ x. filledLane (a .statistic) (a .p) (a .s) (a .lane) (getD (now (a .lefts)) (a .axis) 0) x (now (a .out))) (c .before .before .before .before .before .len-of .ensures)
+    ∙ sym (cond-yes _ _ _ (lane-in (s .pre .0) (s .pre .1) (s .pre .3) (s .pre .4) (s .pre .5) (s .pre .6) (t .before .before .first-place .ensures) (t .before .middle-from .ensures) (t .if1 .left)))
 
 pub fill-lane-spec : {M : Type 1} → statement M
 fill-lane-spec =

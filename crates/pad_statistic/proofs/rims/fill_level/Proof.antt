@@ -11,7 +11,7 @@ use lib.ListN.{length}
 use mir.Syntax.{w64}
 use mir.Val.{toZ}
 use Rattle.numbers.proofs.Read.{read}
-use Rattle.lanes.specs.Lanes.{laneBase, laneInside, withLane}
+use Rattle.lanes.specs.Lanes.{laneInside, withLane}
 use Rattle.border.specs.Border.{constant}
 use Rattle.pad_line.specs.Line.{paddedLine}
 use Rattle.pad_spec.proofs.Rims.{ownOf, Filled, filled-none, cell-in, inside-kept, before-constant, after-constant, filled-again, filled-joined, filled-all}

@@ -1,16 +1,12 @@
 -- `serves` meets its contract: each return has the answers of the tests on its way.
 -- Assumes nothing.
-use mathlib.Core.Path.{_≡_, sym, ap, _∙_}
-use mathlib.Core.Bool.{and-false, not}
-use mathlib.Core.List.{[]}
-use Prim.Native.Nat.{_+_, _-_}
-use Rattle.border.specs.Reach.{badPad}
+use mathlib.Core.Path.{refl}
+use mathlib.Core.Bool.{and-false}
+use Prim.Native.Nat.{_+_}
 use native.Mathlib.Omega.{arith}
 use borrow.Author.Tests.{lt-leb, le-leb}
-use Rattle.numbers.proofs.Tests.{told}
 use Rattle.lanes.proofs.FirstPlace.{place-none, place-some}
-use Rattle.pad_spec.specs.Fill.{rimOf, laneServes}
-use borrow.Author.Needs.{needs}
+use Rattle.pad_spec.specs.Fill.{laneServes}
 use Rattle.pad_statistic.proofs.rims.serves.Statement.{statement}
 use Rattle.pad_statistic.proofs.rims.serves.Tie as tie
 
@@ -34,39 +30,17 @@ returns-5 : tie.Need-returns-5
 unfolding laneServes
 returns-5 c = let a = c .before .before .before .before .before .args in simp (lt-leb (a .left + a .n) (a .p) (omega arith), and-false)
 
-bad-pad-requires : tie.Need-bad-pad-requires
-bad-pad-requires c κs = search needs
-
 returns-6 : tie.Need-returns-6
 unfolding laneServes
-returns-6 c = simp (told (c .before .bad-pad .ensures) (c .if6 .taken), and-false)
-
-sub-bad-pad : tie.Need-sub-bad-pad
-sub-bad-pad c = search needs
-
-bad-pad-requires-2 : tie.Need-bad-pad-requires-2
-bad-pad-requires-2 c κs = search needs
-
-returns-7 : tie.Need-returns-7
-unfolding laneServes
-returns-7 c =
-    let s = c .before .before .before .before .before .before .before .before in
+returns-6 c =
+    let s = c .before .before .before .before .before in
     let a = s .args in
-    let e : a .p - a .n - a .left ≡ a .p - (a .left + a .n) = omega arith in
-    simp (place-some _ _ _ _ _ (s .pre) (c .before .before .before .before .before .before .before .if1 .left), le-leb (a .p) 1152 (omega arith), le-leb 1 (a .n) (omega arith), le-leb (a .left + a .n) (a .p) (omega arith), told (c .before .before .bad-pad .ensures) (c .before .if6 .left))
-    (ap not (c .bad-pad2 .ensures ∙ ap (badPad (rimOf (a .mode) []) (a .n)) e))
+    simp (
+      place-some _ _ _ _ _ (s .pre) (c .before .before .before .before .if1 .left),
+      le-leb (a .p) 1152 (omega arith),
+      le-leb 1 (a .n) (omega arith),
+      le-leb (a .left + a .n) (a .p) (omega arith),
+    ) refl
 
 pub serves-spec : {M : Type 1} → statement M
-serves-spec =
-    tie.close
-    (tie.spec
-    returns
-    returns-2
-    returns-3
-    returns-4
-    returns-5
-    bad-pad-requires
-    returns-6
-    sub-bad-pad
-    bad-pad-requires-2
-    returns-7)
+serves-spec = tie.close (tie.spec returns returns-2 returns-3 returns-4 returns-5 returns-6)

@@ -1,12 +1,12 @@
--- `bad_pad_f64` meets its contract: each arm answers the definition's test; under Mirror a lane of no cells is told apart, since n − 1 is then 0.
+-- `bad_along` meets its contract: each arm answers the definition's test; under Mirror a lane of no cells is told apart, since n − 1 is then 0.
 -- Assumes nothing.
 use mathlib.Core.Path.{_≡_, refl, ap}
 use Prim.Native.Nat.{_-_}
 use native.Mathlib.Omega.{arith}
 use borrow.Author.Needs.{needs}
 use lib.Dec.{ltb}
-use Rattle.pad_line_f64.proofs.bad_pad_f64.Statement.{statement}
-use Rattle.pad_line_f64.proofs.bad_pad_f64.Tie as tie
+use Rattle.pad_line.proofs.bad_along.Statement.{statement}
+use Rattle.pad_line.proofs.bad_along.Tie as tie
 
 enum-told : tie.Need-enum-told
 enum-told c = search needs
@@ -26,9 +26,6 @@ enum-told-3 c = search needs
 enum-told-4 : tie.Need-enum-told-4
 enum-told-4 c = search needs
 
-enum-told-5 : tie.Need-enum-told-5
-enum-told-5 c = search needs
-
 returns-2 : tie.Need-returns-2
 returns-2 c = search needs
 
@@ -36,16 +33,13 @@ returns-3 : tie.Need-returns-3
 returns-3 c = rw (c .before .enum-told2 .given .1) refl
 
 returns-4 : tie.Need-returns-4
-returns-4 c = search needs
+returns-4 c = rw (c .enum-told3 .given .1) refl
 
 returns-5 : tie.Need-returns-5
 returns-5 c = rw (c .enum-told4 .given .1) refl
 
-returns-6 : tie.Need-returns-6
-returns-6 c = rw (c .enum-told5 .given .1) refl
-
-pub bad-pad-f64-spec : {M : Type 1} → statement M
-bad-pad-f64-spec =
+pub bad-along-spec : {M : Type 1} → statement M
+bad-along-spec =
     tie.close
     (tie.spec
     enum-told
@@ -53,9 +47,7 @@ bad-pad-f64-spec =
     returns
     enum-told-3
     enum-told-4
-    enum-told-5
     returns-2
     returns-3
     returns-4
-    returns-5
-    returns-6)
+    returns-5)
