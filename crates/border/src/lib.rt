@@ -11,6 +11,7 @@ mod reach;
 
 pub use constant::bad_constant;
 pub use constant::bad_constant_f64;
+pub use reach::bad_along;
 pub use reach::bad_pad;
 
 // How a grid of whole levels is extended beyond its edges.

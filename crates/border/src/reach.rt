@@ -1,29 +1,47 @@
 // Condition 11 of a lane: how long a pad a border fills.
 ghost use mathlib.Core.Path.{_≡_};
 ghost use Rattle.border.specs.Modes.{borderOf};
-ghost use Rattle.border.specs.Reach.{badPad};
+ghost use Rattle.border.specs.Reach.{badAlong, badPad};
+use crate::Along;
 use crate::BorderMode;
 
-// Condition 11 of a lane: whether the border cannot fill a pad that long.
+// Condition 11 of a lane that is extended by cells of its own: whether they cannot fill a pad that long.
 //
-// * `mode` - the border.
+// * `along` - which cells.
 // * `n` - how many cells the lane has.
 // * `pad` - how many places are padded on one side.
 //
-// Refuses nothing. Of three cells Mirror fills a pad of 2 and not of 3, Reflect and Wrap fill 3 and not 4, Nearest and Constant any.
-pub fn bad_pad(mode: BorderMode, n: usize, pad: usize) -> bool
-    ensures { λ r. ⌜ r ≡ badPad (borderOf mode) n pad ⌝ }
+// Refuses nothing. Of three cells Mirror fills a pad of 2 and not of 3, Reflect and Wrap fill 3 and not 4, Nearest any.
+pub fn bad_along(along: Along, n: usize, pad: usize) -> bool
+    ensures { λ r. ⌜ r ≡ badAlong along n pad ⌝ }
 {
-    match mode {
-        BorderMode::Constant(_) => false,
-        BorderMode::Mirror => {
+    match along {
+        Along::Nearest => false,
+        Along::Mirror => {
             if n < 1 {
                 return 0 < pad;
             }
             n - 1 < pad
         }
-        BorderMode::Nearest => false,
-        BorderMode::Reflect => n < pad,
-        BorderMode::Wrap => n < pad,
+        Along::Reflect => n < pad,
+        Along::Wrap => n < pad,
+    }
+}
+
+// Condition 11 of a lane: whether the border cannot fill a pad that long.
+//
+// * `mode` - the border.
+// * `n`, `pad` - as in `bad_along`.
+//
+// Refuses nothing. Of three cells Mirror fills a pad of 2 and not of 3, Constant any.
+pub fn bad_pad(mode: BorderMode, n: usize, pad: usize) -> bool
+    ensures { λ r. ⌜ r ≡ badPad (borderOf mode) n pad ⌝ }
+{
+    match mode {
+        BorderMode::Constant(_) => false,
+        BorderMode::Mirror => bad_along(Along::Mirror, n, pad),
+        BorderMode::Nearest => bad_along(Along::Nearest, n, pad),
+        BorderMode::Reflect => bad_along(Along::Reflect, n, pad),
+        BorderMode::Wrap => bad_along(Along::Wrap, n, pad),
     }
 }

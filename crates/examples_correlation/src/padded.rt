@@ -6,14 +6,14 @@ use examples_print::test;
 
 // Pads of three cells.
 pub(crate) fn pad_conditions() {
-    test(pad_line::bad_pad(BorderMode::Mirror, 3, 2));
-    test(pad_line::bad_pad(BorderMode::Mirror, 3, 3));
-    test(pad_line::bad_pad(BorderMode::Reflect, 3, 3));
-    test(pad_line::bad_pad(BorderMode::Reflect, 3, 4));
-    test(pad_line::bad_pad(BorderMode::Wrap, 3, 3));
-    test(pad_line::bad_pad(BorderMode::Wrap, 3, 4));
-    test(pad_line::bad_pad(BorderMode::Nearest, 3, 18446744073709551615));
-    test(pad_line::bad_pad(BorderMode::Constant(0), 3, 18446744073709551615));
+    test(border::bad_pad(BorderMode::Mirror, 3, 2));
+    test(border::bad_pad(BorderMode::Mirror, 3, 3));
+    test(border::bad_pad(BorderMode::Reflect, 3, 3));
+    test(border::bad_pad(BorderMode::Reflect, 3, 4));
+    test(border::bad_pad(BorderMode::Wrap, 3, 3));
+    test(border::bad_pad(BorderMode::Wrap, 3, 4));
+    test(border::bad_pad(BorderMode::Nearest, 3, 18446744073709551615));
+    test(border::bad_pad(BorderMode::Constant(0), 3, 18446744073709551615));
 }
 
 // Lanes of three cells of a grid of 6, with pads 2 and 2.

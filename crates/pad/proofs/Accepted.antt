@@ -19,7 +19,7 @@ use Rattle.array_spec.specs.Grid.{cellCount, lengthOf}
 use Rattle.array_spec.proofs.Shapes.{count-accepted, length-judged}
 use Rattle.border.specs.declared.Along.{Along}
 use Rattle.border.specs.declared.PadMode.{PadMode}
-use Rattle.pad_line.specs.Line.{badAlong, badPad}
+use Rattle.border.specs.Reach.{badAlong, badPad}
 use Rattle.pad_spec.specs.Fill.{fillerOf, borderBy, rimOf}
 use Rattle.pad_spec.specs.declared.rim.Filler.the-variants.{Cells}
 use Rattle.pad_spec.specs.Conditions.{badCount, overPad, paddedCount, badPads, badReachOn, badReach, padJudged}

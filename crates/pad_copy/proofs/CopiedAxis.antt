@@ -14,7 +14,8 @@ use Rattle.array_spec.proofs.Places.{length-pos}
 use Rattle.array_spec.proofs.Strides.{outerOf, outer-pos, count-split}
 use Rattle.lanes.specs.Lanes.{laneOf}
 use Rattle.border.specs.declared.Along.{Along}
-use Rattle.pad_line.specs.Line.{paddedAt, badAlong}
+use Rattle.pad_line.specs.Line.{paddedAt}
+use Rattle.border.specs.Reach.{badAlong}
 use Rattle.pad_spec.specs.Fill.{rimOf, modeAlong}
 use Rattle.pad_spec.proofs.Fillers.{rim-along}
 use Rattle.pad_spec.proofs.Rims.{ownOf}

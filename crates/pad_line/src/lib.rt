@@ -1,5 +1,4 @@
-// The padded line: a lane read into a lent line and extended in place, and condition 11 of a lane. `window` has the
-// window of a cell.
+// The padded line: a lane read into a lent line and extended in place. `window` has the window of a cell.
 ghost use Rattle.pad_line.specs.Rows.{PadLineRows};
 ghost use mathlib.Core.Path.{_≡_};
 ghost use mathlib.Core.Bool.{_&&_};
@@ -10,8 +9,7 @@ ghost use lib.ListN.{drop};
 ghost use mathlib.Core.List.{_++_};
 ghost use Rattle.lanes.specs.Lanes.{laneInside, laneAt};
 ghost use Rattle.border.specs.Modes.{borderOf};
-ghost use Rattle.pad_line.specs.Line.{badAlong, badPad, paddedLine, paddedLane, Padding};
-use border::Along;
+ghost use Rattle.pad_line.specs.Line.{paddedLine, paddedLane, Padding};
 use border::BorderMode;
 
 mod extension;
@@ -19,47 +17,6 @@ mod steps;
 
 pub use steps::copy_steps;
 pub use steps::copy_steps_f64;
-
-// Condition 11 of a lane that is extended by cells of its own: whether they cannot fill a pad that long.
-//
-// * `along` - which cells.
-// * `n` - how many cells the lane has.
-// * `pad` - how many places are padded on one side.
-//
-// Refuses nothing. Of three cells Mirror fills a pad of 2 and not of 3, Reflect and Wrap fill 3 and not 4, Nearest any.
-pub fn bad_along(along: Along, n: usize, pad: usize) -> bool
-    ensures { λ r. ⌜ r ≡ badAlong along n pad ⌝ }
-{
-    match along {
-        Along::Nearest => false,
-        Along::Mirror => {
-            if n < 1 {
-                return 0 < pad;
-            }
-            n - 1 < pad
-        }
-        Along::Reflect => n < pad,
-        Along::Wrap => n < pad,
-    }
-}
-
-// Condition 11 of a lane: whether the border cannot fill a pad that long.
-//
-// * `mode` - the border.
-// * `n`, `pad` - as in `bad_along`.
-//
-// Refuses nothing. Of three cells Mirror fills a pad of 2 and not of 3, Constant any.
-pub fn bad_pad(mode: BorderMode, n: usize, pad: usize) -> bool
-    ensures { λ r. ⌜ r ≡ badPad (borderOf mode) n pad ⌝ }
-{
-    match mode {
-        BorderMode::Constant(_) => false,
-        BorderMode::Mirror => bad_along(Along::Mirror, n, pad),
-        BorderMode::Nearest => bad_along(Along::Nearest, n, pad),
-        BorderMode::Reflect => bad_along(Along::Reflect, n, pad),
-        BorderMode::Wrap => bad_along(Along::Wrap, n, pad),
-    }
-}
 
 // Whether a lane is inside the grid and its padded line no longer than the lent one.
 //

@@ -11,7 +11,8 @@ use Rattle.numbers.specs.Windows.{windowOf}
 use Rattle.border.specs.Modes.{borderOfF64}
 use Rattle.border.specs.declared.BorderModeF64.{BorderModeF64}
 use Rattle.border.specs.declared.BorderModeF64.the-variants as F64
-use Rattle.pad_line.specs.Line.{paddedLine, badPad}
+use Rattle.pad_line.specs.Line.{paddedLine}
+use Rattle.border.specs.Reach.{badPad}
 
 abbrev pub padded : BorderModeF64 → ℕ → ℕ → List Float → List Float
 padded m left right s = paddedLine nan (borderOfF64 m) left right s

@@ -16,7 +16,7 @@ use Rattle.numbers.specs.Lists.{tabulate}
 use Rattle.array_spec.specs.Conditions.{badShape}
 use Rattle.array_spec.specs.Grid.{cellCount, lengthOf, placeOf, coordinate, levelAt}
 use Rattle.border.specs.declared.Along.{Along}
-use Rattle.pad_line.specs.Line.{badAlong}
+use Rattle.border.specs.Reach.{badAlong}
 use Rattle.pad_spec.specs.Pads.{middleFrom}
 
 pub record Framed (ns lefts ps : List ℕ) : Type 0 where

@@ -19,7 +19,8 @@ use Rattle.numbers.specs.Lists.{tabulate}
 use Rattle.lanes.specs.Lanes.{laneOf, laneBase, lane}
 use Rattle.border.specs.Border.{along, cellBefore, cellAfter}
 use Rattle.border.specs.declared.Along.{Along}
-use Rattle.pad_line.specs.Line.{paddedAt, badAlong}
+use Rattle.pad_line.specs.Line.{paddedAt}
+use Rattle.border.specs.Reach.{badAlong}
 
 pub record Runs (m : Along) (p s blocks left n len : ℕ) : Type 0 where
   pub apart : 0 < s

@@ -2,7 +2,7 @@
 // `lane_rims` fill a lane with a statistic of its cells, in the grid itself.
 ghost use mathlib.Core.Path.{_≡_};
 ghost use mathlib.Core.List.{[]};
-ghost use Rattle.pad_line.specs.Line.{badPad};
+ghost use Rattle.border.specs.Reach.{badPad};
 ghost use Rattle.pad_spec.specs.Fill.{fillerOf, rimOf};
 use border::Along;
 use border::PadMode;
@@ -61,7 +61,7 @@ pub fn bad_pad(mode: PadMode, n: usize, pad: usize) -> bool
     let filler = filler_of(mode);
     match filler {
         Filler::Level(_) => false,
-        Filler::Cells(along) => pad_line::bad_along(along, n, pad),
+        Filler::Cells(along) => border::bad_along(along, n, pad),
         Filler::Statistic(_) => false,
     }
 }

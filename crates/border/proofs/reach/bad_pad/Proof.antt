@@ -1,8 +1,8 @@
 -- `bad_pad` meets its contract: a constant fills any pad, and the other borders are judged by the cells that they read.
 -- Assumes nothing.
 use borrow.Author.Needs.{needs}
-use Rattle.pad_line.proofs.bad_pad.Statement.{statement}
-use Rattle.pad_line.proofs.bad_pad.Tie as tie
+use Rattle.border.proofs.reach.bad_pad.Statement.{statement}
+use Rattle.border.proofs.reach.bad_pad.Tie as tie
 
 enum-told : tie.Need-enum-told
 enum-told c = search needs

@@ -3,7 +3,7 @@
 use mathlib.Core.Path.{sym, ap, _∙_}
 use mathlib.Core.List.{[]}
 use borrow.Author.Needs.{needs}
-use Rattle.pad_line.specs.Line.{badPad}
+use Rattle.border.specs.Reach.{badPad}
 use Rattle.pad_spec.specs.Fill.{borderBy}
 use Rattle.pad_spec.proofs.rim.bad_pad.Statement.{statement}
 use Rattle.pad_spec.proofs.rim.bad_pad.Tie as tie

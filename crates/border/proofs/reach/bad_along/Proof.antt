@@ -5,8 +5,8 @@ use Prim.Native.Nat.{_-_}
 use native.Mathlib.Omega.{arith}
 use borrow.Author.Needs.{needs}
 use lib.Dec.{ltb}
-use Rattle.pad_line.proofs.bad_along.Statement.{statement}
-use Rattle.pad_line.proofs.bad_along.Tie as tie
+use Rattle.border.proofs.reach.bad_along.Statement.{statement}
+use Rattle.border.proofs.reach.bad_along.Tie as tie
 
 enum-told : tie.Need-enum-told
 enum-told c = search needs
