@@ -1,4 +1,7 @@
-// The padded line: a lane read into a lent line and extended in place, and condition 11 of a lane. `window` has the window of a cell.
+// The padded line: a lane read into a lent line and extended in place, and condition 11 of a lane. `window` has the
+// window of a cell.
+// What a line filter gives on every padded lane of an axis is defined in specs/Lane.antt. The loops over lanes stand
+// with their filters; their laws are here, over any element and line filter: OneLane, EveryLane, RowLoop, ColumnLoop.
 ghost use Rattle.pad_line.specs.Rows.{PadLineRows};
 ghost use mathlib.Core.Path.{_≡_};
 ghost use mathlib.Core.Bool.{_&&_};
@@ -24,7 +27,8 @@ pub use steps::copy_steps_f64;
 // * `n` - how many cells the lane has.
 // * `pad` - how many places are padded on one side.
 //
-// Refuses nothing. Of three cells Mirror fills a pad of 2 and not of 3, Reflect and Wrap fill 3 and not 4, Nearest and Constant any.
+// Refuses nothing. Of three cells Mirror fills a pad of 2 and not of 3, Reflect and Wrap fill 3 and not 4, Nearest and
+// Constant any.
 pub fn bad_pad(mode: BorderMode, n: usize, pad: usize) -> bool
     ensures { λ r. ⌜ r ≡ badPad (borderOf mode) n pad ⌝ }
 {
@@ -77,8 +81,9 @@ pub fn lane_fits(
     true
 }
 
-// Reads the n cells of the grid from place base on, stride apart, into a lent line and extends them by the border. The other arguments are those of `pad_lane`, for a caller
-// that has tested them. Of 4 5 6 1 2 3 the three neighbours from place 3 on, with pads 2 and 2 under Mirror, are 3 2 1 2 3 2 1.
+// Reads the n cells of the grid from place base on, stride apart, into a lent line and extends them by the border. The
+// other arguments are those of `pad_lane`, for a caller that has tested them. Of 4 5 6 1 2 3 the three neighbours from
+// place 3 on, with pads 2 and 2 under Mirror, are 3 2 1 2 3 2 1.
 pub fn pad_from(
     grid: &[i64],
     base: usize,
@@ -100,13 +105,14 @@ pub fn pad_from(
 // Reads a lane of the grid into a lent line and extends it by the border: the padded line.
 //
 // * `grid` - the cells of the grid.
-// * `stride`, `lane`, `n` - how many places apart the cells of the axis stand, the number of the lane, how many cells it has (`lanes::lanes_of`).
+// * `stride`, `lane`, `n` - how many places apart the cells of the axis stand, the number of the lane, how many cells
+//   it has (`lanes::lanes_of`).
 // * `mode` - the border.
 // * `left`, `right` - how many places are padded before and after the lane.
 // * `line` - holds the padded line from its start on; what is past the padded line stays as it was.
 //
-// The line stays as it was where the lane is not inside the grid, the grid has over 32,768 cells, the padded line is longer than the
-// lent one, or condition 11 (`bad_pad`) refuses a pad.
+// The line stays as it was where the lane is not inside the grid, the grid has over 32,768 cells, the padded line is
+// longer than the lent one, or condition 11 (`bad_pad`) refuses a pad.
 // Lane 1 of the rows 4 5 6 / 1 2 3 along axis 1, with pads 2 and 2 under Mirror, is 3 2 1 2 3 2 1.
 pub fn pad_lane(
     grid: &[i64],
