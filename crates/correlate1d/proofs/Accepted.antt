@@ -54,8 +54,10 @@ module _ {turned : Bool} {b : Border ℤ} {o : ℤ} {w : List ℤ} {ns : List �
     pub weighs-accepted : Weighs b ns a (appliedOrigin turned (length w) o) (appliedWeights turned w) cells out
     weighs-accepted = record {
       placed = placed-accepted out P more;
-      weights = applied-weights badWeight turned w (P .weights);
-      level = small-constant b (P .level);
-      levels = small-sized cells (levels-sized cells (P .grid .levels)) (omega arith);
-      narrow = λ h. (P .level, P .grid .levels);
+      small = record {
+        weights = applied-weights badWeight turned w (P .weights);
+        level = small-constant b (P .level);
+        levels = small-sized cells (levels-sized cells (P .levels)) (omega arith);
+        narrow = λ h. (P .level, P .levels);
+      };
     }

@@ -2,4 +2,5 @@
 pub mod Passed
 pub mod Accepted
 pub mod Weighed
+pub mod LaneSums
 pub mod Stores

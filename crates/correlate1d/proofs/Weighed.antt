@@ -13,15 +13,13 @@ use Rattle.numbers.proofs.Tests.{or-false, cond-no}
 use Rattle.array_spec.specs.Grid.{lengthOf}
 use Rattle.lanes.specs.Lanes.{alongAxis}
 use Rattle.border.specs.Border.{Border}
-use Rattle.border.specs.Reach.{badPad}
+use Rattle.pad_line.specs.Line.{badPad}
+use Rattle.pad_line.specs.Lane.{AxisNeeds}
 use Rattle.symmetry_spec.specs.declared.SymmetryState.{SymmetryState}
 use Rattle.window.specs.Window.{badWindowOrigin, leftPad, rightPad}
 use Rattle.window.proofs.Reach.{pads-size}
 use Rattle.correlate_spec.specs.Weighed.{Ops}
 use Rattle.correlate_spec.specs.Correlated.{correlatedLine, correlatedBy}
-use Rattle.correlate_judge.specs.Judge.{badWeight}
-use Rattle.axis_filter.specs.Lane.{Sweep}
-use Rattle.axis_filter.specs.Filter.{Weighing}
 use Rattle.correlate1d.specs.Weighs.{Placed, Weighs}
 
 -- the same call by other names of its origin and weights
@@ -42,7 +40,7 @@ module _ {A : Type 0} {b : Border A} {ns : List ℕ} {a : ℕ} {o : ℤ} {w cell
     pub pads-total : l + g + 1 ≡ length w
     pads-total = (λ j. L j + G j + 1) ∙ pads-size (length w) o (W .origin)
 
-    pub sweep-weighed : Sweep b ns a l g cells out
+    pub sweep-weighed : AxisNeeds b ns a l g cells out
     sweep-weighed =
         let p = or-false (badPad b (lengthOf ns a) (leftPad (length w) o)) (badPad b (lengthOf ns a) (rightPad (length w) o)) (W .reach) in record {
           shape = W .shape;
@@ -54,13 +52,9 @@ module _ {A : Type 0} {b : Border A} {ns : List ℕ} {a : ℕ} {o : ℤ} {w cell
           narrow = omega (arith, pads-total, W .few);
         }
 
-    pub weighed-answer : (ops : Ops A) (class : SymmetryState) {left : List A} → left ≡ alongAxis (ops .past) (correlatedLine ops class b l g w) ns a cells → left ≡ correlatedBy ops class b o w ns a cells
+    pub weighed-answer : (ops : Ops A) (class : SymmetryState) {left : List A} → left ≡ alongAxis (ops .past) (correlatedLine ops class b l g w) ns a cells
+        → left ≡ correlatedBy ops class b o w ns a cells
     unfolding correlatedBy
     weighed-answer ops class {left} e =
         e ∙ (λ j. alongAxis (ops .past) (correlatedLine ops class b (L j) (G j) w) ns a cells)
         ∙ sym (cond-no (eqb (length w) 1) _ _ (ne-eqb (length w) 1 two-weights))
-
--- the weights and levels of a whole call
-pub weighing : {b : Border ℤ} {ns : List ℕ} {a : ℕ} {o : ℤ} {w cells out : List ℤ} (W : Weighs b ns a o w cells out) {l g : ℕ} → l ≡ leftPad (length w) o → g ≡ rightPad (length w) o → Weighing w (l + g + 1) b cells
-unfolding badWeight
-weighing W L G = record { many = sym (pads-total (W .placed) L G); weights = W .weights; level = W .level; cells-in = W .levels; narrow = W .narrow }

@@ -5,8 +5,18 @@ use mathlib.Core.Path.{_≡_}
 use mathlib.Core.Bool.{true, false}
 use mathlib.Core.List.{[], _∷_, map}
 use lib.IntN.{pos}
-use Rattle.numbers.specs.Rows.{minus}
+use Rattle.numbers.specs.Rows.{minus, wholes}
+use Rattle.border.specs.Border.{along}
+use Rattle.border.specs.declared.Along.the-variants.{Nearest}
+use Rattle.symmetry_spec.specs.declared.SymmetryState.the-variants.{NonSymmetric}
+use Rattle.correlate_spec.specs.Weighed.{wholeOps}
+use Rattle.correlate_spec.specs.Correlated.{correlatedLine}
 use Rattle.correlate1d.specs.Weighs.{tooLarge}
 
 pub record Correlate1dRows : Type 0 where
-  pub limits : map tooLarge (minus (2 ^ 38 + 1) ∷ minus (2 ^ 38) ∷ pos 0 ∷ pos (2 ^ 38) ∷ pos (2 ^ 38 + 1) ∷ []) ≡ true ∷ false ∷ false ∷ false ∷ true ∷ []
+  pub limits : map tooLarge (minus (2 ^ 38 + 1) ∷ minus (2 ^ 38) ∷ pos 0 ∷ pos (2 ^ 38) ∷ pos (2 ^ 38 + 1) ∷ [])
+      ≡ true ∷ false ∷ false ∷ false ∷ true ∷ []
+  -- 4 2 7 1 under Nearest in windows of three with the weights 1 2 3
+  pub weighed : correlatedLine wholeOps NonSymmetric (along Nearest) 1 1 (wholes (1 ∷ 2 ∷ 3 ∷ []))
+      (wholes (4 ∷ 2 ∷ 7 ∷ 1 ∷ []))
+      ≡ wholes (18 ∷ 29 ∷ 19 ∷ 12 ∷ [])

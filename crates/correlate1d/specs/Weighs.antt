@@ -1,8 +1,12 @@
 -- What the workers suppose of a call that was accepted.
 --   tooLarge z                  a level that a sum of a pass might leave 64 bits with: outside −2^38..2^38
 --   Scales cells w out          every cell and the weight w are within their limits, and the output is as long
---   Placed b ns a o w cells out two weights or more, of any element, applied with the origin o along axis a, whose border fills both pads
---   Weighs b ns a o w cells out the same of whole weights and levels within their limits; of five weights or more, within condition 3
+--   Placed b ns a o w cells out two weights or more, of any element, applied with the origin o along axis a, whose
+--                               border fills both pads
+--   Weighing w b cells          whole weights within condition 6, and the cells and the border's constant within
+--                               −2^38..2^38, so that no sum leaves 64 bits; of five weights or more, they are within
+--                               condition 3
+--   Weighs b ns a o w cells out both
 use Prim.Native.Nat.{ℕ, _^_, _≤_, _<_}
 use mathlib.Core.Path.{_≡_}
 use mathlib.Core.Bool.{Bool, false}
@@ -37,9 +41,12 @@ pub record Placed {A : Type 0} (b : Border A) (ns : List ℕ) (a : ℕ) (o : ℤ
   pub origin : badOrigin (length w) o ≡ false
   pub reach : badReach b (length w) o (lengthOf ns a) ≡ false
 
-pub record Weighs (b : Border ℤ) (ns : List ℕ) (a : ℕ) (o : ℤ) (w cells out : List ℤ) : Type 0 where
-  pub placed : Placed b ns a o w cells out
+pub record Weighing (w : List ℤ) (b : Border ℤ) (cells : List ℤ) : Type 0 where
   pub weights : anyOf badWeight w ≡ false
   pub level : badConstantBy tooLarge b ≡ false
   pub levels : anyOf tooLarge cells ≡ false
   pub narrow : 5 ≤ length w → (badConstantBy badLevel b ≡ false) × (anyOf badLevel cells ≡ false)
+
+pub record Weighs (b : Border ℤ) (ns : List ℕ) (a : ℕ) (o : ℤ) (w cells out : List ℤ) : Type 0 where
+  pub placed : Placed b ns a o w cells out
+  pub small : Weighing w b cells

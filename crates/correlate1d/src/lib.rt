@@ -1,8 +1,9 @@
-// Correlation and convolution of whole levels along an axis (src/filters/con_corr.rs; SciPy's correlate1d and convolve1d).
+// Correlation and convolution of whole levels along an axis (src/filters/con_corr.rs; SciPy's correlate1d and
+// convolve1d).
 ghost use mathlib.Core.Path.{_≡_};
 ghost use mathlib.Core.Bool.{true, false};
 ghost use mathlib.Core.List.{map};
-ghost use lib.IntN.{pos, _*ℤ_};
+ghost use lib.IntN.{_*ℤ_};
 ghost use lib.ListN.{length};
 ghost use Rattle.numbers.specs.Refusal.{refusalOf, Answers};
 ghost use Rattle.border.specs.Modes.{borderOf};
@@ -10,10 +11,10 @@ ghost use Rattle.correlate_spec.specs.Correlated.{correlate1dZ, convolve1dZ};
 ghost use Rattle.correlate_judge.specs.Judge.{correlateJudged};
 ghost use Rattle.correlate1d.specs.Rows.{Correlate1dRows};
 ghost use Rattle.correlate1d.specs.Weighs.{Scales, Weighs};
-use axis_filter::LineFilter;
 use border::BorderMode;
 use window::Origin;
 
+mod each_lane;
 mod reversal;
 
 pub use reversal::reverse;
@@ -46,8 +47,7 @@ pub fn weigh(
 {
     match window::origin_check(weights.len(), origin) {
         Origin::Refused => {}
-        Origin::Pads(left, right) => axis_filter::filter_axis(
-            LineFilter::Weighed,
+        Origin::Pads(left, right) => each_lane::correlate_axis(
             weights,
             mode,
             data,
@@ -103,7 +103,8 @@ fn convolve_cells(
     weigh(data, shape, turned, axis, mode, applied, out);
 }
 
-// The sums of each window times the weights, along an axis. With one weight every cell is multiplied by it, and the origin is not read.
+// The sums of each window times the weights, along an axis. With one weight every cell is multiplied by it, and the
+// origin is not read.
 //
 // * `data` - the cells of the grid.
 // * `shape` - the length of each axis.

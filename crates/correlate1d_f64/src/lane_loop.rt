@@ -1,4 +1,5 @@
-// The weighted sums of floats on every lane of an axis: each lane is padded into a line and summed, straight into out where its cells are neighbours, else through a buffer.
+// The weighted sums of floats on every lane of an axis: each lane is padded into a line and summed, straight into out
+// where its cells are neighbours, else through a buffer.
 ghost use mathlib.Core.Path.{_≡_};
 ghost use Prim.Native.Nat.{_+_};
 ghost use lib.Ieee.{nan};
@@ -6,13 +7,14 @@ ghost use lib.ListN.{length};
 ghost use Rattle.array_spec.specs.Grid.{lengthOf, strideOf};
 ghost use Rattle.lanes.specs.Lanes.{laneAt, alongAxis};
 ghost use Rattle.border.specs.Modes.{borderOfF64};
+ghost use Rattle.pad_line.specs.Lane.{LineNeeds, AxisNeeds};
 ghost use Rattle.correlate_spec.specs.Weighed.{floatOps};
 ghost use Rattle.correlate_spec.specs.Correlated.{correlatedLine};
-ghost use Rattle.axis_filter.specs.Lane.{Room, Sweep};
 use border::BorderModeF64;
 use symmetry_spec::SymmetryState;
 
-// Fills a row with the weighted sums of the lane of data that starts at place base and has as many cells as the row. The line has room for the padded lane.
+// Fills a row with the weighted sums of the lane of data that starts at place base and has as many cells as the row.
+// The line has room for the padded lane.
 fn correlate_lane(
     weights: &[f64],
     class: SymmetryState,
@@ -25,7 +27,7 @@ fn correlate_lane(
     line: &mut [f64],
     row: &mut [f64],
 )
-    requires { ⌜ Room (borderOfF64 mode) (length (now row)) stride base left right (now «data») (now line) × (length (now weights) ≡ left + right + 1) ⌝ }
+    requires { ⌜ LineNeeds (borderOfF64 mode) (length (now row)) stride base left right (now «data») (now line) × (length (now weights) ≡ left + right + 1) ⌝ }
     ensures { λ _. ⌜ now (row .exit) ≡ correlatedLine floatOps class (borderOfF64 mode) left right (now (weights .entry)) (laneAt nan (now («data» .entry)) base stride (length (now (row .entry)))) ⌝ }
 {
     let n = row.len();
@@ -34,7 +36,8 @@ fn correlate_lane(
     correlate_line_f64::correlate_line_f64(weights, class, &line[..total], row);
 }
 
-// The sums on every lane of an axis whose cells are neighbours: each lane is summed straight into its part of out. The line is a buffer of 1,088 cells.
+// The sums on every lane of an axis whose cells are neighbours: each lane is summed straight into its part of out. The
+// line is a buffer of 1,088 cells.
 fn correlate_rows(
     weights: &[f64],
     class: SymmetryState,
@@ -47,7 +50,7 @@ fn correlate_rows(
     line: &mut [f64],
     out: &mut [f64],
 )
-    requires { ⌜ Sweep (borderOfF64 mode) (now shape) axis left right (now «data») (now out) × (length (now weights) ≡ left + right + 1) × (length (now line) ≡ 1088) × (strideOf (now shape) axis ≡ 1) ⌝ }
+    requires { ⌜ AxisNeeds (borderOfF64 mode) (now shape) axis left right (now «data») (now out) × (length (now weights) ≡ left + right + 1) × (length (now line) ≡ 1088) × (strideOf (now shape) axis ≡ 1) ⌝ }
     ensures { λ _. ⌜ now (out .exit) ≡ alongAxis nan (correlatedLine floatOps class (borderOfF64 mode) left right (now (weights .entry))) (now (shape .entry)) axis (now («data» .entry)) ⌝ }
 {
     let along = lanes::lanes_of(shape, axis);
@@ -74,7 +77,8 @@ fn correlate_rows(
     }
 }
 
-// The sums on every lane of any axis: each lane is summed into swept, which is as long as the axis, and written to its cells of out.
+// The sums on every lane of any axis: each lane is summed into swept, which is as long as the axis, and written to its
+// cells of out.
 fn correlate_lanes(
     weights: &[f64],
     class: SymmetryState,
@@ -88,7 +92,7 @@ fn correlate_lanes(
     swept: &mut [f64],
     out: &mut [f64],
 )
-    requires { ⌜ Sweep (borderOfF64 mode) (now shape) axis left right (now «data») (now out) × (length (now weights) ≡ left + right + 1) × (length (now line) ≡ 1088) × (length (now swept) ≡ lengthOf (now shape) axis) ⌝ }
+    requires { ⌜ AxisNeeds (borderOfF64 mode) (now shape) axis left right (now «data») (now out) × (length (now weights) ≡ left + right + 1) × (length (now line) ≡ 1088) × (length (now swept) ≡ lengthOf (now shape) axis) ⌝ }
     ensures { λ _. ⌜ now (out .exit) ≡ alongAxis nan (correlatedLine floatOps class (borderOfF64 mode) left right (now (weights .entry))) (now (shape .entry)) axis (now («data» .entry)) ⌝ }
 {
     let along = lanes::lanes_of(shape, axis);
@@ -132,7 +136,7 @@ fn correlate_columns(
     line: &mut [f64],
     out: &mut [f64],
 )
-    requires { ⌜ Sweep (borderOfF64 mode) (now shape) axis left right (now «data») (now out) × (length (now weights) ≡ left + right + 1) × (length (now line) ≡ 1088) ⌝ }
+    requires { ⌜ AxisNeeds (borderOfF64 mode) (now shape) axis left right (now «data») (now out) × (length (now weights) ≡ left + right + 1) × (length (now line) ≡ 1088) ⌝ }
     ensures { λ _. ⌜ now (out .exit) ≡ alongAxis nan (correlatedLine floatOps class (borderOfF64 mode) left right (now (weights .entry))) (now (shape .entry)) axis (now («data» .entry)) ⌝ }
 {
     let n = array::len_of(shape, axis);
@@ -152,7 +156,8 @@ fn correlate_columns(
     );
 }
 
-// Fills out with the weighted sums of the lanes of the axis of data: left and right are the pads of a window of left + right + 1 cells.
+// Fills out with the weighted sums of the lanes of the axis of data: left and right are the pads of a window of left +
+// right + 1 cells.
 pub(crate) fn correlate_axis_f64(
     weights: &[f64],
     class: SymmetryState,
@@ -164,7 +169,7 @@ pub(crate) fn correlate_axis_f64(
     right: usize,
     out: &mut [f64],
 )
-    requires { ⌜ Sweep (borderOfF64 mode) (now shape) axis left right (now «data») (now out) × (length (now weights) ≡ left + right + 1) ⌝ }
+    requires { ⌜ AxisNeeds (borderOfF64 mode) (now shape) axis left right (now «data») (now out) × (length (now weights) ≡ left + right + 1) ⌝ }
     ensures { λ _. ⌜ now (out .exit) ≡ alongAxis nan (correlatedLine floatOps class (borderOfF64 mode) left right (now (weights .entry))) (now (shape .entry)) axis (now («data» .entry)) ⌝ }
 {
     let mut line = [0.0; 1088];

@@ -21,7 +21,7 @@ use Rattle.border.specs.Border.{Border, constant, along, cellFor, inside, allIn
 use Rattle.border.specs.Modes.{badConstantBy}
 use Rattle.pad_line.specs.Line.{paddedAt, paddedLine, Padding}
 use Rattle.pad_line.proofs.Padded.{length-padded, getD-padded}
-use Rattle.axis_filter.proofs.Supposed.{any-table, any-padded}
+use Rattle.pad_line.proofs.EveryPadded.{any-table, any-padded}
 use Rattle.correlate_grid.specs.declared.axes.Axis.{Axis}
 use Rattle.correlate_grid.specs.Axes.{Serves, sourceFor, Laid}
 use Rattle.correlate_grid.specs.ByRows.{three, rowFor, constantOf, rowLine}

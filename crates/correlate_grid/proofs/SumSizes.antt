@@ -15,7 +15,7 @@ use Rattle.border.specs.Border.{Border}
 use Rattle.pad_line.proofs.Sizes.{constant-sized}
 use Rattle.correlate_spec.proofs.Sizes.{size-summed}
 use Rattle.correlate_spec.proofs.KernelSizes.{term-sized}
-use Rattle.axis_filter.proofs.Supposed.{any-table}
+use Rattle.pad_line.proofs.EveryPadded.{any-table}
 use Rattle.correlate_grid.specs.declared.axes.Axis.{Axis}
 use Rattle.correlate_grid.specs.Axes.{Laid}
 use Rattle.correlate_grid.specs.ByRows.{rowSum, rowsTo}

@@ -13,7 +13,6 @@ fn rows() {
     symmetry_spec::rows();
     pad_line::rows();
     pad_line_f64::rows();
-    axis_filter::rows();
     correlate_spec::rows();
     correlate_judge::rows();
     correlate1d::rows();

@@ -82,10 +82,7 @@ module _ {b : Border ℤ} {ns : List ℕ} {axis : ℕ} {cells : List ℤ} {out s
         origin = ap (λ n. badOrigin n (pos 0)) (S .three) ∙ centred;
         reach = ap (λ n. badReach b n (pos 0) (lengthOf ns a)) (S .three) ∙ or-no (badPad b (lengthOf ns a) 1) (badPad b (lengthOf ns a) 1) (pad-filled a h) (pad-filled a h);
       };
-      weights = small-weights w S;
-      level = small-constant b (A .level);
-      levels = small-sized g (B .sizes) l;
-      narrow = λ h. absurd (omega (arith, S .three));
+      small = record { weights = small-weights w S; level = small-constant b (A .level); levels = small-sized g (B .sizes) l; narrow = λ h. absurd (omega (arith, S .three)) };
     }
 
     pub between-pass : (a : ℕ) {new : List ℤ} → new ≡ correlate1dZ b (pos 0) w ns a g → Between b ns (6 * p) new

@@ -14,7 +14,6 @@ use Rattle.min_max.specs.OneAxisRows.{OneAxisRows}
 pub one-axis-rows : OneAxisRows
 unfolding tabulate windowOf placeOf coordinate cellFor extendedLane paddedAt paddedLine firsts firstIn answerOf
 one-axis-rows = record {
-  filters = refl;
   orders = refl;
   t4-minimum = refl;
   t4-maximum = refl;
@@ -22,4 +21,6 @@ one-axis-rows = record {
   after = refl;
   line-both = refl;
   line-before = refl;
+  line-least = refl;
+  line-greatest = refl;
 }

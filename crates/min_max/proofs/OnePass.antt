@@ -1,6 +1,6 @@
 -- An accepted one-axis call as the workers do it: a copy where the window is one cell, else every lane of the axis with the call's pads.
 -- Assumes nothing.
-use mathlib.Core.Path.{_≡_, refl, sym, ap, subst, _∙_}
+use mathlib.Core.Path.{_≡_, sym, ap, _∙_}
 use mathlib.Core.Bool.{Bool, false, not, _&&_, _||_}
 use mathlib.Core.List.{List}
 use Prim.Native.Nat.{ℕ, _+_, _≤_, _<_}
@@ -11,39 +11,22 @@ use lib.IntN.{ℤ, pos, natAbs}
 use lib.ListN.{length}
 use Rattle.numbers.proofs.Tests.{or-false, cond-yes}
 use Rattle.array_spec.specs.Assign.{copied}
-use Rattle.array_spec.proofs.Judged.{lent-same}
-use Rattle.lanes.specs.Lanes.{alongAxis}
+use Rattle.lanes.specs.Lanes.{laneAt, alongAxis}
 use Rattle.border.specs.Border.{Border}
-use Rattle.pad_line.specs.Line.{paddedLine}
-use Rattle.border.specs.Reach.{badPad}
-use Rattle.min_max_ring.specs.Firsts.{firsts}
-use Rattle.min_max_spec.specs.Call.{Call, alone, axisLength, numberOf}
-use Rattle.window.specs.Window.{leftPad, rightPad}
+use Rattle.pad_line.specs.Line.{badPad, paddedLine}
+use Rattle.pad_line.specs.Lane.{LineNeeds, AxisNeeds}
+use Rattle.pad_line.proofs.OneLane.{length-line}
+use Rattle.min_max_ring.specs.Firsts.{firsts, Served}
+use Rattle.min_max_spec.specs.Call.{Call, alone, leftPad, rightPad, axisLength, numberOf}
 use Rattle.min_max_spec.specs.Run.{answerOf}
-use Rattle.min_max_spec.proofs.Passed.{Passed, passed}
-use Rattle.axis_filter.specs.Lane.{filteredLane, Sweep}
-use Rattle.axis_filter.specs.Filter.{filtered, Supposed}
-use Rattle.axis_filter.specs.declared.LineFilter.{LineFilter}
-use Rattle.min_max.specs.Lane.{orderOf, extremesOf, lineFilterOf}
-use Rattle.min_max.specs.declared.extreme.Extreme.{Extreme}
-use Rattle.min_max.specs.declared.extreme.Extreme.the-variants.{Least, Greatest}
+use Rattle.min_max_spec.proofs.Passed.{Passed, passed, passed-lengths}
+use Rattle.min_max.specs.Lane.{extremesOf}
 use Rattle.min_max.proofs.ByLanes.{lineOf, answer-lanes, answer-copied, pads-size}
 
--- ---- the extremes, as a line filter
-pub extremes-supposed : (e : Extreme) {f : LineFilter} (w : List ℤ) (size : ℕ) (b : Border ℤ) (cells : List ℤ) → f ≡ lineFilterOf e → 1 < size → Supposed f w size b cells
-extremes-supposed e {f} w size b cells q h = subst (λ (x : LineFilter). Supposed x w size b cells) (sym q) (go e)
-  where
-    go : (e : Extreme) → Supposed (lineFilterOf e) w size b cells
-    go Least = h
-    go Greatest = h
-
-pub extremes-filtered : (e : Extreme) {f : LineFilter} (w : List ℤ) (b : Border ℤ) (l g : ℕ) (ns : List ℕ) (a : ℕ) (cells : List ℤ) → f ≡ lineFilterOf e
-    → alongAxis (pos 0) (filteredLane (pos 0) (filtered f w (l + g + 1)) b l g) ns a cells ≡ alongAxis (pos 0) (extremesOf (orderOf e) b l g) ns a cells
-extremes-filtered e {f} w b l g ns a cells q = ap (λ (x : LineFilter). alongAxis (pos 0) (filteredLane (pos 0) (filtered x w (l + g + 1)) b l g) ns a cells) q ∙ go e
-  where
-    go : (e : Extreme) → alongAxis (pos 0) (filteredLane (pos 0) (filtered (lineFilterOf e) w (l + g + 1)) b l g) ns a cells ≡ alongAxis (pos 0) (extremesOf (orderOf e) b l g) ns a cells
-    go Least = refl
-    go Greatest = refl
+-- a padded lane that has room serves the ring, where the window has two cells or more
+pub lane-served : {b : Border ℤ} {n s base left right : ℕ} {g line : List ℤ} → LineNeeds b n s base left right g line → 0 < left + right
+    → Served (length (paddedLine (pos 0) b left right (laneAt (pos 0) g base s n))) (left + right + 1) n
+lane-served R h = let e = length-line (pos 0) R in record { wide = omega arith; narrow = omega (arith, R .narrow); short = omega (arith, R .padding .fits, R .buffer); cells = omega arith }
 
 module _ (le : ℤ → ℤ → Bool) (cells : List ℤ) (c : Call) (accept : numberOf cells c ≡ 0) where
   P : Passed cells c
@@ -73,13 +56,13 @@ module _ (le : ℤ → ℤ → Bool) (cells : List ℤ) (c : Call) (accept : num
       total : l + g + 1 ≡ c .size
       total = (λ j. L j + G j + 1) ∙ pads-size cells c P padded
 
-      wide : 0 < l + g
-      wide = some (l + g) (λ z. more (sym total ∙ ap (λ x. x + 1) z))
+      pub window-wide : 0 < l + g
+      window-wide = some (l + g) (λ z. more (sym total ∙ ap (λ x. x + 1) z))
         where
           some : (k : ℕ) → (k ≡ 0 → ⊥) → 0 < k
           some k h = omega arith
 
-      pub sweep-accepted : Sweep (c .border) (c .shape) (c .axis) l g cells (c .out)
+      pub sweep-accepted : AxisNeeds (c .border) (c .shape) (c .axis) l g cells (c .out)
       sweep-accepted = record {
         shape = P .grid .shape;
         axis = ltb-true (c .axis) (length (c .shape)) (not-false (ltb (c .axis) (length (c .shape))) (P .axis));
@@ -89,9 +72,6 @@ module _ (le : ℤ → ℤ → Bool) (cells : List ℤ) (c : Call) (accept : num
         fills-right = ap (badPad (c .border) (axisLength c)) G ∙ fills .1;
         narrow = omega (arith, total, sizes .1);
       }
-
-      pub window-wide : 1 < l + g + 1
-      window-wide = omega (arith, wide)
 
       lines : (s : List ℤ) → extremesOf le (c .border) l g s ≡ lineOf le c s
       unfolding firsts

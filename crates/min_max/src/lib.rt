@@ -1,6 +1,7 @@
 // Minimum and maximum filters along every axis (src/filters/min_max.rs; SciPy's minimum_filter and maximum_filter), by the passes of `min_max1d`.
 ghost use Rattle.min_max.specs.Rows.{MinMaxRows};
 
+mod each_lane;
 mod every_axis;
 mod extreme;
 mod one_axis;

@@ -6,28 +6,19 @@ ghost use Rattle.numbers.specs.Refusal.{Answers};
 ghost use Rattle.min_max_spec.specs.Call.{callJudged, numberOf};
 ghost use Rattle.min_max_spec.specs.Run.{answerOf};
 ghost use Rattle.min_max_judge.specs.Judge.{callOf};
-ghost use Rattle.min_max.specs.Lane.{orderOf, lineFilterOf};
+ghost use Rattle.min_max.specs.Lane.{orderOf};
+use crate::each_lane::filter_axis;
 use crate::extreme::Extreme;
-use axis_filter::LineFilter;
 use border::BorderMode;
 use window::Origin;
-
-// The line filter that finds the extremes; it reads no weights.
-fn line_filter(extreme: Extreme) -> LineFilter
-    ensures { λ r. ⌜ r ≡ lineFilterOf extreme ⌝ }
-{
-    match extreme {
-        Extreme::Least => LineFilter::Least,
-        Extreme::Greatest => LineFilter::Greatest,
-    }
-}
 
 // Fills out with the answer of an accepted one-axis call; the grid forms make one pass for each axis.
 //
 // * `extreme` - which level of a window is kept.
 // * `data`, `shape`, `size`, `axis`, `mode`, `origin`, `out` - as in `minimum_filter1d`.
 //
-// Supposes the number 0, and refuses nothing. 4 2 7 1 with Least and size 3 along axis 0 under Reflect and origin 0 gives 2 2 1 1.
+// Supposes the number 0, and refuses nothing. 4 2 7 1 with Least and size 3 along axis 0 under Reflect and origin 0
+// gives 2 2 1 1.
 pub(crate) fn pass(
     extreme: Extreme,
     data: &[i64],
@@ -47,9 +38,8 @@ pub(crate) fn pass(
     }
     match window::origin_check(size, origin) {
         Origin::Refused => {}
-        Origin::Pads(left, right) => axis_filter::filter_axis(
-            line_filter(extreme),
-            &data[..0],
+        Origin::Pads(left, right) => filter_axis(
+            extreme,
             mode,
             data,
             shape,
@@ -93,8 +83,8 @@ fn filter1d(
 // * `origin` - moves the window of cell i to i - size / 2 - origin.
 // * `out` - as long as data; kept as it was where the call is refused.
 //
-// Returns 0, or the lowest number of a condition that holds: 1 (shape), 2 (a length), 3 (a level), 5 (size), 7 (origin), 8 (axis),
-// 9 (constant) or 11 (the border cannot fill a pad).
+// Returns 0, or the lowest number of a condition that holds: 1 (shape), 2 (a length), 3 (a level), 5 (size), 7
+// (origin), 8 (axis), 9 (constant) or 11 (the border cannot fill a pad).
 // 2 1 4 3 5 with size 3 along axis 0 under Reflect and origin 0 gives 1 1 1 3 3.
 pub fn minimum_filter1d(
     data: &[i64],

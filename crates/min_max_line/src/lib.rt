@@ -5,4 +5,6 @@ mod minimum;
 mod three_cells;
 
 pub use maximum::maximum_line;
+pub use maximum::maximum_windows;
 pub use minimum::minimum_line;
+pub use minimum::minimum_windows;

@@ -1,6 +1,7 @@
-// The greatest of each window of a line, by MINLIST: Richard Harter, "The minimum on a sliding window algorithm"; what a window
-// holds is SciPy's page on maximum_filter1d. The ring of pairs is `minlist`'s, an array of 65 with its start and its count. All of
-// it stays in the locals of one function, and the front is kept beside it: a ring that is passed on is copied at each cell.
+// The greatest of each window of a line, by MINLIST: Richard Harter, "The minimum on a sliding window algorithm"; what
+// a window holds is SciPy's page on maximum_filter1d. The ring of pairs is `minlist`'s, an array of 65 with its start
+// and its count. All of it stays in the locals of one function, and the front is kept beside it: a ring that is passed
+// on is copied at each cell.
 ghost use mathlib.Core.Path.{_≡_};
 ghost use lib.ListN.{length};
 ghost use Rattle.numbers.specs.Order.{atLeast};
@@ -83,6 +84,18 @@ fn maximum_cells(line: &[i64], len: usize, out: &mut [i64])
     }
 }
 
+// As `maximum_line`, of a line that the ring serves: for a caller that knows so, as the loop over lanes does.
+pub fn maximum_windows(line: &[i64], len: usize, out: &mut [i64])
+    requires { ⌜ Served (length (now line)) len (length (now out)) ⌝ }
+    ensures { λ _. ⌜ now (out .exit) ≡ firsts atLeast (now (line .entry)) len (length (now (out .entry))) ⌝ }
+{
+    if len == 3 {
+        three_cells(true, line, out);
+        return;
+    }
+    maximum_cells(line, len, out);
+}
+
 // Writes the greatest of each window of a line.
 //
 // * `line` - at most 1,088 cells.
@@ -97,9 +110,5 @@ pub fn maximum_line(line: &[i64], len: usize, out: &mut [i64])
     if !serves(line.len(), len, out.len()) {
         return;
     }
-    if len == 3 {
-        three_cells(true, line, out);
-        return;
-    }
-    maximum_cells(line, len, out);
+    maximum_windows(line, len, out);
 }

@@ -1,4 +1,7 @@
-// The padded line: a lane read into a lent line and extended in place. `window` has the window of a cell.
+// The padded line: a lane read into a lent line and extended in place, and condition 11 of a lane. `window` has the
+// window of a cell.
+// What a line filter gives on every padded lane of an axis is defined in specs/Lane.antt. The loops over lanes stand
+// with their filters; their laws are here, over any element and line filter: OneLane, EveryLane, RowLoop, ColumnLoop.
 ghost use Rattle.pad_line.specs.Rows.{PadLineRows};
 ghost use mathlib.Core.Path.{_≡_};
 ghost use mathlib.Core.Bool.{_&&_};
@@ -17,6 +20,31 @@ mod steps;
 
 pub use steps::copy_steps;
 pub use steps::copy_steps_f64;
+
+// Condition 11 of a lane: whether the border cannot fill a pad that long.
+//
+// * `mode` - the border.
+// * `n` - how many cells the lane has.
+// * `pad` - how many places are padded on one side.
+//
+// Refuses nothing. Of three cells Mirror fills a pad of 2 and not of 3, Reflect and Wrap fill 3 and not 4, Nearest and
+// Constant any.
+pub fn bad_pad(mode: BorderMode, n: usize, pad: usize) -> bool
+    ensures { λ r. ⌜ r ≡ badPad (borderOf mode) n pad ⌝ }
+{
+    match mode {
+        BorderMode::Constant(_) => false,
+        BorderMode::Mirror => {
+            if n < 1 {
+                return 0 < pad;
+            }
+            n - 1 < pad
+        }
+        BorderMode::Nearest => false,
+        BorderMode::Reflect => n < pad,
+        BorderMode::Wrap => n < pad,
+    }
+}
 
 // Whether a lane is inside the grid and its padded line no longer than the lent one.
 //
@@ -53,9 +81,9 @@ pub fn lane_fits(
     true
 }
 
-// Reads the n cells of the grid from place base on, stride apart, into a lent line and extends them by the border.
-// The other arguments are those of `pad_lane`, for a caller that has tested them. Of 4 5 6 1 2 3 the three neighbours
-// from place 3 on, with pads 2 and 2 under Mirror, are 3 2 1 2 3 2 1.
+// Reads the n cells of the grid from place base on, stride apart, into a lent line and extends them by the border. The
+// other arguments are those of `pad_lane`, for a caller that has tested them. Of 4 5 6 1 2 3 the three neighbours from
+// place 3 on, with pads 2 and 2 under Mirror, are 3 2 1 2 3 2 1.
 pub fn pad_from(
     grid: &[i64],
     base: usize,
@@ -77,7 +105,8 @@ pub fn pad_from(
 // Reads a lane of the grid into a lent line and extends it by the border: the padded line.
 //
 // * `grid` - the cells of the grid.
-// * `stride`, `lane`, `n` - how many places apart the cells of the axis stand, the number of the lane, how many cells it has (`lanes::lanes_of`).
+// * `stride`, `lane`, `n` - how many places apart the cells of the axis stand, the number of the lane, how many cells
+//   it has (`lanes::lanes_of`).
 // * `mode` - the border.
 // * `left`, `right` - how many places are padded before and after the lane.
 // * `line` - holds the padded line from its start on; what is past the padded line stays as it was.

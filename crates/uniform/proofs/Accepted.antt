@@ -22,10 +22,10 @@ use Rattle.lanes.specs.Lanes.{alongAxis}
 use Rattle.lanes.proofs.AlongAxis.{length-along}
 use Rattle.border.specs.Border.{Border}
 use Rattle.border.specs.Modes.{badConstantBy}
-use Rattle.border.specs.Reach.{badPad}
-use Rattle.window.specs.Window.{badReach}
+use Rattle.pad_line.specs.Line.{badPad}
+use Rattle.pad_line.specs.Lane.{AxisNeeds}
+use Rattle.min_max_judge.specs.Judge.{badReach}
 use Rattle.uniform_spec.specs.Mean.{means}
-use Rattle.axis_filter.specs.Lane.{Sweep}
 use Rattle.uniform.specs.Averaging.{Averaging}
 use Rattle.uniform_spec.specs.Uniform.{paddedFor, uniform1d}
 use Rattle.uniform_spec.specs.Judge.{halfOver, badGridReach, uniform1dJudged, uniformJudged}
@@ -39,7 +39,7 @@ module _ {b : Border ℤ} {size : ℕ} {ns : List ℕ} {a : ℕ} {cells out : Li
   pub pads-size : size / 2 + (size - size / 2 - 1) + 1 ≡ size
   pads-size = omega (arith, size-some size (P .window))
 
-  pub pass-sweep : Sweep b ns a (size / 2) (size - size / 2 - 1) cells out
+  pub pass-sweep : AxisNeeds b ns a (size / 2) (size - size / 2 - 1) cells out
   pass-sweep =
       let r = or-false (badPad b (lengthOf ns a) (size / 2 + 0)) (badPad b (lengthOf ns a) (size - size / 2 - 1 + 0)) (P .reach) in
       record {

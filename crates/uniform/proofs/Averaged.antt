@@ -9,13 +9,13 @@ use Rattle.array_spec.specs.Conditions.{badLevel}
 use Rattle.lanes.specs.Lanes.{laneAt}
 use Rattle.border.specs.Border.{Border}
 use Rattle.pad_line.specs.Line.{paddedLine}
+use Rattle.pad_line.specs.Lane.{LineNeeds}
+use Rattle.pad_line.proofs.EveryPadded.{any-padded}
+use Rattle.pad_line.proofs.OneLane.{length-line}
 use Rattle.uniform_spec.specs.Mean.{Averaged}
-use Rattle.axis_filter.specs.Lane.{Room}
-use Rattle.axis_filter.proofs.OneLane.{length-line}
-use Rattle.axis_filter.proofs.Supposed.{any-padded}
 use Rattle.uniform.specs.Averaging.{Averaging}
 
-pub lane-averaged : {b : Border ℤ} {n s base left right : ℕ} {g line₀ : List ℤ} → Room b n s base left right g line₀ → Averaging (left + right + 1) b g
+pub lane-averaged : {b : Border ℤ} {n s base left right : ℕ} {g line₀ : List ℤ} → LineNeeds b n s base left right g line₀ → Averaging (left + right + 1) b g
     → Averaged (paddedLine (pos 0) b left right (laneAt (pos 0) g base s n)) (left + right + 1) n
 unfolding badLevel
 lane-averaged {b} {n} {s} {base} {left} {right} {g} R S = record {

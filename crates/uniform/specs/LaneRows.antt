@@ -8,7 +8,7 @@ use Rattle.numbers.specs.Rows.{wholes}
 use Rattle.border.specs.Border.{along}
 use Rattle.border.specs.declared.Along.the-variants.{Nearest}
 use Rattle.lanes.specs.Lanes.{alongAxis}
-use Rattle.axis_filter.specs.Lane.{filteredLane}
+use Rattle.pad_line.specs.Lane.{filteredLane}
 use Rattle.uniform.specs.Averaging.{meansBy}
 
 abbrev pub onLane : List ℤ → List ℤ
@@ -18,4 +18,5 @@ pub record LaneRows : Type 0 where
   -- 4 2 7 1 in windows of three, cut toward zero
   pub mean : onLane (wholes (4 ∷ 2 ∷ 7 ∷ 1 ∷ [])) ≡ wholes (3 ∷ 4 ∷ 3 ∷ 3 ∷ [])
   -- the rows 1 2 3 / 4 5 9 along axis 0: each column is a lane
-  pub down : alongAxis (pos 0) onLane (2 ∷ 3 ∷ []) 0 (wholes (1 ∷ 2 ∷ 3 ∷ 4 ∷ 5 ∷ 9 ∷ [])) ≡ wholes (2 ∷ 3 ∷ 5 ∷ 3 ∷ 4 ∷ 7 ∷ [])
+  pub down : alongAxis (pos 0) onLane (2 ∷ 3 ∷ []) 0 (wholes (1 ∷ 2 ∷ 3 ∷ 4 ∷ 5 ∷ 9 ∷ []))
+      ≡ wholes (2 ∷ 3 ∷ 5 ∷ 3 ∷ 4 ∷ 7 ∷ [])

@@ -1,7 +1,7 @@
--- `weigh` meets its contract: an accepted origin has its pads, and the lanes are filtered with them.
+-- `weigh` meets its contract: an accepted origin has its pads, and the lanes are summed with them.
 -- Assumes nothing.
 use Prim.Native.Nat.{_-_, _/_}
-use mathlib.Core.Path.{_≡_, ap, _∙_}
+use mathlib.Core.Path.{_≡_, sym, ap, _∙_}
 use denote.Ref.{now}
 use lib.ListN.{length}
 use mir.Syntax.{w64}
@@ -9,8 +9,8 @@ use mir.Val.{toZ, ofZ}
 use Rattle.window.specs.Origin.{originPads}
 use Rattle.symmetry_spec.specs.declared.SymmetryState.the-variants.{NonSymmetric}
 use Rattle.correlate_spec.specs.Weighed.{wholeOps}
-use Rattle.window.proofs.Reach.{PadsAre, origin-refused, pads-are}
-use Rattle.correlate1d.proofs.Weighed.{window-origin, two-weights, sweep-weighed, weighing, weighed-answer}
+use Rattle.min_max_judge.proofs.Reach.{PadsAre, origin-refused, pads-are}
+use Rattle.correlate1d.proofs.Weighed.{window-origin, two-weights, pads-total, sweep-weighed, weighed-answer}
 use borrow.Author.Needs.{needs}
 use Rattle.correlate1d.proofs.weigh.Statement.{statement}
 use Rattle.correlate1d.proofs.weigh.Tie as tie
@@ -25,8 +25,11 @@ checked c =
     c .origin-check .ensures ∙ ap (originPads n (n / 2) (n - n / 2 - 1)) e
 
 -- the pads that it gives
-given : (c : tie.After-left) → let s = c .before .before .before .before in PadsAre _ (s .args .origin) (two-weights (s .pre .placed)) (window-origin (s .pre .placed)) (checked (c .before .before)) (c .left .given .0 .0) (c .left .given .0 .1 .0)
-given c = let s = c .before .before .before .before in pads-are _ (s .args .origin) (two-weights (s .pre .placed)) (window-origin (s .pre .placed)) (checked (c .before .before)) (c .left .given .1)
+given : (c : tie.After-left) → let s = c .before .before .before .before in
+    PadsAre _ (s .args .origin) (two-weights (s .pre .placed)) (window-origin (s .pre .placed)) (checked (c .before .before)) (c .left .given .0 .0) (c .left .given .0 .1 .0)
+given c =
+    let s = c .before .before .before .before in
+    pads-are _ (s .args .origin) (two-weights (s .pre .placed)) (window-origin (s .pre .placed)) (checked (c .before .before)) (c .left .given .1)
 
 origin-check-requires : tie.Need-origin-check-requires
 origin-check-requires c κs = search needs
@@ -37,11 +40,11 @@ enum-told c = search needs
 enum-known-left : tie.Need-enum-known-left
 enum-known-left c = search needs
 
-filter-axis-requires : tie.Need-filter-axis-requires
-filter-axis-requires c κs =
+correlate-axis-requires : tie.Need-correlate-axis-requires
+correlate-axis-requires c κs =
     let s = c .before .before .before .before .before .before in
     let G = given (c .before .before) in
-    (sweep-weighed (s .pre .placed) (G .left) (G .right), weighing (s .pre) (G .left) (G .right))
+    (sweep-weighed (s .pre .placed) (G .left) (G .right), sym (pads-total (s .pre .placed) (G .left) (G .right)), s .pre .small)
 
 returns : tie.Need-returns
 returns c =
@@ -55,7 +58,7 @@ returns-2 : tie.Need-returns-2
 returns-2 c =
     let s = c .before .before .before .before .before .before .before .before in
     let G = given (c .before .before .before .before) in
-    weighed-answer (s .pre .placed) (G .left) (G .right) wholeOps NonSymmetric (c .before .filter-axis .ensures)
+    weighed-answer (s .pre .placed) (G .left) (G .right) wholeOps NonSymmetric (c .before .correlate-axis .ensures)
 
 pub weigh-spec : {M : Type 1} → statement M
 weigh-spec =
@@ -64,7 +67,7 @@ weigh-spec =
     origin-check-requires
     enum-told
     enum-known-left
-    filter-axis-requires
+    correlate-axis-requires
     returns
     same-length
     returns-2)

@@ -1,16 +1,12 @@
 -- `correlate_axis_f64` meets its contract: neighbouring cells are 1 apart, and both ways leave the sums of the lanes.
 -- Assumes nothing.
-use native.Mathlib.Omega.{arith}
-use denote.Ref.{now}
-use Rattle.array_spec.proofs.Shapes.{shape-accepted}
+use Rattle.pad_line.proofs.EveryLane.{stride-needs}
 use borrow.Author.Needs.{needs}
 use Rattle.correlate1d_f64.proofs.lane_loop.correlate_axis_f64.Statement.{statement}
 use Rattle.correlate1d_f64.proofs.lane_loop.correlate_axis_f64.Tie as tie
 
 stride-of-requires : tie.Need-stride-of-requires
-stride-of-requires c κs = let s = c .before .before .before .before in
-    let A = shape-accepted (now (s .args .shape)) (s .pre .0 .shape) in
-    (A .few, λ a. omega (arith, A .short a))
+stride-of-requires c κs = stride-needs (c .before .before .before .before .pre .0)
 
 slice-aggregate-correlate-rows : tie.Need-slice-aggregate-correlate-rows
 slice-aggregate-correlate-rows c = search needs

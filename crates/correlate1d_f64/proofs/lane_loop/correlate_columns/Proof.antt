@@ -1,10 +1,8 @@
 -- `correlate_columns` meets its contract: an axis of an accepted shape has at most 1,024 cells.
 -- Assumes nothing.
-use Prim.Native.Nat.{ℕ, _≤_}
-use mathlib.Core.Path.{sym, subst, _∙_}
-use denote.Ref.{now}
+use mathlib.Core.Path.{sym, _∙_}
 use lib.Seq.{length-take-le}
-use Rattle.array_spec.proofs.Shapes.{shape-accepted}
+use Rattle.pad_line.proofs.EveryLane.{axis-short}
 use borrow.Author.Needs.{needs}
 use Rattle.correlate1d_f64.proofs.lane_loop.correlate_columns.Statement.{statement}
 use Rattle.correlate1d_f64.proofs.lane_loop.correlate_columns.Tie as tie
@@ -13,13 +11,15 @@ len-of-requires : tie.Need-len-of-requires
 len-of-requires c κs = search needs
 
 array-borrow-prefix-swept : tie.Need-array-borrow-prefix-swept
-array-borrow-prefix-swept c = let s = c .before .before .before .before .before .before .before in subst (λ (x : ℕ). x ≤ 1024) (sym (c .before .len-of .ensures)) (shape-accepted (now (s .args .shape)) (s .pre .0 .shape) .short (s .args .axis))
+array-borrow-prefix-swept c = axis-short (c .before .before .before .before .before .before .before .pre .0) (c .before .len-of .ensures)
 
 slice-aggregate-correlate-lanes : tie.Need-slice-aggregate-correlate-lanes
 slice-aggregate-correlate-lanes c = sym (length-take-le (c .before .before .len-of .result) _ (array-borrow-prefix-swept (c .before)))
 
 correlate-lanes-requires : tie.Need-correlate-lanes-requires
-correlate-lanes-requires c κs = let s = c .before .before .before .before .before .before .before .before .before in (s .pre .0, s .pre .1, s .pre .2, sym (slice-aggregate-correlate-lanes (c .before)) ∙ c .before .before .before .len-of .ensures)
+correlate-lanes-requires c κs =
+    let P = c .before .before .before .before .before .before .before .before .before .pre in
+    (P .0, P .1, P .2, sym (slice-aggregate-correlate-lanes (c .before)) ∙ c .before .before .before .len-of .ensures)
 
 same-length : tie.Need-same-length
 same-length c = search needs

@@ -7,7 +7,7 @@ use lib.ListN.{length}
 use lib.Seq.{length-take-le}
 use denote.Ref.{now}
 use Rattle.correlate_spec.specs.Weighed.{floatOps, weighedLine}
-use Rattle.axis_filter.proofs.OneLane.{length-line, front-is, lane-filtered}
+use Rattle.pad_line.proofs.OneLane.{length-line, front-is, lane-filtered}
 use borrow.Author.Needs.{needs}
 use Rattle.correlate1d_f64.proofs.lane_loop.correlate_lane.Statement.{statement}
 use Rattle.correlate1d_f64.proofs.lane_loop.correlate_lane.Tie as tie
@@ -40,8 +40,10 @@ same-length-2 : tie.Need-same-length-2
 same-length-2 c = search needs
 
 returns : tie.Need-returns
-returns c = let s = c .before .before .before .before .before .before .before .before .before .before .before .before .before in
-    lane-filtered nan (s .pre .0) (c .before .before .before .before .before .before .before .pad-from-f64 .ensures) (weighedLine floatOps (s .args .class) (now (s .args .weights))) (c .before .before .correlate-line-f64 .ensures)
+returns c =
+    let s = c .before .before .before .before .before .before .before .before .before .before .before .before .before in
+    lane-filtered nan (s .pre .0) (c .before .before .before .before .before .before .before .pad-from-f64 .ensures)
+    (weighedLine floatOps (s .args .class) (now (s .args .weights))) (c .before .before .correlate-line-f64 .ensures)
 
 pub correlate-lane-spec : {M : Type 1} → statement M
 correlate-lane-spec =

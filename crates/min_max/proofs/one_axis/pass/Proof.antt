@@ -2,7 +2,6 @@
 -- Assumes nothing.
 use Prim.Native.Nat.{_-_, _/_}
 use mathlib.Core.Path.{_≡_, ap, _∙_}
-use mathlib.Core.List.{[]}
 use denote.Ref.{now}
 use mir.Syntax.{w64}
 use mir.Val.{toZ, ofZ}
@@ -11,8 +10,8 @@ use Rattle.min_max_spec.specs.Call.{Call}
 use Rattle.min_max_spec.proofs.Passed.{passed}
 use Rattle.min_max_judge.specs.Judge.{callOf}
 use Rattle.min_max.specs.Lane.{orderOf}
-use Rattle.window.proofs.Reach.{origin-refused, PadsAre, pads-are}
-use Rattle.min_max.proofs.OnePass.{copied-answer, extremes-supposed, extremes-filtered, sweep-accepted, window-wide, swept-answer}
+use Rattle.min_max_judge.proofs.Reach.{origin-refused, PadsAre, pads-are}
+use Rattle.min_max.proofs.OnePass.{copied-answer, sweep-accepted, window-wide, swept-answer}
 use borrow.Author.Needs.{needs}
 use Rattle.min_max.proofs.one_axis.pass.Statement.{statement}
 use Rattle.min_max.proofs.one_axis.pass.Tie as tie
@@ -29,8 +28,13 @@ checked c =
     c .origin-check .ensures ∙ ap (originPads (a .size) (a .size / 2) (a .size - a .size / 2 - 1)) e
 
 -- the pads that it gives
-given : (c : tie.After-left) → let s = c .before .before .before .before .before in PadsAre (s .args .size) (s .args .origin) (c .before .before .before .if1 .left) (passed (now (s .args .«data»)) (call s) (s .pre) .origin) (checked (c .before .before)) (c .left .given .0 .0) (c .left .given .0 .1 .0)
-given c = let s = c .before .before .before .before .before in pads-are (s .args .size) (s .args .origin) (c .before .before .before .if1 .left) (passed (now (s .args .«data»)) (call s) (s .pre) .origin) (checked (c .before .before)) (c .left .given .1)
+given : (c : tie.After-left) → let s = c .before .before .before .before .before in
+    PadsAre (s .args .size) (s .args .origin) (c .before .before .before .if1 .left) (passed (now (s .args .«data»)) (call s) (s .pre) .origin) (checked (c .before .before))
+    (c .left .given .0 .0) (c .left .given .0 .1 .0)
+given c =
+    let s = c .before .before .before .before .before in
+    pads-are (s .args .size) (s .args .origin) (c .before .before .before .if1 .left) (passed (now (s .args .«data»)) (call s) (s .pre) .origin)
+    (checked (c .before .before)) (c .left .given .1)
 
 copy-requires : tie.Need-copy-requires
 copy-requires c κs = search needs
@@ -39,7 +43,9 @@ same-length : tie.Need-same-length
 same-length c = search needs
 
 returns : tie.Need-returns
-returns c = let s = c .before .before .before .before .before in copied-answer (orderOf (s .args .extreme)) (now (s .args .«data»)) (call s) (s .pre) (c .before .before .before .if1 .taken) (c .before .copy .ensures)
+returns c =
+    let s = c .before .before .before .before .before in
+    copied-answer (orderOf (s .args .extreme)) (now (s .args .«data»)) (call s) (s .pre) (c .before .before .before .if1 .taken) (c .before .copy .ensures)
 
 origin-check-requires : tie.Need-origin-check-requires
 origin-check-requires c κs = search needs
@@ -50,38 +56,30 @@ enum-told c = search needs
 enum-known-left : tie.Need-enum-known-left
 enum-known-left c = search needs
 
-line-filter-requires : tie.Need-line-filter-requires
-line-filter-requires c κs = search needs
-
-slice-aggregate-filter-axis : tie.Need-slice-aggregate-filter-axis
-slice-aggregate-filter-axis c = search needs
-
 filter-axis-requires : tie.Need-filter-axis-requires
 filter-axis-requires c κs =
-    let s = c .before .before .before .before .before .before .before .before .before in
+    let s = c .before .before .before .before .before .before .before in
     let D = now (s .args .«data») in
-    let G = given (c .before .before .before .before) in
+    let G = given (c .before .before) in
     let le = orderOf (s .args .extreme) in
-    let more = c .before .before .before .before .before .before .before .if1 .left in (
-      sweep-accepted le D (call s) (s .pre) more (G .left) (G .right),
-      extremes-supposed (s .args .extreme) [] _ _ D (c .before .before .line-filter .ensures) (window-wide le D (call s) (s .pre) more (G .left) (G .right)),
-    )
+    let more = c .before .before .before .before .before .if1 .left in
+    (sweep-accepted le D (call s) (s .pre) more (G .left) (G .right), window-wide le D (call s) (s .pre) more (G .left) (G .right))
 
 returns-2 : tie.Need-returns-2
 returns-2 c =
     let s = c .before .before .before .before .before in
-    absurd (origin-refused (s .args .size) (s .args .origin) (c .before .before .before .if1 .left) (passed (now (s .args .«data»)) (call s) (s .pre) .origin) (checked (c .before .before)) (c .enum-told .given .1))
+    absurd (origin-refused (s .args .size) (s .args .origin) (c .before .before .before .if1 .left) (passed (now (s .args .«data»)) (call s) (s .pre) .origin)
+    (checked (c .before .before)) (c .enum-told .given .1))
 
 same-length-2 : tie.Need-same-length-2
 same-length-2 c = search needs
 
 returns-3 : tie.Need-returns-3
 returns-3 c =
-    let s = c .before .before .before .before .before .before .before .before .before .before .before in
-    let D = now (s .args .«data») in
-    let G = given (c .before .before .before .before .before .before) in
-    swept-answer (orderOf (s .args .extreme)) D (call s) (s .pre) (c .before .before .before .before .before .before .before .before .before .if1 .left) (G .left) (G .right)
-    (c .before .filter-axis .ensures ∙ extremes-filtered (s .args .extreme) [] _ _ _ (now (s .args .shape)) (s .args .axis) D (c .before .before .before .before .line-filter .ensures))
+    let s = c .before .before .before .before .before .before .before .before .before in
+    let G = given (c .before .before .before .before) in
+    swept-answer (orderOf (s .args .extreme)) (now (s .args .«data»)) (call s) (s .pre) (c .before .before .before .before .before .before .before .if1 .left)
+    (G .left) (G .right) (c .before .filter-axis .ensures)
 
 pub pass-spec : {M : Type 1} → statement M
 pass-spec =
@@ -93,8 +91,6 @@ pass-spec =
     origin-check-requires
     enum-told
     enum-known-left
-    line-filter-requires
-    slice-aggregate-filter-axis
     filter-axis-requires
     returns-2
     same-length-2

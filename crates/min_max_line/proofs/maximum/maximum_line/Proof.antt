@@ -1,15 +1,13 @@
--- `maximum_line` meets its contract: of what minlist serves, windows of three are filled by `three_cells` and all others by `maximum_cells`; the rest stays.
+-- `maximum_line` meets its contract: what minlist serves is filled by `maximum_windows`, all else stays.
 -- Assumes nothing.
 use borrow.Author.Needs.{needs}
 use borrow.Author.Tests.{not-true, not-false}
-use mathlib.Core.Path.{_≡_, sym, ap, _∙_}
+use mathlib.Core.Path.{_≡_, _∙_}
 use mathlib.Core.Bool.{true}
-use Prim.Native.Nat.{ℕ}
-use native.Mathlib.Omega.{arith}
-use Rattle.numbers.specs.Order.{atLeast}
 use lib.ListN.{length}
+use Rattle.numbers.specs.Order.{atLeast}
 use Rattle.numbers.proofs.Tests.{told}
-use Rattle.min_max_ring.specs.Firsts.{serving, firsts}
+use Rattle.min_max_ring.specs.Firsts.{serving}
 use Rattle.min_max_ring.proofs.Served.{served, swept-served, swept-else}
 use Rattle.min_max_line.proofs.maximum.maximum_line.Statement.{statement}
 use Rattle.min_max_line.proofs.maximum.maximum_line.Tie as tie
@@ -25,39 +23,18 @@ returns c =
 serves-it : (c : tie.Else1) → let a = c .before .before .args in serving (length (a .line .now)) (a .len) (length (a .out .now)) ≡ true
 serves-it c = told (c .before .serves .ensures) (not-false _ (c .if1 .left))
 
-three-cells-requires : tie.Need-three-cells-requires
-three-cells-requires c κs = let a = c .before .before .before .before .args in omega (arith, served (length (a .line .now)) (a .len) (length (a .out .now)) (serves-it (c .before .before)) .cells)
+maximum-windows-requires : tie.Need-maximum-windows-requires
+maximum-windows-requires c κs = served _ _ _ (serves-it (c .before))
 
 same-length : tie.Need-same-length
 same-length c = search needs
 
 returns-2 : tie.Need-returns-2
 returns-2 c =
-    let e = c .before .before .before .before in
+    let e = c .before .before .before in
     let a = e .before .before .args in
-    c .before .three-cells .ensures ∙ ap (λ (k : ℕ). firsts atLeast (a .line .now) k (length (a .out .now))) (sym (c .before .before .before .if2 .taken)) ∙ swept-served atLeast (a .line .now) (a .len) (a .out .now) (serves-it e)
-
-maximum-cells-requires : tie.Need-maximum-cells-requires
-maximum-cells-requires c κs = served _ _ _ (serves-it (c .before .before))
-
-same-length-2 : tie.Need-same-length-2
-same-length-2 c = search needs
-
-returns-3 : tie.Need-returns-3
-returns-3 c =
-    let e = c .before .before .before .before in
-    let a = e .before .before .args in
-    c .before .maximum-cells .ensures ∙ swept-served atLeast (a .line .now) (a .len) (a .out .now) (serves-it e)
+    c .before .maximum-windows .ensures ∙ swept-served atLeast (a .line .now) (a .len) (a .out .now) (serves-it e)
 
 pub maximum-line-spec : {M : Type 1} → statement M
 maximum-line-spec =
-    tie.close
-    (tie.spec
-    serves-requires
-    returns
-    three-cells-requires
-    same-length
-    returns-2
-    maximum-cells-requires
-    same-length-2
-    returns-3)
+    tie.close (tie.spec serves-requires returns maximum-windows-requires same-length returns-2)

@@ -8,7 +8,7 @@ use lib.IntN.{ℤ, pos}
 use lib.Seq.{length-take-le}
 use Rattle.lanes.specs.Lanes.{withLane}
 use Rattle.uniform_spec.specs.Mean.{Averaged}
-use Rattle.axis_filter.proofs.OneLane.{front-is, lane-filtered}
+use Rattle.pad_line.proofs.OneLane.{front-is, lane-filtered}
 use Rattle.uniform.specs.Averaging.{meansBy}
 use Rattle.uniform.proofs.Averaged.{lane-averaged}
 use borrow.Author.Needs.{needs}
@@ -39,8 +39,14 @@ add-uniform-lane-2 c = search needs
 uniform-lane-requires : tie.Need-uniform-lane-requires
 uniform-lane-requires c κs =
     let s = c .before .before .before .before .before in
-    let a = s .args in
-    (subst (λ (p : List ℤ). Averaged p (a .left + a .right + 1) (a .n)) (sym (front-is (pos 0) (s .pre .0) (c .before .before .before .pad-from .ensures))) (lane-averaged (s .pre .0) (s .pre .1)), s .pre .0 .padding .some, s .pre .2, s .pre .3, s .pre .4)
+    let a = s .args in (
+      subst (λ (p : List ℤ). Averaged p (a .left + a .right + 1) (a .n))
+          (sym (front-is (pos 0) (s .pre .0) (c .before .before .before .pad-from .ensures))) (lane-averaged (s .pre .0) (s .pre .1)),
+      s .pre .0 .padding .some,
+      s .pre .2,
+      s .pre .3,
+      s .pre .4,
+    )
 
 same-length : tie.Need-same-length
 same-length c = search needs
@@ -53,7 +59,8 @@ returns c =
     let s = c .before .before .before .before .before .before .before in
     let a = s .args in
     c .before .uniform-lane .ensures
-    ∙ ap (λ (row : List ℤ). withLane (pos 0) (a .n) (a .stride) (a .lane) row (now (a .out))) (lane-filtered (pos 0) (s .pre .0) (c .before .before .before .before .before .pad-from .ensures) (meansBy (a .left + a .right + 1)) refl)
+    ∙ ap (λ (row : List ℤ). withLane (pos 0) (a .n) (a .stride) (a .lane) row (now (a .out)))
+    (lane-filtered (pos 0) (s .pre .0) (c .before .before .before .before .before .pad-from .ensures) (meansBy (a .left + a .right + 1)) refl)
 
 pub average-lane-spec : {M : Type 1} → statement M
 average-lane-spec =

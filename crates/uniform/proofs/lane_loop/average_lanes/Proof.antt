@@ -1,13 +1,12 @@
 -- `average_lanes` meets its contract: the lanes below the one that the loop has reached are written.
 -- Assumes nothing.
-use denote.Ref.{now}
 use Prim.Native.Nat.{_+_, _-_}
 use mathlib.Core.Path.{refl, sym, _∙_}
 use native.Mathlib.Omega.{arith}
 use lib.IntN.{pos}
 use Rattle.lanes.specs.Starts.{Starts}
 use Rattle.border.specs.Modes.{borderOf}
-use Rattle.axis_filter.proofs.EveryLane.{Sweeping, lanes-accepted, starts-first, sweeping-none, lane-room, write-room, start-room, sweeping-more, sweeping-all}
+use Rattle.pad_line.proofs.EveryLane.{axis-lanes, axis-starts, Sweeping, sweeping-none, lane-needs, write-needs, start-needs, sweeping-more, sweeping-all}
 use Rattle.uniform.specs.Averaging.{meansBy}
 use borrow.Author.Needs.{needs}
 use Rattle.uniform.proofs.lane_loop.average_lanes.Statement.{statement}
@@ -25,27 +24,19 @@ lanes-of-requires c κs = search needs
 
 loop-holds : tie.Need-loop-holds Inv-loop μ-loop
 loop-holds c =
-    let s = c .before .before in
-    let a = s .args in
-    let o = lanes-accepted (now (a .shape)) (a .axis) (s .pre .0 .shape) (c .lanes-of .ensures) in
-    (sweeping-none (pos 0) (meansBy (a .left + a .right + 1)) (s .pre .0) o (s .pre .2), starts-first (pos 0) (meansBy (a .left + a .right + 1)) (s .pre .0) o)
+    let P = c .before .before .pre in
+    let o = axis-lanes (P .0) (c .lanes-of .ensures) in
+    (sweeping-none (P .0) o (P .2), axis-starts (P .0) o)
 
 average-lane-requires : tie.Need-average-lane-requires Inv-loop μ-loop
 average-lane-requires c κs =
-    let s = c .before .before .before .before .before .before in
-    let a = s .args in
     let l = c .before .before .before .loop in
-    let f = meansBy (a .left + a .right + 1) in
     let h = c .before .before .loop-test .taken in
-    let w = write-room (pos 0) f (s .pre .0) (l .inv .0) h (l .inv .1 .place) refl in
-    (lane-room (pos 0) f (s .pre .0) (l .inv .0) h (omega (arith, l .inv .1 .place)) refl, s .pre .1, w .1, w .2, w .3)
+    let w = write-needs (l .inv .0) h (l .inv .1 .place) refl in
+    (lane-needs (l .inv .0) h (omega (arith, l .inv .1 .place)) refl, c .before .before .before .before .before .before .pre .1, w .1, w .2, w .3)
 
 next-start-requires : tie.Need-next-start-requires Inv-loop μ-loop
-next-start-requires c κs =
-    let s = c .before .before .before .before .before .before .before .before .before in
-    let a = s .args in
-    let l = c .before .before .before .before .before .before .loop in
-    start-room (pos 0) (meansBy (a .left + a .right + 1)) (s .pre .0) (l .inv .0) (search needs) (l .inv .1)
+next-start-requires c κs = let l = c .before .before .before .before .before .before .loop in start-needs (l .inv .0) (search needs) (l .inv .1)
 
 add-lane : tie.Need-add-lane Inv-loop μ-loop
 add-lane c = search needs
@@ -55,11 +46,12 @@ loop-less c = search needs
 
 loop-again : tie.Need-loop-again Inv-loop μ-loop
 loop-again c =
-    let s = c .before .before .before .before .before .before .before .before .before .before in
-    let a = s .args in
     let l = c .before .before .before .before .before .before .before .loop in
-    let k = c .before .before .before .average-lane in
-    (sweeping-more (pos 0) (meansBy (a .left + a .right + 1)) (s .pre .0) (l .inv .0) (c .before .before .before .before .before .before .loop-test .taken) (l .inv .1 .place) refl (k .kept .1 .1 .1 .1 .1 .1 .1 .1 .0) refl (k .ensures), c .next-start .ensures)
+    let k = c .before .before .before .average-lane in (
+      sweeping-more (l .inv .0) (c .before .before .before .before .before .before .loop-test .taken) (l .inv .1 .place) refl
+          (k .kept .1 .1 .1 .1 .1 .1 .1 .1 .0) refl (k .ensures),
+      c .next-start .ensures,
+    )
 
 same-length : tie.Need-same-length Inv-loop μ-loop
 same-length c = c .before .loop .inv .0 .buffer ∙ sym (c .before .before .before .before .pre .2)
@@ -68,10 +60,7 @@ same-length-2 : tie.Need-same-length-2 Inv-loop μ-loop
 same-length-2 c = c .before .loop .inv .0 .stored .kept
 
 returns : tie.Need-returns Inv-loop μ-loop
-returns c =
-    let s = c .before .before .before .before in
-    let a = s .args in
-    sweeping-all (pos 0) (meansBy (a .left + a .right + 1)) (s .pre .0) (c .before .loop .inv .0) (search needs)
+returns c = sweeping-all (c .before .loop .inv .0) (search needs)
 
 pub average-lanes-spec : {M : Type 1} → statement M
 average-lanes-spec =
