@@ -57,7 +57,7 @@ module _ {turned : Bool} {b : Border ℤ} {o : ℤ} {w : List ℤ} {ns : List �
       small = record {
         weights = applied-weights badWeight turned w (P .weights);
         level = small-constant b (P .level);
-        levels = small-sized cells (levels-sized cells (P .levels)) (omega arith);
-        narrow = λ h. (P .level, P .levels);
+        levels = small-sized cells (levels-sized cells (P .grid .levels)) (omega arith);
+        narrow = λ h. (P .level, P .grid .levels);
       };
     }

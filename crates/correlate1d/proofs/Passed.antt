@@ -73,7 +73,5 @@ module _ {A : Type 0} {bad heavy : A → Bool} {turned : Bool} {b : Border A} {o
     more = omega (arith, applied-length turned w, P .some, more);
     few = omega (arith, applied-length turned w, P .few);
     origin = ap (λ (n : ℕ). badOrigin n (appliedOrigin turned (length w) o)) (applied-length turned w) ∙ applied-range turned (length w) o ∙ more-cells (length w) o more (badOrigin (length w) o) ∙ P .origin;
-    reach =
-        ap (λ (n : ℕ). badReach b n (appliedOrigin turned (length w) o) (lengthOf ns a)) (applied-length turned w)
-        ∙ more-cells (length w) o more (badReach b (length w) (appliedOrigin turned (length w) o) (lengthOf ns a)) ∙ P .reach;
+    reach = ap (λ (n : ℕ). badReach b n (appliedOrigin turned (length w) o) (lengthOf ns a)) (applied-length turned w) ∙ P .reach;
   }

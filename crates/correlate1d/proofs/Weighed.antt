@@ -13,11 +13,11 @@ use Rattle.numbers.proofs.Tests.{or-false, cond-no}
 use Rattle.array_spec.specs.Grid.{lengthOf}
 use Rattle.lanes.specs.Lanes.{alongAxis}
 use Rattle.border.specs.Border.{Border}
-use Rattle.pad_line.specs.Line.{badPad}
+use Rattle.border.specs.Reach.{badPad}
 use Rattle.pad_line.specs.Lane.{AxisNeeds}
 use Rattle.symmetry_spec.specs.declared.SymmetryState.{SymmetryState}
 use Rattle.window.specs.Window.{badWindowOrigin, leftPad, rightPad}
-use Rattle.window.proofs.Reach.{pads-size}
+use Rattle.window.proofs.Reach.{pads-size, reach-more}
 use Rattle.correlate_spec.specs.Weighed.{Ops}
 use Rattle.correlate_spec.specs.Correlated.{correlatedLine, correlatedBy}
 use Rattle.correlate1d.specs.Weighs.{Placed, Weighs}
@@ -42,7 +42,7 @@ module _ {A : Type 0} {b : Border A} {ns : List ℕ} {a : ℕ} {o : ℤ} {w cell
 
     pub sweep-weighed : AxisNeeds b ns a l g cells out
     sweep-weighed =
-        let p = or-false (badPad b (lengthOf ns a) (leftPad (length w) o)) (badPad b (lengthOf ns a) (rightPad (length w) o)) (W .reach) in record {
+        let p = or-false (badPad b (lengthOf ns a) (leftPad (length w) o)) (badPad b (lengthOf ns a) (rightPad (length w) o)) (reach-more (length w) o two-weights b (lengthOf ns a) ∙ W .reach) in record {
           shape = W .shape;
           axis = W .axis;
           count = W .count;

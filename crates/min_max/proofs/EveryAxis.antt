@@ -33,7 +33,7 @@ module _ (cells : List ℤ) (ns : List ℕ) (size : ℕ) (m : BorderMode) (o : �
     pub sizes : outside 1 65 size ≡ false
     pub origin : badWindowOrigin size o ≡ false
     pub level : badConstantBy badLevel (borderOf m) ≡ false
-    pub reach : (anyOf (badReach (borderOf m) size o) ns) ≡ false
+    pub reach : anyOf (badReach (borderOf m) size o) ns ≡ false
 
   pub filtered : refusalOf (filterJudged cells (callOf ns size 0 m o out) second) ≡ 0 → Filtered
   filtered e =
@@ -49,10 +49,9 @@ module _ (cells : List ℤ) (ns : List ℕ) (size : ℕ) (m : BorderMode) (o : �
     pub between-input : Between cells
     between-input = record { count = F .grid .count; range = F .grid .levels }
 
-    reach-at : (a : ℕ) → a < length ns → (badReach (borderOf m) size o (lengthOf ns a)) ≡ false
+    reach-at : (a : ℕ) → a < length ns → badReach (borderOf m) size o (lengthOf ns a) ≡ false
     reach-at a h =
-        every-at (λ n. (badReach (borderOf m) size o n) ≡ false) ns 1
-        (any-none (λ n. badReach (borderOf m) size o n) ns (any-and (not (eqb size 1)) (badReach (borderOf m) size o) ns ∙ F .reach)) a h
+        every-at (λ n. badReach (borderOf m) size o n ≡ false) ns 1 (any-none (badReach (borderOf m) size o) ns (F .reach)) a h
 
     -- a pass along any axis of the grid is accepted
     pub pass-accepted : {g : List ℤ} (held : List ℤ) (a : ℕ) → Between g → length held ≡ cellCount ns → a < length ns → numberOf g (callOf ns size a m o held) ≡ 0

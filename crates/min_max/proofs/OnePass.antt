@@ -11,15 +11,18 @@ use lib.IntN.{ℤ, pos, natAbs}
 use lib.ListN.{length}
 use Rattle.numbers.proofs.Tests.{or-false, cond-yes}
 use Rattle.array_spec.specs.Assign.{copied}
+use Rattle.array_spec.proofs.Judged.{lent-same}
 use Rattle.lanes.specs.Lanes.{laneAt, alongAxis}
 use Rattle.border.specs.Border.{Border}
-use Rattle.pad_line.specs.Line.{badPad, paddedLine}
+use Rattle.pad_line.specs.Line.{paddedLine}
+use Rattle.border.specs.Reach.{badPad}
 use Rattle.pad_line.specs.Lane.{LineNeeds, AxisNeeds}
 use Rattle.pad_line.proofs.OneLane.{length-line}
 use Rattle.min_max_ring.specs.Firsts.{firsts, Served}
-use Rattle.min_max_spec.specs.Call.{Call, alone, leftPad, rightPad, axisLength, numberOf}
+use Rattle.min_max_spec.specs.Call.{Call, alone, axisLength, numberOf}
+use Rattle.window.specs.Window.{leftPad, rightPad}
 use Rattle.min_max_spec.specs.Run.{answerOf}
-use Rattle.min_max_spec.proofs.Passed.{Passed, passed, passed-lengths}
+use Rattle.min_max_spec.proofs.Passed.{Passed, passed}
 use Rattle.min_max.specs.Lane.{extremesOf}
 use Rattle.min_max.proofs.ByLanes.{lineOf, answer-lanes, answer-copied, pads-size}
 

@@ -16,13 +16,13 @@ use Rattle.numbers.proofs.Tabulate.{length-tabulate, getD-tabulate}
 use Rattle.numbers.proofs.Tests.{or-false}
 use Rattle.array_spec.specs.Conditions.{badLevel}
 use Rattle.array_spec.specs.Grid.{cellCount, lengthOf}
-use Rattle.array_spec.proofs.Shapes.{count-accepted, length-judged}
+use Rattle.array_spec.proofs.Judged.{PassedGrid, grid-passed}
 use Rattle.border.specs.declared.Along.{Along}
 use Rattle.border.specs.declared.PadMode.{PadMode}
 use Rattle.border.specs.Reach.{badAlong, badPad}
 use Rattle.pad_spec.specs.Fill.{fillerOf, borderBy, rimOf}
 use Rattle.pad_spec.specs.declared.rim.Filler.the-variants.{Cells}
-use Rattle.pad_spec.specs.Conditions.{badCount, overPad, paddedCount, badPads, badReachOn, badReach, padJudged}
+use Rattle.pad_spec.specs.Conditions.{badCount, overPad, paddedCount, badPads, badReachOn, badReach, padsJudged, padJudged}
 use Rattle.pad_spec.specs.Pads.{pairOf, leftsOf, rightsOf, paddedShape}
 use Rattle.pad_spec.specs.declared.pairs.Pair.{Pair}
 use Rattle.pad_spec.proofs.PairOf.{axis-at, padded-length, padded-short}
@@ -30,9 +30,7 @@ use Rattle.pad_spec.specs.Frame.{Framed, Filling}
 
 -- what each condition of an accepted call says
 pub record Passed (mode : PadMode) (ns : List ℕ) (pads : List Pair) (count : ℕ) (cells : List ℤ) (out : ℕ) : Type 0 where
-  pub shape : badShape ns ≡ false
-  pub whole : length cells ≡ cellCount ns
-  pub levels : anyOf badLevel cells ≡ false
+  pub grid : PassedGrid badLevel ns cells []
   pub pairs : badCount ns count ≡ false
   pub limits : anyOf overPad (take count pads) ≡ false
   pub small : paddedCount ns pads count ≤ 32768
@@ -45,11 +43,8 @@ passed mode ns pads count cells out z =
     let J = grid-passed badLevel ns cells [] (padsJudged mode ns pads count cells out) (tt, (tt, (tt, (tt, tt)))) z in
     let p = or-false (badCount ns count) _ (J .1 .1 .0) in
     let q = or-false (anyOf overPad (take count pads)) _ (p .1) in
-    let r = or-false (ltb 32768 (paddedCount ns pads count)) _ (q .1) in
-    let l = or-false (badLength ns (length cells)) false (J .1 .0) in record {
-      shape = J .0;
-      whole = length-judged ns (length cells) (l .0) ∙ count-accepted ns (J .0);
-      levels = J .1 .1 .0;
+    let r = or-false (ltb 32768 (paddedCount ns pads count)) _ (q .1) in record {
+      grid = J .0;
       pairs = p .0;
       limits = q .0;
       small = ltb-false 32768 (paddedCount ns pads count) (r .0);

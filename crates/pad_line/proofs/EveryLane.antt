@@ -21,7 +21,7 @@ use Rattle.lanes.proofs.Cells.{Inside, lane-inside, inside-whole}
 use Rattle.lanes.proofs.Next.{starts-none}
 use Rattle.lanes.proofs.Stores.{levelAlong, lanes-none, lanes-more}
 use Rattle.border.specs.Border.{Border}
-use Rattle.pad_line.specs.Line.{badPad}
+use Rattle.border.specs.Reach.{badPad}
 use Rattle.pad_line.specs.Lane.{filteredLane, LineNeeds, AxisNeeds}
 
 -- ---- the axis

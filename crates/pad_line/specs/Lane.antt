@@ -13,7 +13,8 @@ use lib.ListN.{length}
 use Rattle.array_spec.specs.Conditions.{badShape}
 use Rattle.array_spec.specs.Grid.{cellCount, lengthOf}
 use Rattle.border.specs.Border.{Border}
-use Rattle.pad_line.specs.Line.{badPad, paddedLine, Padding}
+use Rattle.pad_line.specs.Line.{paddedLine, Padding}
+use Rattle.border.specs.Reach.{badPad}
 
 abbrev pub filteredLane : {A : Type 0} → A → (List A → ℕ → List A) → Border A → ℕ → ℕ → List A → List A
 filteredLane d f b left right s = f (paddedLine d b left right s) (length s)

@@ -18,7 +18,8 @@ use Rattle.numbers.specs.Windows.{windowOf}
 use Rattle.border.specs.Modes.{borderOf}
 use Rattle.border.specs.declared.BorderMode.{BorderMode}
 use Rattle.border.specs.declared.BorderMode.the-variants as Whole
-use Rattle.pad_line.specs.Line.{paddedLine, badPad, paddedLane}
+use Rattle.pad_line.specs.Line.{paddedLine, paddedLane}
+use Rattle.border.specs.Reach.{badPad}
 use Rattle.pad_line.specs.Lane.{filteredLane}
 
 abbrev pub wholes : List ℕ → List ℤ

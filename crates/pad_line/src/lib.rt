@@ -1,5 +1,4 @@
-// The padded line: a lane read into a lent line and extended in place, and condition 11 of a lane. `window` has the
-// window of a cell.
+// The padded line: a lane read into a lent line and extended in place. `window` has the window of a cell.
 // What a line filter gives on every padded lane of an axis is defined in specs/Lane.antt. The loops over lanes stand
 // with their filters; their laws are here, over any element and line filter: OneLane, EveryLane, RowLoop, ColumnLoop.
 ghost use Rattle.pad_line.specs.Rows.{PadLineRows};
@@ -20,31 +19,6 @@ mod steps;
 
 pub use steps::copy_steps;
 pub use steps::copy_steps_f64;
-
-// Condition 11 of a lane: whether the border cannot fill a pad that long.
-//
-// * `mode` - the border.
-// * `n` - how many cells the lane has.
-// * `pad` - how many places are padded on one side.
-//
-// Refuses nothing. Of three cells Mirror fills a pad of 2 and not of 3, Reflect and Wrap fill 3 and not 4, Nearest and
-// Constant any.
-pub fn bad_pad(mode: BorderMode, n: usize, pad: usize) -> bool
-    ensures { λ r. ⌜ r ≡ badPad (borderOf mode) n pad ⌝ }
-{
-    match mode {
-        BorderMode::Constant(_) => false,
-        BorderMode::Mirror => {
-            if n < 1 {
-                return 0 < pad;
-            }
-            n - 1 < pad
-        }
-        BorderMode::Nearest => false,
-        BorderMode::Reflect => n < pad,
-        BorderMode::Wrap => n < pad,
-    }
-}
 
 // Whether a lane is inside the grid and its padded line no longer than the lent one.
 //

@@ -22,15 +22,15 @@ use Rattle.lanes.specs.Lanes.{alongAxis}
 use Rattle.lanes.proofs.AlongAxis.{length-along}
 use Rattle.border.specs.Border.{Border}
 use Rattle.border.specs.Modes.{badConstantBy}
-use Rattle.pad_line.specs.Line.{badPad}
+use Rattle.border.specs.Reach.{badPad}
 use Rattle.pad_line.specs.Lane.{AxisNeeds}
-use Rattle.min_max_judge.specs.Judge.{badReach}
+use Rattle.window.specs.Window.{badReach}
 use Rattle.uniform_spec.specs.Mean.{means}
 use Rattle.uniform.specs.Averaging.{Averaging}
 use Rattle.uniform_spec.specs.Uniform.{paddedFor, uniform1d}
 use Rattle.uniform_spec.specs.Judge.{halfOver, badGridReach, uniform1dJudged, uniformJudged}
 use Rattle.uniform_spec.proofs.Sums.{levels-kept}
-use Rattle.uniform_spec.proofs.Window.{size-some, size-few}
+use Rattle.uniform_spec.proofs.Window.{size-some, size-few, pads-filled}
 use Rattle.uniform.specs.Pass.{Pass}
 
 -- ---- what the means along an axis suppose of a pass
@@ -41,7 +41,7 @@ module _ {b : Border ℤ} {size : ℕ} {ns : List ℕ} {a : ℕ} {cells out : Li
 
   pub pass-sweep : AxisNeeds b ns a (size / 2) (size - size / 2 - 1) cells out
   pass-sweep =
-      let r = or-false (badPad b (lengthOf ns a) (size / 2 + 0)) (badPad b (lengthOf ns a) (size - size / 2 - 1 + 0)) (P .reach) in
+      let r = or-false (badPad b (lengthOf ns a) (size / 2 + 0)) (badPad b (lengthOf ns a) (size - size / 2 - 1 + 0)) (pads-filled b size (lengthOf ns a) (P .reach)) in
       record {
         shape = P .shape;
         axis = P .axis;

@@ -1,8 +1,8 @@
--- A centred window that condition 5 accepts: its length, that its origin 0 is accepted, and that a window of one cell needs no pad.
+-- A centred window that condition 5 accepts: its length, that its origin 0 is accepted, and that the border fills its pads where condition 11 accepts it.
 -- Assumes nothing.
 use Prim.Native.Nat.{ℕ, _-_, _/_, _≤_, _<_, zero-le}
 use mathlib.Core.Path.{_≡_, refl, sym, ap, _∙_}
-use mathlib.Core.Bool.{Bool, true, false, not, _&&_}
+use mathlib.Core.Bool.{Bool, true, false, not, _&&_, _||_}
 use borrow.Author.Tests.{ltb-false, le-ltb, eqb-true}
 use lib.Dec.{eqb, ltb}
 use lib.IntN.{ℤ, pos}
@@ -12,7 +12,7 @@ use Rattle.border.specs.Border.{Border, constant, along}
 use Rattle.border.specs.declared.Along.the-variants.{Nearest, Mirror, Reflect, Wrap}
 use Rattle.window.proofs.Origins.{origin-on}
 use Rattle.border.specs.Reach.{badPad}
-use Rattle.window.specs.Window.{badWindowOrigin, badReach}
+use Rattle.window.specs.Window.{leftPad, rightPad, badWindowOrigin, badPads, badReach}
 
 module _ (size : ℕ) (h : outside 1 65 size ≡ false) where
   pub size-some : 0 < size
@@ -36,12 +36,10 @@ pad-none (along Mirror) n = le-ltb (n - 1) 0 zero-le
 pad-none (along Reflect) n = le-ltb n 0 zero-le
 pad-none (along Wrap) n = le-ltb n 0 zero-le
 
-reach-alone : (b : Border ℤ) (n : ℕ) → badReach b 1 (pos 0) n ≡ false
-reach-alone b n = rw (pad-none b n) refl
-
-pub reach-plain : (b : Border ℤ) (size n : ℕ) → not (eqb size 1) && badReach b size (pos 0) n ≡ badReach b size (pos 0) n
-reach-plain b size n = go (eqb size 1) refl
+-- the border fills both pads of a window that condition 11 accepts; one cell has none
+pub pads-filled : (b : Border ℤ) (size n : ℕ) → badReach b size (pos 0) n ≡ false → badPads b (leftPad size (pos 0)) (rightPad size (pos 0)) n ≡ false
+pads-filled b size n h = go (eqb size 1) refl
   where
-    go : (t : Bool) → eqb size 1 ≡ t → not t && badReach b size (pos 0) n ≡ badReach b size (pos 0) n
-    go true e = sym (ap (λ m. badReach b m (pos 0) n) (eqb-true size 1 e) ∙ reach-alone b n)
-    go false e = refl
+    go : (t : Bool) → eqb size 1 ≡ t → badPads b (leftPad size (pos 0)) (rightPad size (pos 0)) n ≡ false
+    go true e = ap (λ m. badPads b (leftPad m (pos 0)) (rightPad m (pos 0)) n) (eqb-true size 1 e) ∙ ap (λ t. t || t) (pad-none b n)
+    go false e = ap (λ t. not t && badPads b (leftPad size (pos 0)) (rightPad size (pos 0)) n) (sym e) ∙ h

@@ -10,7 +10,7 @@ use Rattle.min_max_spec.specs.Call.{Call}
 use Rattle.min_max_spec.proofs.Passed.{passed}
 use Rattle.min_max_judge.specs.Judge.{callOf}
 use Rattle.min_max.specs.Lane.{orderOf}
-use Rattle.min_max_judge.proofs.Reach.{origin-refused, PadsAre, pads-are}
+use Rattle.window.proofs.Reach.{origin-refused, PadsAre, pads-are}
 use Rattle.min_max.proofs.OnePass.{copied-answer, sweep-accepted, window-wide, swept-answer}
 use borrow.Author.Needs.{needs}
 use Rattle.min_max.proofs.one_axis.pass.Statement.{statement}

@@ -39,7 +39,7 @@ lay-level-requires c κs =
     let s = f .before .before .before .before .before .before in
     let P = accepted s in
     let e = f .set-frame .ensures in
-    (framed-set P (three s) (e .0) (e .1), P .whole, lent-set P (three s) (e .1))
+    (framed-set P (three s) (e .0) (e .1), P .grid .count, lent-set P (three s) (e .1))
 
 enum-known-filler-2 : tie.Need-enum-known-filler-2
 enum-known-filler-2 c = search needs
@@ -52,7 +52,7 @@ lay-cells-requires c κs =
     let s = f .before .before .before .before .before .before in
     let P = accepted s in
     let e = f .set-frame .ensures in
-    (filling-set P (three s) (sym (g .filler-of .ensures) ∙ t .filler2 .given .1) (e .0) (e .1), P .levels, P .whole, lent-set P (three s) (e .1))
+    (filling-set P (three s) (sym (g .filler-of .ensures) ∙ t .filler2 .given .1) (e .0) (e .1), P .grid .levels, P .grid .count, lent-set P (three s) (e .1))
 
 enum-known-filler-3 : tie.Need-enum-known-filler-3
 enum-known-filler-3 c = search needs
@@ -63,7 +63,7 @@ lay-statistic-requires c κs =
     let s = f .before .before .before .before .before .before in
     let P = accepted s in
     let e = f .set-frame .ensures in
-    (framed-set P (three s) (e .0) (e .1), P .levels, P .whole, lent-set P (three s) (e .1))
+    (framed-set P (three s) (e .0) (e .1), P .grid .levels, P .grid .count, lent-set P (three s) (e .1))
 
 same-length : tie.Need-same-length
 same-length c = search needs
