@@ -43,10 +43,10 @@ pub fn bad_lengths(shape: &[usize], lent: &[usize]) -> bool
 pub fn bad_level(z: i64) -> bool
     ensures { λ r. ⌜ r ≡ badLevel z ⌝ }
 {
-    if z < -2147483647 {
+    if z < numbers::LEAST_LEVEL {
         return true;
     }
-    if 2147483647 < z {
+    if numbers::LARGEST_LEVEL < z {
         return true;
     }
     false

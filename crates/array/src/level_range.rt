@@ -10,7 +10,7 @@ ghost use lib.ListN.{length};
 ghost use Rattle.numbers.specs.Lists.{anyOf};
 ghost use Rattle.numbers.specs.Ranges.{outsideZ};
 ghost use Rattle.array.specs.Near.{isFar, liftOf};
-ghost use Rattle.array.specs.Rows.{LevelRangeRows};
+ghost use Rattle.array.specs.Rows.{ArrayRows};
 
 // A level as a number above zero: 2^63 is added.
 fn raised(z: i64) -> u64
@@ -115,5 +115,5 @@ pub fn any_outside(line: &[i64]) -> bool
 
 // Worked rows of this crate's definitions. Refuses nothing.
 pub fn rows()
-    ensures { λ _. ⌜ LevelRangeRows ⌝ }
+    ensures { λ _. ⌜ ArrayRows ⌝ }
 {}

@@ -3,6 +3,7 @@ ghost use mathlib.Core.Path.{_≡_};
 ghost use mathlib.Core.Bool.{_||_, cond};
 ghost use Prim.Native.Nat.{_*_};
 ghost use lib.Dec.{ltb};
+ghost use Rattle.numbers.specs.Limits.{longestAxis, mostCells};
 ghost use Rattle.numbers.specs.Ranges.{outside};
 ghost use Rattle.array_spec.specs.Conditions.{gridCount};
 ghost use Rattle.array_spec.specs.Grid.{lengthOf};
@@ -20,28 +21,28 @@ pub fn len_of(shape: &[usize], axis: usize) -> usize
 
 // The number of cells of three lengths; 0 where a length is outside 1..1,024 or there are over 8,192 cells.
 fn count_of_three(a: usize, b: usize, c: usize) -> usize
-    ensures { λ r. ⌜ r ≡ cond (outside 1 1024 a || (outside 1 1024 b || (outside 1 1024 c || ltb 8192 (a * (b * c))))) 0 (a * (b * c)) ⌝ }
+    ensures { λ r. ⌜ r ≡ cond (outside 1 longestAxis a || (outside 1 longestAxis b || (outside 1 longestAxis c || ltb mostCells (a * (b * c))))) 0 (a * (b * c)) ⌝ }
 {
     if a < 1 {
         return 0;
     }
-    if 1024 < a {
+    if numbers::LONGEST_AXIS < a {
         return 0;
     }
     if b < 1 {
         return 0;
     }
-    if 1024 < b {
+    if numbers::LONGEST_AXIS < b {
         return 0;
     }
     if c < 1 {
         return 0;
     }
-    if 1024 < c {
+    if numbers::LONGEST_AXIS < c {
         return 0;
     }
     let count = a * (b * c);
-    if 8192 < count {
+    if numbers::MOST_CELLS < count {
         return 0;
     }
     count

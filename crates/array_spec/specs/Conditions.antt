@@ -14,15 +14,16 @@ use mathlib.Core.Bool.{Bool, true, false, not, _||_, cond}
 use mathlib.Core.List.{List, [], _∷_}
 use lib.Dec.{ltb, eqb}
 use lib.Ieee.{Float, nan, inf, fin}
-use lib.IntN.{ℤ, pos, negℤ}
+use lib.IntN.{ℤ, pos}
 use lib.ListN.{length}
+use Rattle.numbers.specs.Limits.{largestLevel, longestAxis, mostCells}
 use Rattle.numbers.specs.Lists.{anyOf}
 use Rattle.numbers.specs.Refusal.{Judged}
-use Rattle.numbers.specs.Ranges.{outside, outsideZ}
+use Rattle.numbers.specs.Ranges.{outside, over}
 use Rattle.array_spec.specs.Grid.{cellCount}
 
 unfoldable pub badShape : List ℕ → Bool
-badShape ns = outside 1 3 (length ns) || anyOf (outside 1 1024) ns || ltb 8192 (cellCount ns)
+badShape ns = outside 1 3 (length ns) || anyOf (outside 1 longestAxis) ns || ltb mostCells (cellCount ns)
 
 unfoldable pub gridCount : List ℕ → ℕ
 gridCount ns = cond (badShape ns) 0 (cellCount ns)
@@ -31,7 +32,7 @@ abbrev pub badLength : List ℕ → ℕ → Bool
 badLength ns len = not (eqb len (gridCount ns))
 
 unfoldable pub badLevel : ℤ → Bool
-badLevel z = outsideZ (negℤ (pos (2 ^ 31 - 1))) (pos (2 ^ 31 - 1)) z
+badLevel z = over largestLevel z
 
 abbrev pub badFloat : Float → Bool
 badFloat nan = true

@@ -1,27 +1,20 @@
 -- Worked rows of this crate's definitions. Each holds by computing.
---   minus n             −n
---   wholes ns           the natural numbers ns as whole levels
 --   two                 the rows 1 2 3 / 4 5 6
 --   coordinates ns k    the coordinates of place k on each axis
---   ArrayRows           the rows
+--   ArraySpecRows           the rows
 use Prim.Native.Nat.{ℕ, _-_, _^_}
 use mathlib.Core.Path.{_≡_}
 use mathlib.Core.Bool.{true, false}
 use mathlib.Core.List.{List, [], _∷_, map}
 use lib.Ieee.{nan, inf, fin}
-use lib.IntN.{ℤ, pos, negsuc, negℤ}
+use lib.IntN.{ℤ, pos, negsuc}
 use lib.ListN.{length, getD, replicate}
 use Rattle.numbers.specs.Lists.{tabulate}
 use Rattle.numbers.specs.Refusal.{refusalOf}
+use Rattle.numbers.specs.Rows.{minus, wholes}
 use Rattle.array_spec.specs.Assign.{copied}
 use Rattle.array_spec.specs.Conditions.{badShape, gridCount, badLength, badLevel, badFloat, badAxis, gridJudgedBy, gridJudged}
 use Rattle.array_spec.specs.Grid.{cellCount, lengthOf, strideOf, placeOf, coordinate, moved, levelAt}
-
-abbrev pub minus : ℕ → ℤ
-minus n = negℤ (pos n)
-
-abbrev pub wholes : List ℕ → List ℤ
-wholes ns = map pos ns
 
 abbrev pub two : List ℤ
 two = wholes (1 ∷ 2 ∷ 3 ∷ 4 ∷ 5 ∷ 6 ∷ [])
@@ -29,7 +22,7 @@ two = wholes (1 ∷ 2 ∷ 3 ∷ 4 ∷ 5 ∷ 6 ∷ [])
 abbrev pub coordinates : List ℕ → ℕ → List ℕ
 coordinates ns k = tabulate (coordinate ns k) 0 (length ns)
 
-pub record ArrayRows : Type 0 where
+pub record ArraySpecRows : Type 0 where
   -- 2 by 3: cells, lengths, strides, places; a missing axis has length 1
   pub count : cellCount (2 ∷ 3 ∷ []) ≡ 6
   pub lengths : map (lengthOf (2 ∷ 3 ∷ [])) (0 ∷ 1 ∷ 2 ∷ []) ≡ 2 ∷ 3 ∷ 1 ∷ []

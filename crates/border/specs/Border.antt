@@ -1,5 +1,5 @@
 -- The five borders, the extension of a lane and the extended grid, over any element. A coordinate is a signed number.
---   Along                          the borders that read a cell: Nearest, Mirror, Reflect, Wrap (declared in src/lib.rt)
+--   CellBorder                          the borders that read a cell: Nearest, Mirror, Reflect, Wrap (declared in src/lib.rt)
 --   Border A                       constant, which carries a level, or along one of these
 --   cellBefore m n k               with n cells on the axis, counted from 0, the cell k places before cell 0
 --   cellAfter m n k                the cell k places after the last: the mirror image, under Wrap cell k − 1
@@ -14,27 +14,27 @@ use mathlib.Core.List.{List, [], _∷_}
 use lib.Dec.{ltb}
 use lib.IntN.{ℤ, pos, negsuc, natAbs}
 use Rattle.array_spec.specs.Grid.{lengthOf, levelAt}
-use Rattle.border.specs.declared.Along.{Along}
-use Rattle.border.specs.declared.Along.the-variants.{Nearest, Mirror, Reflect, Wrap}
+use Rattle.border.specs.declared.CellBorder.{CellBorder}
+use Rattle.border.specs.declared.CellBorder.the-variants.{Nearest, Mirror, Reflect, Wrap}
 
 pub data Border (A : Type 0) : Type 0 where
   constant : A → Border A
-  along : Along → Border A
+  along : CellBorder → Border A
 
-abbrev pub cellBefore : Along → ℕ → ℕ → ℕ
+abbrev pub cellBefore : CellBorder → ℕ → ℕ → ℕ
 cellBefore Nearest n k = 0
 cellBefore Mirror n k = k
 cellBefore Reflect n k = k - 1
 cellBefore Wrap n k = n - k
 
-abbrev pub cellAfter : Along → ℕ → ℕ → ℕ
+abbrev pub cellAfter : CellBorder → ℕ → ℕ → ℕ
 cellAfter Nearest n k = n - 1
 cellAfter Mirror n k = n - 1 - k
 cellAfter Reflect n k = n - k
 cellAfter Wrap n k = k - 1
 
 -- itself, or one k places after cell n − 1, or one k places before cell 0
-unfoldable pub cellFor : Along → ℕ → ℤ → ℕ
+unfoldable pub cellFor : CellBorder → ℕ → ℤ → ℕ
 cellFor m n (pos i) = cond (ltb i n) i (cellAfter m n (i + 1 - n))
 cellFor m n (negsuc j) = cellBefore m n (j + 1)
 

@@ -8,7 +8,7 @@ use mathlib.Core.Bool.{Bool, false}
 use lib.Ieee.{Float}
 use lib.IntN.{ℤ, pos}
 use Rattle.border.specs.Border.{Border, constant, along}
-use Rattle.border.specs.declared.Along.the-variants as Along
+use Rattle.border.specs.declared.CellBorder.the-variants as CellBorder
 use Rattle.border.specs.declared.BorderMode.{BorderMode}
 use Rattle.border.specs.declared.BorderMode.the-variants as Whole
 use Rattle.border.specs.declared.BorderModeF64.{BorderModeF64}
@@ -18,17 +18,17 @@ use Rattle.border.specs.declared.PadMode.the-variants as Pad
 
 abbrev pub borderOf : BorderMode → Border ℤ
 borderOf (Whole.Constant c) = constant c
-borderOf Whole.Mirror = along Along.Mirror
-borderOf Whole.Nearest = along Along.Nearest
-borderOf Whole.Reflect = along Along.Reflect
-borderOf Whole.Wrap = along Along.Wrap
+borderOf Whole.Mirror = along CellBorder.Mirror
+borderOf Whole.Nearest = along CellBorder.Nearest
+borderOf Whole.Reflect = along CellBorder.Reflect
+borderOf Whole.Wrap = along CellBorder.Wrap
 
 abbrev pub borderOfF64 : BorderModeF64 → Border Float
 borderOfF64 (F64.Constant c) = constant c
-borderOfF64 F64.Mirror = along Along.Mirror
-borderOfF64 F64.Nearest = along Along.Nearest
-borderOfF64 F64.Reflect = along Along.Reflect
-borderOfF64 F64.Wrap = along Along.Wrap
+borderOfF64 F64.Mirror = along CellBorder.Mirror
+borderOfF64 F64.Nearest = along CellBorder.Nearest
+borderOfF64 F64.Reflect = along CellBorder.Reflect
+borderOfF64 F64.Wrap = along CellBorder.Wrap
 
 abbrev pub padModeOf : BorderMode → PadMode
 padModeOf (Whole.Constant c) = Pad.Constant c

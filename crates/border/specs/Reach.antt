@@ -5,10 +5,10 @@ use Prim.Native.Nat.{ℕ, _-_}
 use mathlib.Core.Bool.{Bool, false}
 use lib.Dec.{ltb}
 use Rattle.border.specs.Border.{Border, constant, along}
-use Rattle.border.specs.declared.Along.{Along}
-use Rattle.border.specs.declared.Along.the-variants.{Nearest, Mirror, Reflect, Wrap}
+use Rattle.border.specs.declared.CellBorder.{CellBorder}
+use Rattle.border.specs.declared.CellBorder.the-variants.{Nearest, Mirror, Reflect, Wrap}
 
-abbrev pub badAlong : Along → ℕ → ℕ → Bool
+abbrev pub badAlong : CellBorder → ℕ → ℕ → Bool
 badAlong Nearest n pad = false
 badAlong Mirror n pad = ltb (n - 1) pad
 badAlong Reflect n pad = ltb n pad

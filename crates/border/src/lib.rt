@@ -48,7 +48,7 @@ pub enum BorderModeF64 {
 }
 
 // The borders that read a cell of the axis.
-pub enum Along {
+pub enum CellBorder {
     Nearest,
     Mirror,
     Reflect,
@@ -120,28 +120,28 @@ fn saturating_sub(a: usize, b: usize) -> usize
 //
 // Differences stop at 0. Refuses nothing.
 // Of three cells, two places before cell 0: Nearest reads cell 0, Mirror 2, Reflect 1, Wrap 1.
-pub fn cell_before(along: Along, n: usize, k: usize) -> usize
+pub fn cell_before(along: CellBorder, n: usize, k: usize) -> usize
     ensures { λ r. ⌜ r ≡ cellBefore along n k ⌝ }
 {
     match along {
-        Along::Nearest => 0,
-        Along::Mirror => k,
-        Along::Reflect => saturating_sub(k, 1),
-        Along::Wrap => saturating_sub(n, k),
+        CellBorder::Nearest => 0,
+        CellBorder::Mirror => k,
+        CellBorder::Reflect => saturating_sub(k, 1),
+        CellBorder::Wrap => saturating_sub(n, k),
     }
 }
 
 // The cell that a border reads for the place k after the last cell; the arguments are those of `cell_before`.
 // Differences stop at 0. Refuses nothing.
 // Of three cells, two places after cell 2: Nearest reads cell 2, Mirror 0, Reflect 1, Wrap 1.
-pub fn cell_after(along: Along, n: usize, k: usize) -> usize
+pub fn cell_after(along: CellBorder, n: usize, k: usize) -> usize
     ensures { λ r. ⌜ r ≡ cellAfter along n k ⌝ }
 {
     match along {
-        Along::Nearest => saturating_sub(n, 1),
-        Along::Mirror => saturating_sub(saturating_sub(n, 1), k),
-        Along::Reflect => saturating_sub(n, k),
-        Along::Wrap => saturating_sub(k, 1),
+        CellBorder::Nearest => saturating_sub(n, 1),
+        CellBorder::Mirror => saturating_sub(saturating_sub(n, 1), k),
+        CellBorder::Reflect => saturating_sub(n, k),
+        CellBorder::Wrap => saturating_sub(k, 1),
     }
 }
 

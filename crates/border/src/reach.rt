@@ -2,8 +2,8 @@
 ghost use mathlib.Core.Path.{_≡_};
 ghost use Rattle.border.specs.Modes.{borderOf};
 ghost use Rattle.border.specs.Reach.{badAlong, badPad};
-use crate::Along;
 use crate::BorderMode;
+use crate::CellBorder;
 
 // Condition 11 of a lane that is extended by cells of its own: whether they cannot fill a pad that long.
 //
@@ -12,19 +12,19 @@ use crate::BorderMode;
 // * `pad` - how many places are padded on one side.
 //
 // Refuses nothing. Of three cells Mirror fills a pad of 2 and not of 3, Reflect and Wrap fill 3 and not 4, Nearest any.
-pub fn bad_along(along: Along, n: usize, pad: usize) -> bool
+pub fn bad_along(along: CellBorder, n: usize, pad: usize) -> bool
     ensures { λ r. ⌜ r ≡ badAlong along n pad ⌝ }
 {
     match along {
-        Along::Nearest => false,
-        Along::Mirror => {
+        CellBorder::Nearest => false,
+        CellBorder::Mirror => {
             if n < 1 {
                 return 0 < pad;
             }
             n - 1 < pad
         }
-        Along::Reflect => n < pad,
-        Along::Wrap => n < pad,
+        CellBorder::Reflect => n < pad,
+        CellBorder::Wrap => n < pad,
     }
 }
 
@@ -39,9 +39,9 @@ pub fn bad_pad(mode: BorderMode, n: usize, pad: usize) -> bool
 {
     match mode {
         BorderMode::Constant(_) => false,
-        BorderMode::Mirror => bad_along(Along::Mirror, n, pad),
-        BorderMode::Nearest => bad_along(Along::Nearest, n, pad),
-        BorderMode::Reflect => bad_along(Along::Reflect, n, pad),
-        BorderMode::Wrap => bad_along(Along::Wrap, n, pad),
+        BorderMode::Mirror => bad_along(CellBorder::Mirror, n, pad),
+        BorderMode::Nearest => bad_along(CellBorder::Nearest, n, pad),
+        BorderMode::Reflect => bad_along(CellBorder::Reflect, n, pad),
+        BorderMode::Wrap => bad_along(CellBorder::Wrap, n, pad),
     }
 }

@@ -1,5 +1,5 @@
 -- Worked rows of codes: what each names, codes that name nothing, and the number that these get. Each holds by computing.
---   CapiRows   the rows
+--   CodesRows   the rows
 use mathlib.Core.Path.{_≡_}
 use mathlib.Core.Bool.{true, false}
 use mathlib.Core.List.{[], _∷_}
@@ -13,7 +13,7 @@ use Rattle.codes.specs.Codes.{modeOf, modeOfF64, padModeOf, kernelOf, un
 use Rattle.codes.specs.Cells.{pairsOf, kernelCells}
 use lib.Ieee.{nan}
 
-pub record CapiRows : Type 0 where
+pub record CodesRows : Type 0 where
   -- the borders in the order of their codes; 5 and 255 name none
   pub border-0 : modeOf 0 (pos 7) ≡ Whole.Constant (pos 7)
   pub border-1 : modeOf 1 (pos 7) ≡ Whole.Mirror

@@ -3,7 +3,7 @@ ghost use mathlib.Core.Path.{_≡_};
 ghost use mathlib.Core.Bool.{cond};
 ghost use lib.Dec.{eqb};
 ghost use Rattle.codes.specs.Codes.{modeOf, modeOfF64, padModeOf, kernelOf, codeOf};
-ghost use Rattle.codes.specs.Rows.{CapiRows};
+ghost use Rattle.codes.specs.Rows.{CodesRows};
 use border::BorderMode;
 use border::BorderModeF64;
 use border::PadMode;
@@ -118,5 +118,5 @@ pub fn unknown_after(refusal: u8) -> u8
 
 // Worked rows of codes: what each names, and the number of a code that names nothing. Refuses nothing.
 pub fn rows()
-    ensures { λ _. ⌜ CapiRows ⌝ }
+    ensures { λ _. ⌜ CodesRows ⌝ }
 {}

@@ -20,7 +20,7 @@ use Rattle.window.specs.Origin.{badOrigin}
 use Rattle.window.proofs.Origins.{pads-sum, kernel-accepted}
 use Rattle.border.specs.Reach.{badPad}
 use Rattle.correlate_spec.specs.Kernel.{sidesOf, sideOf, kernelAnswer}
-use Rattle.window.specs.Window.{kernelLeft, kernelRight, appliedOrigin, badPads, badKernelReach}
+use Rattle.window.specs.Window.{kernelLeft, kernelRight, appliedOrigin, badEitherPad, badKernelReach}
 use Rattle.correlate_judge.specs.Judge.{badWeight, appliedWeights}
 use Rattle.correlate_judge.proofs.Applied.{applied-length, applied-weights}
 use Rattle.window.proofs.Changed.{applied-range}
@@ -33,18 +33,18 @@ kernel-pads : (side : ℕ) (o : ℤ) → badOrigin side o ≡ false → kernelLe
 kernel-pads side o h = pads-sum (side / 2) (side / 2) o (kernel-accepted side o h)
 
 -- what the conditions say of a call that they accept
-pub record Passed (turned : Bool) (b : Border ℤ) (o : ℤ) (sides : List ℕ) (w : List ℤ) (ns : List ℕ) (cells : List ℤ) (out : ℕ) : Type 0 where
+pub record Passed (convolution : Bool) (b : Border ℤ) (o : ℤ) (sides : List ℕ) (w : List ℤ) (ns : List ℕ) (cells : List ℤ) (out : ℕ) : Type 0 where
   pub grid : PassedGrid badLevel ns cells (out ∷ [])
   pub equal : Equal ns sides (length w)
   pub weights : anyOf badWeight w ≡ false
   pub origin : badOrigin (sideOf sides) o ≡ false
   pub level : badConstantBy badLevel b ≡ false
-  pub reach : badKernelReach b (sideOf sides) (appliedOrigin turned (sideOf sides) o) ns ≡ false
+  pub reach : badKernelReach b (sideOf sides) (appliedOrigin convolution (sideOf sides) o) ns ≡ false
 
-module _ (turned : Bool) (b : Border ℤ) (o : ℤ) (sides : List ℕ) (w : List ℤ) (ns : List ℕ) (cells : List ℤ) (out : ℕ) where
-  pub passed : refusalOf (kernelJudged turned b o sides w ns cells out) ≡ 0 → Passed turned b o sides w ns cells out
+module _ (convolution : Bool) (b : Border ℤ) (o : ℤ) (sides : List ℕ) (w : List ℤ) (ns : List ℕ) (cells : List ℤ) (out : ℕ) where
+  pub passed : refusalOf (kernelJudged convolution b o sides w ns cells out) ≡ 0 → Passed convolution b o sides w ns cells out
   passed z =
-      let J = grid-passed badLevel ns cells (out ∷ []) (drop 3 (kernelJudged turned b o sides w ns cells out)) (tt, (tt, (tt, (tt, (tt, (tt, tt)))))) z in record {
+      let J = grid-passed badLevel ns cells (out ∷ []) (drop 3 (kernelJudged convolution b o sides w ns cells out)) (tt, (tt, (tt, (tt, (tt, (tt, tt)))))) z in record {
         grid = J .0;
         equal = kernel-equal ns sides (length w) (J .0 .shape) (J .1 .0);
         weights = J .1 .1 .0;
@@ -54,20 +54,20 @@ module _ (turned : Bool) (b : Border ℤ) (o : ℤ) (sides : List ℕ) (w : List
       }
 
 -- ---- the worker's own words, of the weights as they are applied
-module _ {turned : Bool} {b : Border ℤ} {o : ℤ} {sides : List ℕ} {w : List ℤ} {ns : List ℕ} {cells : List ℤ} (out : List ℤ) (P : Passed turned b o sides w ns cells (length out)) where
+module _ {convolution : Bool} {b : Border ℤ} {o : ℤ} {sides : List ℕ} {w : List ℤ} {ns : List ℕ} {cells : List ℤ} (out : List ℤ) (P : Passed convolution b o sides w ns cells (length out)) where
   abbrev side : ℕ
   side = sideOf sides
 
   abbrev applied : ℤ
-  applied = appliedOrigin turned side o
+  applied = appliedOrigin convolution side o
 
   pub origin-applied : badOrigin side applied ≡ false
-  origin-applied = applied-range turned side o ∙ P .origin
+  origin-applied = applied-range convolution side o ∙ P .origin
 
   fills : (a : ℕ) → a < length ns → (badPad b (lengthOf ns a) (kernelLeft side applied) ≡ false) × (badPad b (lengthOf ns a) (kernelRight side applied) ≡ false)
-  fills a h = or-false _ _ (every-at (λ n. badPads b (kernelLeft side applied) (kernelRight side applied) n ≡ false) ns 1 (any-none _ ns (P .reach)) a h)
+  fills a h = or-false _ _ (every-at (λ n. badEitherPad b (kernelLeft side applied) (kernelRight side applied) n ≡ false) ns 1 (any-none _ ns (P .reach)) a h)
 
-  pub kernelled-accepted : Kernelled b ns side (kernelLeft side applied) (kernelRight side applied) (appliedWeights turned w) cells out
+  pub kernelled-accepted : Kernelled b ns side (kernelLeft side applied) (kernelRight side applied) (appliedWeights convolution w) cells out
   unfolding badWeight
   kernelled-accepted = record {
     shape = P .grid .shape;
@@ -75,12 +75,12 @@ module _ {turned : Bool} {b : Border ℤ} {o : ℤ} {sides : List ℕ} {w : List
     same = lent-same (P .grid);
     some = P .equal .some;
     narrow = P .equal .narrow;
-    many = applied-length turned w ∙ P .equal .many ∙ ap cellCount (P .equal .same);
+    many = applied-length convolution w ∙ P .equal .many ∙ ap cellCount (P .equal .same);
     wide = omega (arith, kernel-pads side applied origin-applied);
     pads = omega (arith, kernel-pads side applied origin-applied, P .equal .narrow);
     fills-left = λ a h. fills a h .0;
     fills-right = λ a h. fills a h .1;
-    weights = applied-weights badWeight turned w (P .weights);
+    weights = applied-weights badWeight convolution w (P .weights);
     level = P .level;
     levels = P .grid .levels;
   }
@@ -93,7 +93,7 @@ module _ {turned : Bool} {b : Border ℤ} {o : ℤ} {sides : List ℕ} {w : List
   abbrev Suits : ℕ → ℤ → List ℤ → Type 0
   Suits n x v = (badOrigin n x ≡ false) × Kernelled b ns n (kernelLeft n x) (kernelRight n x) v cells out
 
-  pub suits-as : {n : ℕ} {x : ℤ} {v : List ℤ} → n ≡ side → x ≡ applied → v ≡ appliedWeights turned w → Suits n x v
+  pub suits-as : {n : ℕ} {x : ℤ} {v : List ℤ} → n ≡ side → x ≡ applied → v ≡ appliedWeights convolution w → Suits n x v
   suits-as {n} {x} {v} p q r =
       subst (λ (m : ℕ). Suits m x v) (sym p)
       (subst (λ (y : ℤ). Suits side y v) (sym q) (subst (λ (u : List ℤ). Suits side applied u) (sym r) (origin-applied, kernelled-accepted)))

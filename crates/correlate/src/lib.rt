@@ -33,7 +33,7 @@ fn sum_windows(
     }
 }
 
-// Fills out with the answer of an accepted convolution; turned is a buffer, as long as the weights.
+// Fills out with the answer of an accepted convolution; reversed is a buffer, as long as the weights.
 fn convolve_cells(
     data: &[i64],
     shape: &[usize],
@@ -41,16 +41,16 @@ fn convolve_cells(
     sides: &[usize],
     mode: BorderMode,
     origin: isize,
-    turned: &mut [i64],
+    reversed: &mut [i64],
     out: &mut [i64],
 )
-    requires { ⌜ (refusalOf (kernelJudged true (borderOf mode) origin (now sides) (now weights) (now shape) (now «data») (length (now out))) ≡ 0) × (length (now turned) ≡ length (now weights)) ⌝ }
+    requires { ⌜ (refusalOf (kernelJudged true (borderOf mode) origin (now sides) (now weights) (now shape) (now «data») (length (now out))) ≡ 0) × (length (now reversed) ≡ length (now weights)) ⌝ }
     ensures { λ _. ⌜ now (out .exit) ≡ convolveZ (borderOf mode) origin (now (sides .entry)) (now (weights .entry)) (now (shape .entry)) (now («data» .entry)) ⌝ }
 {
-    correlate1d::reverse(weights, turned);
+    correlate1d::reverse(weights, reversed);
     let side = array::len_of(sides, 0);
     let applied = window::applied_origin(side, origin, true);
-    sum_windows(data, shape, turned, side, mode, applied, out);
+    sum_windows(data, shape, reversed, side, mode, applied, out);
 }
 
 // The sums of each window times the weights of a grid kernel, whose sides are all equal.
@@ -131,7 +131,7 @@ pub fn convolve(
         return refusal;
     }
     let count = weights.len();
-    let mut turned = [0; 343];
+    let mut reversed = [0; 343];
     convolve_cells(
         data,
         shape,
@@ -139,7 +139,7 @@ pub fn convolve(
         sides,
         mode,
         origin,
-        &mut turned[..count],
+        &mut reversed[..count],
         out,
     );
     numbers::ACCEPTED

@@ -21,7 +21,7 @@ use Rattle.correlate_judge.specs.Judge.{badWeight, appliedWeights}
 use Rattle.window.specs.Window.{appliedOrigin}
 use Rattle.correlate_judge.proofs.Applied.{applied-weights}
 use Rattle.correlate1d.proofs.Passed.{Passed, placed-accepted}
-use Rattle.correlate1d.specs.Weighs.{tooLarge, Scales, Weighs}
+use Rattle.correlate1d.specs.WeighNeeds.{tooLarge, ScaleNeeds, WeighNeeds}
 
 -- ---- a level within the limits of condition 3 is small, and one of no greater size than 2^38
 small-level : (z : ℤ) → badLevel z ≡ false → tooLarge z ≡ false
@@ -35,8 +35,8 @@ small-constant (along m) e = refl
 pub small-sized : {p : ℕ} (cells : List ℤ) → Sized p cells → p ≤ 2 ^ 38 → anyOf tooLarge cells ≡ false
 small-sized {p} cells h l = none-any tooLarge cells (every-imp (λ x. Size x p) _ cells (λ x s. inside-sized (2 ^ 38) x (size-le s l)) h)
 
-module _ {turned : Bool} {b : Border ℤ} {o : ℤ} {w : List ℤ} {ns : List ℕ} {a : ℕ} {cells : List ℤ} (out : List ℤ) (P : Passed badLevel badWeight turned b o w ns a cells (length out)) where
-  pub scales-accepted : Scales cells (getD w 0 (pos 0)) out
+module _ {convolution : Bool} {b : Border ℤ} {o : ℤ} {w : List ℤ} {ns : List ℕ} {a : ℕ} {cells : List ℤ} (out : List ℤ) (P : Passed badLevel badWeight convolution b o w ns a cells (length out)) where
+  pub scales-accepted : ScaleNeeds cells (getD w 0 (pos 0)) out
   scales-accepted = record { same = lent-same (P .grid); levels = P .grid .levels; weight = every-at (λ x. badWeight x ≡ false) w (pos 0) (any-none badWeight w (P .weights)) 0 (P .some) }
 
   -- the only weight, as it is read
@@ -44,18 +44,18 @@ module _ {turned : Bool} {b : Border ℤ} {o : ℤ} {w : List ℤ} {ns : List �
   unfolding badWeight
   weight-read = toZ-ofZ w64 (getD w 0 (pos 0)) (fits-size (size-inside 65535 (getD w 0 (pos 0)) (scales-accepted .weight)) (omega arith))
 
-  pub scales-read : Scales cells (read (getD w 0 (pos 0))) out
-  scales-read = subst (λ (x : ℤ). Scales cells x out) (sym weight-read) scales-accepted
+  pub scales-read : ScaleNeeds cells (read (getD w 0 (pos 0))) out
+  scales-read = subst (λ (x : ℤ). ScaleNeeds cells x out) (sym weight-read) scales-accepted
 
   pub scaled-cells : {left : List ℤ} → left ≡ map (λ x. x *ℤ read (getD w 0 (pos 0))) cells → left ≡ map (λ x. x *ℤ getD w 0 (pos 0)) cells
   scaled-cells e = e ∙ ap (λ (y : ℤ). map (λ x. x *ℤ y) cells) weight-read
 
   module _ (more : length w ≡ 1 → ⊥) where
-    pub weighs-accepted : Weighs b ns a (appliedOrigin turned (length w) o) (appliedWeights turned w) cells out
+    pub weighs-accepted : WeighNeeds b ns a (appliedOrigin convolution (length w) o) (appliedWeights convolution w) cells out
     weighs-accepted = record {
       placed = placed-accepted out P more;
       small = record {
-        weights = applied-weights badWeight turned w (P .weights);
+        weights = applied-weights badWeight convolution w (P .weights);
         level = small-constant b (P .level);
         levels = small-sized cells (levels-sized cells (P .grid .levels)) (omega arith);
         narrow = λ h. (P .level, P .grid .levels);

@@ -13,14 +13,14 @@ use Rattle.pad_line.specs.Line.{paddedLine}
 use Rattle.pad_line.specs.Lane.{LineNeeds}
 use Rattle.pad_line.proofs.EveryPadded.{any-padded}
 use Rattle.pad_line.proofs.OneLane.{length-line}
-use Rattle.correlate_spec.specs.Sizes.{Weighable}
+use Rattle.correlate_spec.specs.Sizes.{LineSumNeeds}
 use Rattle.correlate_line.specs.Narrow.{Narrow}
 use Rattle.correlate_line.proofs.RaisedLists.{levels-narrow}
 use Rattle.correlate_judge.specs.Judge.{badWeight}
-use Rattle.correlate1d.specs.Weighs.{tooLarge, Weighing}
+use Rattle.correlate1d.specs.WeighNeeds.{tooLarge, WeightNeeds}
 
-module _ {b : Border ℤ} {n s base left right : ℕ} {g line : List ℤ} (R : LineNeeds b n s base left right g line) {w : List ℤ} (many : length w ≡ left + right + 1) (W : Weighing w b g) where
-  sums-fit : Weighable w (paddedLine (pos 0) b left right (laneAt (pos 0) g base s n)) n
+module _ {b : Border ℤ} {n s base left right : ℕ} {g line : List ℤ} (R : LineNeeds b n s base left right g line) {w : List ℤ} (many : length w ≡ left + right + 1) (W : WeightNeeds w b g) where
+  sums-fit : LineSumNeeds w (paddedLine (pos 0) b left right (laneAt (pos 0) g base s n)) n
   unfolding badWeight
   sums-fit = let e = length-line (pos 0) R in record {
     some = omega arith;
@@ -35,5 +35,5 @@ module _ {b : Border ℤ} {n s base left right : ℕ} {g line : List ℤ} (R : L
   unfolding badLevel
   raised-fit h = levels-narrow (paddedLine (pos 0) b left right (laneAt (pos 0) g base s n)) (any-padded badLevel (pos 0) b left right n s base g refl (W .narrow h .0) (W .narrow h .1))
 
-  pub lane-weighed : Weighable w (paddedLine (pos 0) b left right (laneAt (pos 0) g base s n)) n × (5 ≤ length w → Narrow (paddedLine (pos 0) b left right (laneAt (pos 0) g base s n)))
+  pub lane-weighed : LineSumNeeds w (paddedLine (pos 0) b left right (laneAt (pos 0) g base s n)) n × (5 ≤ length w → Narrow (paddedLine (pos 0) b left right (laneAt (pos 0) g base s n)))
   lane-weighed = (sums-fit, raised-fit)

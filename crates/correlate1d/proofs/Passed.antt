@@ -21,12 +21,12 @@ use Rattle.border.specs.Modes.{badConstantBy}
 use Rattle.window.specs.Origin.{badOrigin}
 use Rattle.window.specs.Window.{badWindowOrigin, badReach, appliedOrigin}
 use Rattle.window.proofs.Reach.{more-cells}
-use Rattle.correlate_judge.specs.Judge.{badWeight, weightsJudged, appliedWeights, placeJudged, badSums, correlateJudged, correlateJudgedF}
+use Rattle.correlate_judge.specs.Judge.{badWeight, weightsJudged, appliedWeights, placeJudged, badCorrelateSums, correlateJudged, correlateJudgedF}
 use Rattle.correlate_judge.proofs.Applied.{applied-length}
 use Rattle.window.proofs.Changed.{applied-range}
-use Rattle.correlate1d.specs.Weighs.{Placed}
+use Rattle.correlate1d.specs.WeighNeeds.{PlaceNeeds}
 
-pub record Passed {A : Type 0} (bad heavy : A → Bool) (turned : Bool) (b : Border A) (o : ℤ) (w : List A) (ns : List ℕ) (a : ℕ) (cells : List A) (out : ℕ) : Type 0 where
+pub record Passed {A : Type 0} (bad heavy : A → Bool) (convolution : Bool) (b : Border A) (o : ℤ) (w : List A) (ns : List ℕ) (a : ℕ) (cells : List A) (out : ℕ) : Type 0 where
   pub grid : PassedGrid bad ns cells (out ∷ [])
   pub some : 0 < length w
   pub few : length w ≤ 65
@@ -34,14 +34,14 @@ pub record Passed {A : Type 0} (bad heavy : A → Bool) (turned : Bool) (b : Bor
   pub origin : badWindowOrigin (length w) o ≡ false
   pub axis : a < length ns
   pub level : badConstantBy bad b ≡ false
-  pub reach : badReach b (length w) (appliedOrigin turned (length w) o) (lengthOf ns a) ≡ false
+  pub reach : badReach b (length w) (appliedOrigin convolution (length w) o) (lengthOf ns a) ≡ false
 
 -- whatever is judged after condition 11
-module _ {A : Type 0} (bad heavy : A → Bool) (turned : Bool) (b : Border A) (o : ℤ) (w : List A) (ns : List ℕ) (a : ℕ) (cells : List A) (out : ℕ) where
+module _ {A : Type 0} (bad heavy : A → Bool) (convolution : Bool) (b : Border A) (o : ℤ) (w : List A) (ns : List ℕ) (a : ℕ) (cells : List A) (out : ℕ) where
   passed-by : (ks : Judged) → Every (λ j. T (ltb 0 (j .1))) ks
-      → refusalOf (gridJudgedBy bad ns cells (out ∷ []) ++ weightsJudged heavy w ++ placeJudged bad turned b o (length w) ns a ++ ks) ≡ 0 → Passed bad heavy turned b o w ns a cells out
+      → refusalOf (gridJudgedBy bad ns cells (out ∷ []) ++ weightsJudged heavy w ++ placeJudged bad convolution b o (length w) ns a ++ ks) ≡ 0 → Passed bad heavy convolution b o w ns a cells out
   passed-by ks p z =
-      let J = grid-passed bad ns cells (out ∷ []) (weightsJudged heavy w ++ placeJudged bad turned b o (length w) ns a ++ ks) (tt, (tt, (tt, (tt, (tt, (tt, p)))))) z in
+      let J = grid-passed bad ns cells (out ∷ []) (weightsJudged heavy w ++ placeJudged bad convolution b o (length w) ns a ++ ks) (tt, (tt, (tt, (tt, (tt, (tt, p)))))) z in
       let s = or-false (ltb (length w) 1) (ltb 65 (length w)) (J .1 .0) in record {
         grid = J .0;
         some = omega (arith, ltb-false (length w) 1 (s .0));
@@ -53,25 +53,25 @@ module _ {A : Type 0} (bad heavy : A → Bool) (turned : Bool) (b : Border A) (o
         reach = J .1 .1 .1 .1 .1 .1 .0;
       }
 
-pub passed : (turned : Bool) (b : Border ℤ) (o : ℤ) (w : List ℤ) (ns : List ℕ) (a : ℕ) (cells : List ℤ) (out : ℕ) → refusalOf (correlateJudged turned b o w ns a cells out) ≡ 0
-    → Passed badLevel badWeight turned b o w ns a cells out
-passed turned b o w ns a cells out z = passed-by badLevel badWeight turned b o w ns a cells out ((badSums turned b o w ns a cells, 12) ∷ []) (tt, tt) z
+pub passed : (convolution : Bool) (b : Border ℤ) (o : ℤ) (w : List ℤ) (ns : List ℕ) (a : ℕ) (cells : List ℤ) (out : ℕ) → refusalOf (correlateJudged convolution b o w ns a cells out) ≡ 0
+    → Passed badLevel badWeight convolution b o w ns a cells out
+passed convolution b o w ns a cells out z = passed-by badLevel badWeight convolution b o w ns a cells out ((badCorrelateSums convolution b o w ns a cells, 12) ∷ []) (tt, tt) z
 
-pub passed-float : (turned : Bool) (b : Border Float) (o : ℤ) (w : List Float) (ns : List ℕ) (a : ℕ) (cells : List Float) (out : ℕ) → refusalOf (correlateJudgedF turned b o w ns a cells out) ≡ 0
-    → Passed badFloat badFloat turned b o w ns a cells out
-passed-float turned b o w ns a cells out z = passed-by badFloat badFloat turned b o w ns a cells out [] tt z
+pub passed-float : (convolution : Bool) (b : Border Float) (o : ℤ) (w : List Float) (ns : List ℕ) (a : ℕ) (cells : List Float) (out : ℕ) → refusalOf (correlateJudgedF convolution b o w ns a cells out) ≡ 0
+    → Passed badFloat badFloat convolution b o w ns a cells out
+passed-float convolution b o w ns a cells out z = passed-by badFloat badFloat convolution b o w ns a cells out [] tt z
 
 -- ---- two weights or more, as they are applied
-module _ {A : Type 0} {bad heavy : A → Bool} {turned : Bool} {b : Border A} {o : ℤ} {w : List A} {ns : List ℕ} {a : ℕ} {cells : List A} (out : List A)
-    (P : Passed bad heavy turned b o w ns a cells (length out)) (more : length w ≡ 1 → ⊥) where
-  pub placed-accepted : Placed b ns a (appliedOrigin turned (length w) o) (appliedWeights turned w) cells out
+module _ {A : Type 0} {bad heavy : A → Bool} {convolution : Bool} {b : Border A} {o : ℤ} {w : List A} {ns : List ℕ} {a : ℕ} {cells : List A} (out : List A)
+    (P : Passed bad heavy convolution b o w ns a cells (length out)) (more : length w ≡ 1 → ⊥) where
+  pub placed-accepted : PlaceNeeds b ns a (appliedOrigin convolution (length w) o) (appliedWeights convolution w) cells out
   placed-accepted = record {
     shape = P .grid .shape;
     axis = P .axis;
     count = P .grid .count;
     same = lent-same (P .grid);
-    more = omega (arith, applied-length turned w, P .some, more);
-    few = omega (arith, applied-length turned w, P .few);
-    origin = ap (λ (n : ℕ). badOrigin n (appliedOrigin turned (length w) o)) (applied-length turned w) ∙ applied-range turned (length w) o ∙ more-cells (length w) o more (badOrigin (length w) o) ∙ P .origin;
-    reach = ap (λ (n : ℕ). badReach b n (appliedOrigin turned (length w) o) (lengthOf ns a)) (applied-length turned w) ∙ P .reach;
+    more = omega (arith, applied-length convolution w, P .some, more);
+    few = omega (arith, applied-length convolution w, P .few);
+    origin = ap (λ (n : ℕ). badOrigin n (appliedOrigin convolution (length w) o)) (applied-length convolution w) ∙ applied-range convolution (length w) o ∙ more-cells (length w) o more (badOrigin (length w) o) ∙ P .origin;
+    reach = ap (λ (n : ℕ). badReach b n (appliedOrigin convolution (length w) o) (lengthOf ns a)) (applied-length convolution w) ∙ P .reach;
   }

@@ -17,10 +17,10 @@ use Rattle.correlate_spec.specs.Weighed.{Ops}
 use Rattle.correlate_spec.specs.Correlated.{correlatedBy}
 use Rattle.correlate_judge.specs.Judge.{badWeight}
 use Rattle.correlate_spec.proofs.Computed.{Computed, read, computed, computed-level}
-use Rattle.correlate1d.specs.Weighs.{Scales}
+use Rattle.correlate1d.specs.WeighNeeds.{ScaleNeeds}
 
 -- the product as the machine computes it
-pub scaled : {cells out : List ℤ} {w : ℤ} → Scales cells w out → (i : ℕ) → Computed (read (getD cells i (pos 0)) *ℤ read w) (getD cells i (pos 0) *ℤ w)
+pub scaled : {cells out : List ℤ} {w : ℤ} → ScaleNeeds cells w out → (i : ℕ) → Computed (read (getD cells i (pos 0)) *ℤ read w) (getD cells i (pos 0) *ℤ w)
 unfolding badLevel badWeight
 scaled {cells} {out} {w} S i =
     let a : Size (getD cells i (pos 0)) 2147483647 = member-sized 2147483647 cells (tested-sized 2147483647 cells (S .levels)) i in
@@ -40,6 +40,6 @@ module _ {A : Type 0} (ops : Ops A) (b : Border A) where
   one-reversed (x ∷ y ∷ w) e = absurd (omega arith)
 
   -- of a convolution too
-  pub one-turned : (class : List A → SymmetryState) (o : ℤ) (w : List A) (ns : List ℕ) (a : ℕ) (cells : List A) → length w ≡ 1
+  pub one-convolved : (class : List A → SymmetryState) (o : ℤ) (w : List A) (ns : List ℕ) (a : ℕ) (cells : List A) → length w ≡ 1
       → map (λ x. ops .product x (getD w 0 (ops .past))) cells ≡ correlatedBy ops (class (reverse w)) b o (reverse w) ns a cells
-  one-turned class o w ns a cells e = one-weight (class w) o w ns a cells e ∙ ap (λ (v : List A). correlatedBy ops (class v) b o v ns a cells) (sym (one-reversed w e))
+  one-convolved class o w ns a cells e = one-weight (class w) o w ns a cells e ∙ ap (λ (v : List A). correlatedBy ops (class v) b o v ns a cells) (sym (one-reversed w e))

@@ -20,16 +20,16 @@ use Rattle.window.specs.Window.{badWindowOrigin, leftPad, rightPad}
 use Rattle.window.proofs.Reach.{pads-size, reach-more}
 use Rattle.correlate_spec.specs.Weighed.{Ops}
 use Rattle.correlate_spec.specs.Correlated.{correlatedLine, correlatedBy}
-use Rattle.correlate1d.specs.Weighs.{Placed, Weighs}
+use Rattle.correlate1d.specs.WeighNeeds.{PlaceNeeds, WeighNeeds}
 
 -- the same call by other names of its origin and weights
-pub weighs-as : {b : Border ℤ} {ns : List ℕ} {a : ℕ} {o q : ℤ} {w v cells out : List ℤ} → Weighs b ns a o w cells out → q ≡ o → v ≡ w → Weighs b ns a q v cells out
-weighs-as {b} {ns} {a} {o} {q} {w} {v} {cells} {out} W e f = subst (λ (x : ℤ). Weighs b ns a x v cells out) (sym e) (subst (λ (x : List ℤ). Weighs b ns a o x cells out) (sym f) W)
+pub weighs-as : {b : Border ℤ} {ns : List ℕ} {a : ℕ} {o q : ℤ} {w v cells out : List ℤ} → WeighNeeds b ns a o w cells out → q ≡ o → v ≡ w → WeighNeeds b ns a q v cells out
+weighs-as {b} {ns} {a} {o} {q} {w} {v} {cells} {out} W e f = subst (λ (x : ℤ). WeighNeeds b ns a x v cells out) (sym e) (subst (λ (x : List ℤ). WeighNeeds b ns a o x cells out) (sym f) W)
 
-pub placed-as : {A : Type 0} {b : Border A} {ns : List ℕ} {a : ℕ} {o q : ℤ} {w v cells out : List A} → Placed b ns a o w cells out → q ≡ o → v ≡ w → Placed b ns a q v cells out
-placed-as {A} {b} {ns} {a} {o} {q} {w} {v} {cells} {out} W e f = subst (λ (x : ℤ). Placed b ns a x v cells out) (sym e) (subst (λ (x : List A). Placed b ns a o x cells out) (sym f) W)
+pub placed-as : {A : Type 0} {b : Border A} {ns : List ℕ} {a : ℕ} {o q : ℤ} {w v cells out : List A} → PlaceNeeds b ns a o w cells out → q ≡ o → v ≡ w → PlaceNeeds b ns a q v cells out
+placed-as {A} {b} {ns} {a} {o} {q} {w} {v} {cells} {out} W e f = subst (λ (x : ℤ). PlaceNeeds b ns a x v cells out) (sym e) (subst (λ (x : List A). PlaceNeeds b ns a o x cells out) (sym f) W)
 
-module _ {A : Type 0} {b : Border A} {ns : List ℕ} {a : ℕ} {o : ℤ} {w cells out : List A} (W : Placed b ns a o w cells out) where
+module _ {A : Type 0} {b : Border A} {ns : List ℕ} {a : ℕ} {o : ℤ} {w cells out : List A} (W : PlaceNeeds b ns a o w cells out) where
   pub window-origin : badWindowOrigin (length w) o ≡ false
   window-origin = ap (λ t. not (eqb (length w) 1) && t) (W .origin) ∙ and-false (not (eqb (length w) 1))
 

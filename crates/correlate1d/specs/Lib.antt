@@ -1,3 +1,3 @@
 -- What the workers of correlate1d and convolve1d suppose.
-pub mod Weighs
+pub mod WeighNeeds
 pub mod Rows

@@ -7,11 +7,11 @@ use mathlib.Core.List.{[], _∷_, map}
 use lib.IntN.{pos}
 use Rattle.numbers.specs.Rows.{minus, wholes}
 use Rattle.border.specs.Border.{along}
-use Rattle.border.specs.declared.Along.the-variants.{Nearest}
+use Rattle.border.specs.declared.CellBorder.the-variants.{Nearest}
 use Rattle.symmetry_spec.specs.declared.SymmetryState.the-variants.{NonSymmetric}
 use Rattle.correlate_spec.specs.Weighed.{wholeOps}
 use Rattle.correlate_spec.specs.Correlated.{correlatedLine}
-use Rattle.correlate1d.specs.Weighs.{tooLarge}
+use Rattle.correlate1d.specs.WeighNeeds.{tooLarge}
 
 pub record Correlate1dRows : Type 0 where
   pub limits : map tooLarge (minus (2 ^ 38 + 1) ∷ minus (2 ^ 38) ∷ pos 0 ∷ pos (2 ^ 38) ∷ pos (2 ^ 38 + 1) ∷ [])

@@ -4,6 +4,7 @@ ghost use mathlib.Core.Path.{_≡_};
 ghost use Prim.Native.Nat.{_+_};
 ghost use lib.IntN.{pos};
 ghost use lib.ListN.{length};
+ghost use Rattle.numbers.specs.Limits.{longestLine};
 ghost use Rattle.array_spec.specs.Grid.{lengthOf, strideOf};
 ghost use Rattle.lanes.specs.Lanes.{laneAt, alongAxis};
 ghost use Rattle.border.specs.Modes.{borderOf};
@@ -11,7 +12,7 @@ ghost use Rattle.symmetry_spec.specs.declared.SymmetryState.the-variants.{NonSy
 ghost use Rattle.pad_line.specs.Lane.{LineNeeds, AxisNeeds};
 ghost use Rattle.correlate_spec.specs.Weighed.{wholeOps};
 ghost use Rattle.correlate_spec.specs.Correlated.{correlatedLine};
-ghost use Rattle.correlate1d.specs.Weighs.{Weighing};
+ghost use Rattle.correlate1d.specs.WeighNeeds.{WeightNeeds};
 use border::BorderMode;
 
 // Fills a row with the weighted sums of the lane of data that starts at place base and has as many cells as the row.
@@ -27,7 +28,7 @@ fn correlate_lane(
     line: &mut [i64],
     row: &mut [i64],
 )
-    requires { ⌜ LineNeeds (borderOf mode) (length (now row)) stride base left right (now «data») (now line) × (length (now weights) ≡ left + right + 1) × Weighing (now weights) (borderOf mode) (now «data») ⌝ }
+    requires { ⌜ LineNeeds (borderOf mode) (length (now row)) stride base left right (now «data») (now line) × (length (now weights) ≡ left + right + 1) × WeightNeeds (now weights) (borderOf mode) (now «data») ⌝ }
     ensures { λ _. ⌜ now (row .exit) ≡ correlatedLine wholeOps NonSymmetric (borderOf mode) left right (now (weights .entry)) (laneAt (pos 0) (now («data» .entry)) base stride (length (now (row .entry)))) ⌝ }
 {
     let n = row.len();
@@ -49,7 +50,7 @@ fn correlate_rows(
     line: &mut [i64],
     out: &mut [i64],
 )
-    requires { ⌜ AxisNeeds (borderOf mode) (now shape) axis left right (now «data») (now out) × (length (now weights) ≡ left + right + 1) × Weighing (now weights) (borderOf mode) (now «data») × (length (now line) ≡ 1088) × (strideOf (now shape) axis ≡ 1) ⌝ }
+    requires { ⌜ AxisNeeds (borderOf mode) (now shape) axis left right (now «data») (now out) × (length (now weights) ≡ left + right + 1) × WeightNeeds (now weights) (borderOf mode) (now «data») × (length (now line) ≡ longestLine) × (strideOf (now shape) axis ≡ 1) ⌝ }
     ensures { λ _. ⌜ now (out .exit) ≡ alongAxis (pos 0) (correlatedLine wholeOps NonSymmetric (borderOf mode) left right (now (weights .entry))) (now (shape .entry)) axis (now («data» .entry)) ⌝ }
 {
     let along = lanes::lanes_of(shape, axis);
@@ -89,7 +90,7 @@ fn correlate_lanes(
     swept: &mut [i64],
     out: &mut [i64],
 )
-    requires { ⌜ AxisNeeds (borderOf mode) (now shape) axis left right (now «data») (now out) × (length (now weights) ≡ left + right + 1) × Weighing (now weights) (borderOf mode) (now «data») × (length (now line) ≡ 1088) × (length (now swept) ≡ lengthOf (now shape) axis) ⌝ }
+    requires { ⌜ AxisNeeds (borderOf mode) (now shape) axis left right (now «data») (now out) × (length (now weights) ≡ left + right + 1) × WeightNeeds (now weights) (borderOf mode) (now «data») × (length (now line) ≡ longestLine) × (length (now swept) ≡ lengthOf (now shape) axis) ⌝ }
     ensures { λ _. ⌜ now (out .exit) ≡ alongAxis (pos 0) (correlatedLine wholeOps NonSymmetric (borderOf mode) left right (now (weights .entry))) (now (shape .entry)) axis (now («data» .entry)) ⌝ }
 {
     let along = lanes::lanes_of(shape, axis);
@@ -131,11 +132,11 @@ fn correlate_columns(
     line: &mut [i64],
     out: &mut [i64],
 )
-    requires { ⌜ AxisNeeds (borderOf mode) (now shape) axis left right (now «data») (now out) × (length (now weights) ≡ left + right + 1) × Weighing (now weights) (borderOf mode) (now «data») × (length (now line) ≡ 1088) ⌝ }
+    requires { ⌜ AxisNeeds (borderOf mode) (now shape) axis left right (now «data») (now out) × (length (now weights) ≡ left + right + 1) × WeightNeeds (now weights) (borderOf mode) (now «data») × (length (now line) ≡ longestLine) ⌝ }
     ensures { λ _. ⌜ now (out .exit) ≡ alongAxis (pos 0) (correlatedLine wholeOps NonSymmetric (borderOf mode) left right (now (weights .entry))) (now (shape .entry)) axis (now («data» .entry)) ⌝ }
 {
     let n = array::len_of(shape, axis);
-    let mut swept = [0; 1024];
+    let mut swept = [0; numbers::LONGEST_AXIS];
     correlate_lanes(
         weights,
         mode,
@@ -162,10 +163,10 @@ pub(crate) fn correlate_axis(
     right: usize,
     out: &mut [i64],
 )
-    requires { ⌜ AxisNeeds (borderOf mode) (now shape) axis left right (now «data») (now out) × (length (now weights) ≡ left + right + 1) × Weighing (now weights) (borderOf mode) (now «data») ⌝ }
+    requires { ⌜ AxisNeeds (borderOf mode) (now shape) axis left right (now «data») (now out) × (length (now weights) ≡ left + right + 1) × WeightNeeds (now weights) (borderOf mode) (now «data») ⌝ }
     ensures { λ _. ⌜ now (out .exit) ≡ alongAxis (pos 0) (correlatedLine wholeOps NonSymmetric (borderOf mode) left right (now (weights .entry))) (now (shape .entry)) axis (now («data» .entry)) ⌝ }
 {
-    let mut line = [0; 1088];
+    let mut line = [0; numbers::LONGEST_LINE];
     if lanes::stride_of(shape, axis) == 1 {
         correlate_rows(
             weights,

@@ -10,7 +10,7 @@ ghost use Rattle.border.specs.Modes.{borderOf};
 ghost use Rattle.correlate_spec.specs.Correlated.{correlate1dZ, convolve1dZ};
 ghost use Rattle.correlate_judge.specs.Judge.{correlateJudged};
 ghost use Rattle.correlate1d.specs.Rows.{Correlate1dRows};
-ghost use Rattle.correlate1d.specs.Weighs.{Scales, Weighs};
+ghost use Rattle.correlate1d.specs.WeighNeeds.{ScaleNeeds, WeighNeeds};
 use border::BorderMode;
 use window::Origin;
 
@@ -21,7 +21,7 @@ pub use reversal::reverse;
 
 // Every cell times one weight.
 fn scale(data: &[i64], weight: i64, out: &mut [i64])
-    requires { ⌜ Scales (now «data») weight (now out) ⌝ }
+    requires { ⌜ ScaleNeeds (now «data») weight (now out) ⌝ }
     ensures { λ _. ⌜ now (out .exit) ≡ map (λ x. x *ℤ weight) (now («data» .entry)) ⌝ }
 {
     let n = out.len();
@@ -42,7 +42,7 @@ pub fn weigh(
     origin: isize,
     out: &mut [i64],
 )
-    requires { ⌜ Weighs (borderOf mode) (now shape) axis origin (now weights) (now «data») (now out) ⌝ }
+    requires { ⌜ WeighNeeds (borderOf mode) (now shape) axis origin (now weights) (now «data») (now out) ⌝ }
     ensures { λ _. ⌜ now (out .exit) ≡ correlate1dZ (borderOf mode) origin (now (weights .entry)) (now (shape .entry)) axis (now («data» .entry)) ⌝ }
 {
     match window::origin_check(weights.len(), origin) {
@@ -80,7 +80,7 @@ fn correlate_cells(
     weigh(data, shape, weights, axis, mode, origin, out);
 }
 
-// Fills out with the answer of an accepted convolution; turned is a buffer, as long as the weights.
+// Fills out with the answer of an accepted convolution; reversed is a buffer, as long as the weights.
 fn convolve_cells(
     data: &[i64],
     shape: &[usize],
@@ -88,19 +88,19 @@ fn convolve_cells(
     axis: usize,
     mode: BorderMode,
     origin: isize,
-    turned: &mut [i64],
+    reversed: &mut [i64],
     out: &mut [i64],
 )
-    requires { ⌜ (refusalOf (correlateJudged true (borderOf mode) origin (now weights) (now shape) axis (now «data») (length (now out))) ≡ 0) × (length (now turned) ≡ length (now weights)) ⌝ }
+    requires { ⌜ (refusalOf (correlateJudged true (borderOf mode) origin (now weights) (now shape) axis (now «data») (length (now out))) ≡ 0) × (length (now reversed) ≡ length (now weights)) ⌝ }
     ensures { λ _. ⌜ now (out .exit) ≡ convolve1dZ (borderOf mode) origin (now (weights .entry)) (now (shape .entry)) axis (now («data» .entry)) ⌝ }
 {
     if weights.len() == 1 {
         scale(data, weights[0], out);
         return;
     }
-    reversal::reverse(weights, turned);
+    reversal::reverse(weights, reversed);
     let applied = window::applied_origin(weights.len(), origin, true);
-    weigh(data, shape, turned, axis, mode, applied, out);
+    weigh(data, shape, reversed, axis, mode, applied, out);
 }
 
 // The sums of each window times the weights, along an axis. With one weight every cell is multiplied by it, and the
@@ -181,7 +181,7 @@ pub fn convolve1d(
         return refusal;
     }
     let count = weights.len();
-    let mut turned = [0; 65];
+    let mut reversed = [0; numbers::LONGEST_WINDOW];
     convolve_cells(
         data,
         shape,
@@ -189,7 +189,7 @@ pub fn convolve1d(
         axis,
         mode,
         origin,
-        &mut turned[..count],
+        &mut reversed[..count],
         out,
     );
     numbers::ACCEPTED

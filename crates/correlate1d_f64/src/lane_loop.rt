@@ -4,6 +4,7 @@ ghost use mathlib.Core.Path.{_≡_};
 ghost use Prim.Native.Nat.{_+_};
 ghost use lib.Ieee.{nan};
 ghost use lib.ListN.{length};
+ghost use Rattle.numbers.specs.Limits.{longestLine};
 ghost use Rattle.array_spec.specs.Grid.{lengthOf, strideOf};
 ghost use Rattle.lanes.specs.Lanes.{laneAt, alongAxis};
 ghost use Rattle.border.specs.Modes.{borderOfF64};
@@ -50,7 +51,7 @@ fn correlate_rows(
     line: &mut [f64],
     out: &mut [f64],
 )
-    requires { ⌜ AxisNeeds (borderOfF64 mode) (now shape) axis left right (now «data») (now out) × (length (now weights) ≡ left + right + 1) × (length (now line) ≡ 1088) × (strideOf (now shape) axis ≡ 1) ⌝ }
+    requires { ⌜ AxisNeeds (borderOfF64 mode) (now shape) axis left right (now «data») (now out) × (length (now weights) ≡ left + right + 1) × (length (now line) ≡ longestLine) × (strideOf (now shape) axis ≡ 1) ⌝ }
     ensures { λ _. ⌜ now (out .exit) ≡ alongAxis nan (correlatedLine floatOps class (borderOfF64 mode) left right (now (weights .entry))) (now (shape .entry)) axis (now («data» .entry)) ⌝ }
 {
     let along = lanes::lanes_of(shape, axis);
@@ -92,7 +93,7 @@ fn correlate_lanes(
     swept: &mut [f64],
     out: &mut [f64],
 )
-    requires { ⌜ AxisNeeds (borderOfF64 mode) (now shape) axis left right (now «data») (now out) × (length (now weights) ≡ left + right + 1) × (length (now line) ≡ 1088) × (length (now swept) ≡ lengthOf (now shape) axis) ⌝ }
+    requires { ⌜ AxisNeeds (borderOfF64 mode) (now shape) axis left right (now «data») (now out) × (length (now weights) ≡ left + right + 1) × (length (now line) ≡ longestLine) × (length (now swept) ≡ lengthOf (now shape) axis) ⌝ }
     ensures { λ _. ⌜ now (out .exit) ≡ alongAxis nan (correlatedLine floatOps class (borderOfF64 mode) left right (now (weights .entry))) (now (shape .entry)) axis (now («data» .entry)) ⌝ }
 {
     let along = lanes::lanes_of(shape, axis);
@@ -136,11 +137,11 @@ fn correlate_columns(
     line: &mut [f64],
     out: &mut [f64],
 )
-    requires { ⌜ AxisNeeds (borderOfF64 mode) (now shape) axis left right (now «data») (now out) × (length (now weights) ≡ left + right + 1) × (length (now line) ≡ 1088) ⌝ }
+    requires { ⌜ AxisNeeds (borderOfF64 mode) (now shape) axis left right (now «data») (now out) × (length (now weights) ≡ left + right + 1) × (length (now line) ≡ longestLine) ⌝ }
     ensures { λ _. ⌜ now (out .exit) ≡ alongAxis nan (correlatedLine floatOps class (borderOfF64 mode) left right (now (weights .entry))) (now (shape .entry)) axis (now («data» .entry)) ⌝ }
 {
     let n = array::len_of(shape, axis);
-    let mut swept = [0.0; 1024];
+    let mut swept = [0.0; numbers::LONGEST_AXIS];
     correlate_lanes(
         weights,
         class,
@@ -172,7 +173,7 @@ pub(crate) fn correlate_axis_f64(
     requires { ⌜ AxisNeeds (borderOfF64 mode) (now shape) axis left right (now «data») (now out) × (length (now weights) ≡ left + right + 1) ⌝ }
     ensures { λ _. ⌜ now (out .exit) ≡ alongAxis nan (correlatedLine floatOps class (borderOfF64 mode) left right (now (weights .entry))) (now (shape .entry)) axis (now («data» .entry)) ⌝ }
 {
-    let mut line = [0.0; 1088];
+    let mut line = [0.0; numbers::LONGEST_LINE];
     if lanes::stride_of(shape, axis) == 1 {
         correlate_rows(
             weights,

@@ -9,7 +9,7 @@ ghost use Rattle.numbers.specs.Refusal.{refusalOf, Answers};
 ghost use Rattle.border.specs.Modes.{borderOfF64};
 ghost use Rattle.correlate_spec.specs.Correlated.{correlate1dF, convolve1dF};
 ghost use Rattle.correlate_judge.specs.Judge.{correlateJudgedF};
-ghost use Rattle.correlate1d.specs.Weighs.{Placed};
+ghost use Rattle.correlate1d.specs.WeighNeeds.{PlaceNeeds};
 use border::BorderModeF64;
 use window::Origin;
 
@@ -38,7 +38,7 @@ fn weigh(
     origin: isize,
     out: &mut [f64],
 )
-    requires { ⌜ Placed (borderOfF64 mode) (now shape) axis origin (now weights) (now «data») (now out) ⌝ }
+    requires { ⌜ PlaceNeeds (borderOfF64 mode) (now shape) axis origin (now weights) (now «data») (now out) ⌝ }
     ensures { λ _. ⌜ now (out .exit) ≡ correlate1dF (borderOfF64 mode) origin (now (weights .entry)) (now (shape .entry)) axis (now («data» .entry)) ⌝ }
 {
     match window::origin_check(weights.len(), origin) {
@@ -58,15 +58,15 @@ fn weigh(
 }
 
 // The weights from the last to the first.
-fn reverse(weights: &[f64], turned: &mut [f64])
-    requires { ⌜ length (now turned) ≡ length (now weights) ⌝ }
-    ensures { λ _. ⌜ now (turned .exit) ≡ reverse (now (weights .entry)) ⌝ }
+fn reverse(weights: &[f64], reversed: &mut [f64])
+    requires { ⌜ length (now reversed) ≡ length (now weights) ⌝ }
+    ensures { λ _. ⌜ now (reversed .exit) ≡ reverse (now (weights .entry)) ⌝ }
 {
-    let n = turned.len();
+    let n = reversed.len();
     let mut i = 0;
     while i < n {
         let v = weights[n - 1 - i];
-        turned[i] = v;
+        reversed[i] = v;
         i += 1;
     }
 }
@@ -91,7 +91,7 @@ fn correlate_cells(
     weigh(data, shape, weights, axis, mode, origin, out);
 }
 
-// Fills out with the answer of an accepted convolution; turned is a buffer, as long as the weights.
+// Fills out with the answer of an accepted convolution; reversed is a buffer, as long as the weights.
 fn convolve_cells(
     data: &[f64],
     shape: &[usize],
@@ -99,19 +99,19 @@ fn convolve_cells(
     axis: usize,
     mode: BorderModeF64,
     origin: isize,
-    turned: &mut [f64],
+    reversed: &mut [f64],
     out: &mut [f64],
 )
-    requires { ⌜ (refusalOf (correlateJudgedF true (borderOfF64 mode) origin (now weights) (now shape) axis (now «data») (length (now out))) ≡ 0) × (length (now turned) ≡ length (now weights)) ⌝ }
+    requires { ⌜ (refusalOf (correlateJudgedF true (borderOfF64 mode) origin (now weights) (now shape) axis (now «data») (length (now out))) ≡ 0) × (length (now reversed) ≡ length (now weights)) ⌝ }
     ensures { λ _. ⌜ now (out .exit) ≡ convolve1dF (borderOfF64 mode) origin (now (weights .entry)) (now (shape .entry)) axis (now («data» .entry)) ⌝ }
 {
     if weights.len() == 1 {
         scale(data, weights[0], out);
         return;
     }
-    reverse(weights, turned);
+    reverse(weights, reversed);
     let applied = window::applied_origin(weights.len(), origin, true);
-    weigh(data, shape, turned, axis, mode, applied, out);
+    weigh(data, shape, reversed, axis, mode, applied, out);
 }
 
 // The sums of each window times the weights, along an axis, each operation rounded in the order that the class of the weights names. With one weight every cell is multiplied by it, and the origin is not read.
@@ -192,7 +192,7 @@ pub fn convolve1d_f64(
         return refusal;
     }
     let count = weights.len();
-    let mut turned = [0.0; 65];
+    let mut reversed = [0.0; numbers::LONGEST_WINDOW];
     convolve_cells(
         data,
         shape,
@@ -200,7 +200,7 @@ pub fn convolve1d_f64(
         axis,
         mode,
         origin,
-        &mut turned[..count],
+        &mut reversed[..count],
         out,
     );
     numbers::ACCEPTED

@@ -16,13 +16,13 @@ use Rattle.array_spec.specs.Grid.{cellCount, lengthOf}
 use Rattle.array_spec.proofs.Places.{length-pos}
 use Rattle.array_spec.proofs.Shapes.{Accepted, shape-accepted}
 use Rattle.border.specs.Border.{Border, constant, along}
-use Rattle.border.specs.declared.Along.the-variants.{Nearest, Mirror, Reflect, Wrap}
+use Rattle.border.specs.declared.CellBorder.the-variants.{Nearest, Mirror, Reflect, Wrap}
 use Rattle.border.specs.Reach.{badPad}
 use Rattle.correlate_spec.specs.Kernel.{sidesOf, kernelSum, kernelAnswer}
 use Rattle.correlate_grid.specs.declared.axes.Axes.{Axes}
 use Rattle.correlate_grid.specs.declared.axes.Axis.{Axis}
 use Rattle.correlate_grid.specs.Kernel.{Kernelled}
-use Rattle.correlate_grid.specs.Axes.{axisFrom, axesOf, Serves, Laid}
+use Rattle.correlate_grid.specs.Axes.{axisFrom, axesOf, Serves, KernelNeeds}
 use Rattle.correlate_grid.proofs.EveryRow.{sumAt}
 use Rattle.correlate_grid.proofs.ThreeAxes.{sumBy, count-three, sum-three, lifted, sum-lifted}
 
@@ -72,7 +72,7 @@ module _ {b : Border ℤ} {ns : List ℕ} {side left right : ℕ} {w cells out :
       two : (m c : ℕ) → m * (c * 1) ≡ 1 * m * c
       two m c = sym (one-mul (m * (c * 1))) ∙ count-three 1 m c
 
-  laid : Laid b (axis 2) (axis 1) (axis 0) w cells
+  laid : KernelNeeds b (axis 2) (axis 1) (axis 0) w cells
   laid = record {
     planes = serves 2;
     rows = serves 1;
@@ -85,14 +85,14 @@ module _ {b : Border ℤ} {ns : List ℕ} {side left right : ℕ} {w cells out :
     levels = K .levels;
   }
 
-  pub laid-on : {x : Axes} → x ≡ axesOf ns side left right → Laid b (x .planes) (x .rows) (x .cells) w cells
-  laid-on e = subst (λ (x : Axes). Laid b (x .planes) (x .rows) (x .cells) w cells) (sym e) laid
+  pub laid-on : {x : Axes} → x ≡ axesOf ns side left right → KernelNeeds b (x .planes) (x .rows) (x .cells) w cells
+  laid-on e = subst (λ (x : Axes). KernelNeeds b (x .planes) (x .rows) (x .cells) w cells) (sym e) laid
 
   -- ---- the sums
   module _ (k : ℕ) where
     abbrev Sums : List ℕ → Type 0
     Sums ms =
-        Laid b (axisFrom ms 2 side left right) (axisFrom ms 1 side left right) (axisFrom ms 0 side left right) w cells → length w ≡ cellCount (sidesOf ms side) → k < cellCount ms
+        KernelNeeds b (axisFrom ms 2 side left right) (axisFrom ms 1 side left right) (axisFrom ms 0 side left right) w cells → length w ≡ cellCount (sidesOf ms side) → k < cellCount ms
         → k < axisFrom ms 2 side left right .len * axisFrom ms 1 side left right .len * axisFrom ms 0 side left right .len
         → sumBy b (λ a. left) (sidesOf ms side) w ms cells k ≡ sumAt b (axisFrom ms 2 side left right) (axisFrom ms 1 side left right) (axisFrom ms 0 side left right) w cells k
 

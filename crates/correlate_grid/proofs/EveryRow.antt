@@ -21,7 +21,7 @@ use Rattle.lanes.proofs.Part.{onRow, row-yes, row-no, part-put}
 use Rattle.border.specs.Border.{Border}
 use Rattle.correlate_spec.specs.Weighed.{summed}
 use Rattle.correlate_grid.specs.declared.axes.Axis.{Axis}
-use Rattle.correlate_grid.specs.Axes.{Laid}
+use Rattle.correlate_grid.specs.Axes.{KernelNeeds}
 use Rattle.correlate_grid.specs.ByRows.{rowsTo, Summing}
 
 -- ---- the first m kernel rows are summed
@@ -54,7 +54,7 @@ pub record Storing (b : Border ℤ) (x y z : Axis) (w cells : List ℤ) (r : ℕ
   pub kept : length out ≡ length cells
   pub sums : (k : ℕ) → k < r * z .len → getD out k (pos 0) ≡ sumAt b x y z w cells k
 
-module _ {b : Border ℤ} {x y z : Axis} {w cells : List ℤ} (L : Laid b x y z w cells) where
+module _ {b : Border ℤ} {x y z : Axis} {w cells : List ℤ} (L : KernelNeeds b x y z w cells) where
   pub storing-none : {line out : List ℤ} → length line ≡ z .left + z .len + z .right → length out ≡ length cells → Storing b x y z w cells 0 line out
   storing-none l o = record { below = omega arith; line-long = l; kept = o; sums = λ k h. absurd (omega arith) }
 

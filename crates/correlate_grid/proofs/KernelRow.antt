@@ -18,7 +18,7 @@ use Rattle.correlate_spec.specs.Weighed.{summed}
 use Rattle.correlate_spec.proofs.Summed.{summed-agree}
 use Rattle.correlate_line.specs.Added.{addedTo, Addable}
 use Rattle.correlate_grid.specs.declared.axes.Axis.{Axis}
-use Rattle.correlate_grid.specs.Axes.{Laid}
+use Rattle.correlate_grid.specs.Axes.{KernelNeeds}
 use Rattle.correlate_grid.specs.ByRows.{rowLine, lineSum, Reading}
 use Rattle.correlate_grid.proofs.RowLine.{row-weighable}
 
@@ -37,7 +37,7 @@ any-take t (x ∷ s) (suc k) e = let p = or-false (t x) (anyOf t s) e in or-no (
 pub side-few : (a : Axis) → a .side ≤ a .left + a .right + 1 → a .left + a .right ≤ 7 → a .side ≤ 8
 side-few a h l = omega arith
 
-module _ {b : Border ℤ} {x y z : Axis} {w cells : List ℤ} (L : Laid b x y z w cells) where
+module _ {b : Border ℤ} {x y z : Axis} {w cells : List ℤ} (L : KernelNeeds b x y z w cells) where
   pub rows-few : x .len * y .len ≤ 8192
   rows-few = omega (arith, mul-le-mul (le-refl (x .len * y .len)) (L .row .some), L .count, L .small)
 

@@ -19,18 +19,18 @@ use Rattle.lanes.specs.Lanes.{lane, laneBase, laneAt}
 use Rattle.lanes.proofs.Cells.{length-laneAt, base-neighbours}
 use Rattle.border.specs.Border.{Border, constant, along, cellFor, inside, allInside, extendedLane, extendedGrid}
 use Rattle.border.specs.Modes.{badConstantBy}
-use Rattle.pad_line.specs.Line.{paddedAt, paddedLine, Padding}
+use Rattle.pad_line.specs.Line.{paddedAt, paddedLine, PadNeeds}
 use Rattle.pad_line.proofs.Padded.{length-padded, getD-padded}
 use Rattle.pad_line.proofs.EveryPadded.{any-table, any-padded}
 use Rattle.correlate_grid.specs.declared.axes.Axis.{Axis}
-use Rattle.correlate_grid.specs.Axes.{Serves, sourceFor, Laid}
+use Rattle.correlate_grid.specs.Axes.{Serves, sourceFor, KernelNeeds}
 use Rattle.correlate_grid.specs.ByRows.{three, rowFor, constantOf, rowLine}
 use Rattle.correlate_grid.proofs.Lines.{lane-row}
 use Rattle.correlate_grid.proofs.Sources.{ReadsIn}
 use Rattle.numbers.specs.Ranges.{outsideZ}
 use Rattle.numbers.proofs.Size.{size-le, size-inside, inside-sized}
 use Rattle.array_spec.specs.Conditions.{badLevel}
-use Rattle.correlate_spec.specs.Sizes.{Weighable}
+use Rattle.correlate_spec.specs.Sizes.{LineSumNeeds}
 
 module _ (b : Border ℤ) (z : Axis) (none row : ℕ) (cells : List ℤ) where
   abbrev total : ℕ
@@ -58,7 +58,7 @@ module _ (b : Border ℤ) (z : Axis) (none row : ℕ) (cells : List ℤ) where
   loaded-none line h k q e = e ∙ (λ j. replicate (k j) (q j)) ∙ sym (line-none h)
 
   -- what padding the row supposes
-  pub row-padding : (line : List ℤ) → Serves b z → row * z .len + z .len ≤ length cells → length line ≡ z .left + z .len + z .right → Padding b (z .len) 1 (row * z .len) (z .left) (z .right) cells line
+  pub row-padding : (line : List ℤ) → Serves b z → row * z .len + z .len ≤ length cells → length line ≡ z .left + z .len + z .right → PadNeeds b (z .len) 1 (row * z .len) (z .left) (z .right) cells line
   row-padding line S i k = record { some = S .some; inside = omega (arith, S .some, mul-one (z .len)); fits = omega arith; fills-left = S .fills-left; fills-right = S .fills-right }
 
   pub loaded-some : (line : List ℤ) {new : List ℤ} → (row ≡ none → ⊥) → length line ≡ z .left + z .len + z .right
@@ -161,8 +161,8 @@ constant-wide (constant c) e = level-wide c e
 constant-wide (along m) e = refl
 
 -- a padded row and the weights v of a kernel row
-pub row-weighable : {b : Border ℤ} {x y z : Axis} {w cells : List ℤ} → Laid b x y z w cells → (none row : ℕ) (v s : List ℤ) (n : ℕ) → length v ≡ z .side
-    → anyOf (outsideZ (negℤ (pos 65535)) (pos 65535)) v ≡ false → s ≡ rowLine b z none row cells → n ≡ z .len → Weighable v s n
+pub row-weighable : {b : Border ℤ} {x y z : Axis} {w cells : List ℤ} → KernelNeeds b x y z w cells → (none row : ℕ) (v s : List ℤ) (n : ℕ) → length v ≡ z .side
+    → anyOf (outsideZ (negℤ (pos 65535)) (pos 65535)) v ≡ false → s ≡ rowLine b z none row cells → n ≡ z .len → LineSumNeeds v s n
 row-weighable {b} {x} {y} {z} {w} {cells} L none row v s n many small e k =
     let S = L .row in
     let l : length s ≡ z .left + z .len + z .right = ap length e ∙ length-line b z none row cells in record {

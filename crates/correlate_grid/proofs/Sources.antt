@@ -16,7 +16,7 @@ use Rattle.numbers.proofs.Tabulate.{length-tabulate, getD-tabulate}
 use Rattle.lanes.specs.Lanes.{lane, laneBase}
 use Rattle.lanes.proofs.Cells.{length-laneAt}
 use Rattle.border.specs.Border.{Border, constant, along, cellAfter, cellFor, inside, extendedLane}
-use Rattle.border.specs.declared.Along.{Along}
+use Rattle.border.specs.declared.CellBorder.{CellBorder}
 use Rattle.pad_line.specs.Line.{paddedAt, paddedLane}
 use Rattle.border.specs.Reach.{badAlong, badPad}
 use Rattle.pad_line.proofs.Reach.{cell-before-in, cell-after-in}
@@ -30,7 +30,7 @@ abbrev pub ReadsIn : Border ℤ → ℕ → ℤ → Type 0
 ReadsIn (constant c) n z = Unit {0}
 ReadsIn (along m) n z = cellFor m n z < n
 
-module _ (m : Along) (n left right : ℕ) (some : 0 < n) (fl : badAlong m n left ≡ false) (fr : badAlong m n right ≡ false) (k : ℕ) (h : k < left + n + right) where
+module _ (m : CellBorder) (n left right : ℕ) (some : 0 < n) (fl : badAlong m n left ≡ false) (fr : badAlong m n right ≡ false) (k : ℕ) (h : k < left + n + right) where
   before-cell : k < left → cellFor m n (negsuc (left - suc k)) < n
   unfolding cellFor
   before-cell b = cell-before-in m n left (left - suc k + 1) some (omega arith) (omega arith) fl refl

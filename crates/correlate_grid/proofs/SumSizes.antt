@@ -17,7 +17,7 @@ use Rattle.correlate_spec.proofs.Sizes.{size-summed}
 use Rattle.correlate_spec.proofs.KernelSizes.{term-sized}
 use Rattle.pad_line.proofs.EveryPadded.{any-table}
 use Rattle.correlate_grid.specs.declared.axes.Axis.{Axis}
-use Rattle.correlate_grid.specs.Axes.{Laid}
+use Rattle.correlate_grid.specs.Axes.{KernelNeeds}
 use Rattle.correlate_grid.specs.ByRows.{rowSum, rowsTo}
 use Rattle.correlate_grid.proofs.KernelRow.{side-few, kernel-few}
 
@@ -25,7 +25,7 @@ use Rattle.correlate_grid.proofs.KernelRow.{side-few, kernel-few}
 abbrev term : ℕ
 term = (2 ^ 31 - 1) * 65535
 
-module _ {b : Border ℤ} {x y z : Axis} {w cells : List ℤ} (L : Laid b x y z w cells) (r : ℕ) where
+module _ {b : Border ℤ} {x y z : Axis} {w cells : List ℤ} (L : KernelNeeds b x y z w cells) (r : ℕ) where
   row-size : (q i : ℕ) → Size (rowSum b x y z w cells r q i) (z .side * term)
   unfolding rowSum
   row-size q i =

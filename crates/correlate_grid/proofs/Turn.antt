@@ -15,7 +15,7 @@ use Rattle.border.specs.Border.{Border, extendedGrid}
 use Rattle.correlate_spec.proofs.Summed.{summed-agree, summed-more}
 use Rattle.correlate_spec.proofs.Computed.{read, computed-level, computed-read}
 use Rattle.correlate_grid.specs.declared.axes.Axis.{Axis}
-use Rattle.correlate_grid.specs.Axes.{readAt, sourceFor, Laid}
+use Rattle.correlate_grid.specs.Axes.{readAt, sourceFor, KernelNeeds}
 use Rattle.correlate_grid.specs.ByRows.{three, rowFor, rowLine, lineSum, rowSum, rowsTo, Mapped, Summing, Reading}
 use Rattle.correlate_grid.proofs.RowLine.{row-level}
 use Rattle.correlate_grid.proofs.Sources.{Known, ReadsIn, reads-in, read-place, read-in, table-is, table-known, table-small}
@@ -31,7 +31,7 @@ small-read k h = let l : Size k 1024 = record { size = h } in computed-read (com
 
 module _ {b : Border ℤ} {x y z : Axis} {w cells first second : List ℤ} (M : Mapped b x y z w cells first second) {p s i j : ℕ}
     (hp : p < x .len) (hs : s < y .len) (hi : i < x .side) (hj : j < y .side) where
-  L : Laid b x y z w cells
+  L : KernelNeeds b x y z w cells
   L = M .laid
 
   abbrev r : ℕ

@@ -6,16 +6,17 @@
 --   sourceFor b n z      the cell that coordinate z reads on an axis of n cells; −1 for none, where the constant stands
 --   numbered b           the border under which the numbers 0 .. n − 1 are padded to their sources
 --   Found b x t          the table t has the source of every place of axis x; it starts left places before cell 0
---   Laid b x y z w cells the cells are a grid of these axes and w its kernel, levels and weights within their limits
+--   KernelNeeds b x y z w cells the cells are a grid of these axes and w its kernel, levels and weights within their limits
 use Prim.Native.Nat.{ℕ, _+_, _-_, _*_, _≤_, _<_}
 use mathlib.Core.Path.{_≡_}
 use mathlib.Core.Bool.{false, cond}
 use mathlib.Core.List.{List}
 use lib.Dec.{leb}
-use lib.IntN.{ℤ, pos, negsuc, negℤ, _+ℤ_, _-ℤ_}
+use lib.IntN.{ℤ, pos, negsuc, _+ℤ_, _-ℤ_}
 use lib.ListN.{length, getD}
+use Rattle.numbers.specs.Limits.{largestWeight, longestAxis, longestLine, mostCells}
 use Rattle.numbers.specs.Lists.{anyOf}
-use Rattle.numbers.specs.Ranges.{outsideZ}
+use Rattle.numbers.specs.Ranges.{over}
 use Rattle.array_spec.specs.Conditions.{badLevel}
 use Rattle.array_spec.specs.Grid.{lengthOf}
 use Rattle.border.specs.Border.{Border, constant, along, inside, cellFor}
@@ -34,7 +35,7 @@ axesOf ns side left right = record { planes = axisFrom ns 2 side left right; row
 
 pub record Serves (b : Border ℤ) (x : Axis) : Type 0 where
   pub some : 0 < x .len
-  pub short : x .len ≤ 1024
+  pub short : x .len ≤ longestAxis
   pub some-side : 0 < x .side
   pub wide : x .side ≤ x .left + x .right + 1
   pub pads : x .left + x .right ≤ 7
@@ -53,16 +54,16 @@ numbered (constant c) = constant (negsuc 0)
 numbered (along m) = along m
 
 pub record Found (b : Border ℤ) (x : Axis) (t : List ℤ) : Type 0 where
-  pub long : length t ≡ 1088
+  pub long : length t ≡ longestLine
   pub at : (k : ℕ) → k < x .left + x .len + x .right → getD t k (pos 0) ≡ sourceFor b (x .len) (pos k -ℤ pos (x .left))
 
-pub record Laid (b : Border ℤ) (x y z : Axis) (w cells : List ℤ) : Type 0 where
+pub record KernelNeeds (b : Border ℤ) (x y z : Axis) (w cells : List ℤ) : Type 0 where
   pub planes : Serves b x
   pub rows : Serves b y
   pub row : Serves b z
   pub count : length cells ≡ x .len * y .len * z .len
-  pub small : length cells ≤ 8192
+  pub small : length cells ≤ mostCells
   pub many : length w ≡ x .side * y .side * z .side
-  pub weights : anyOf (outsideZ (negℤ (pos 65535)) (pos 65535)) w ≡ false
+  pub weights : anyOf (over largestWeight) w ≡ false
   pub level : badConstantBy badLevel b ≡ false
   pub levels : anyOf badLevel cells ≡ false

@@ -24,7 +24,7 @@ use Rattle.border.specs.Border.{Border, constant, along, extendedGrid}
 use Rattle.pad_line.specs.Line.{paddedLine}
 use Rattle.correlate_spec.specs.Weighed.{summed}
 use Rattle.correlate_grid.specs.declared.axes.Axis.{Axis}
-use Rattle.correlate_grid.specs.Axes.{readAt, Found, Laid}
+use Rattle.correlate_grid.specs.Axes.{readAt, Found, KernelNeeds}
 
 abbrev pub three : ℤ → ℤ → ℤ → ℕ → ℤ
 three u v w zero = u
@@ -59,7 +59,7 @@ unfoldable pub rowsTo : Border ℤ → Axis → Axis → Axis → List ℤ → L
 rowsTo b x y z w cells r m i = summed _+ℤ_ (pos 0) (λ q. rowSum b x y z w cells r q i) m
 
 pub record Mapped (b : Border ℤ) (x y z : Axis) (w cells first second : List ℤ) : Type 0 where
-  pub laid : Laid b x y z w cells
+  pub laid : KernelNeeds b x y z w cells
   pub planes : Found b x first
   pub rows : Found b y second
 

@@ -5,10 +5,11 @@ use Prim.Native.Nat.{ℕ, _+_, _≤_, _<_}
 use mathlib.Core.Path.{_≡_}
 use mathlib.Core.Bool.{false}
 use mathlib.Core.List.{List}
-use lib.IntN.{ℤ, pos, negℤ}
+use lib.IntN.{ℤ, pos}
 use lib.ListN.{length}
+use Rattle.numbers.specs.Limits.{largestWeight}
 use Rattle.numbers.specs.Lists.{anyOf}
-use Rattle.numbers.specs.Ranges.{outsideZ}
+use Rattle.numbers.specs.Ranges.{over}
 use Rattle.array_spec.specs.Conditions.{badShape, badLevel}
 use Rattle.array_spec.specs.Grid.{cellCount, lengthOf}
 use Rattle.border.specs.Border.{Border}
@@ -27,6 +28,6 @@ pub record Kernelled (b : Border ℤ) (ns : List ℕ) (side left right : ℕ) (w
   pub pads : left + right ≤ 7
   pub fills-left : (a : ℕ) → a < length ns → badPad b (lengthOf ns a) left ≡ false
   pub fills-right : (a : ℕ) → a < length ns → badPad b (lengthOf ns a) right ≡ false
-  pub weights : anyOf (outsideZ (negℤ (pos 65535)) (pos 65535)) w ≡ false
+  pub weights : anyOf (over largestWeight) w ≡ false
   pub level : badConstantBy badLevel b ≡ false
   pub levels : anyOf badLevel cells ≡ false

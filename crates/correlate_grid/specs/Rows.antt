@@ -9,7 +9,7 @@ use lib.IntN.{ℤ, pos, _-ℤ_}
 use Rattle.numbers.specs.Lists.{tabulate}
 use Rattle.numbers.specs.Rows.{wholes, minus}
 use Rattle.border.specs.Border.{Border, constant, along}
-use Rattle.border.specs.declared.Along.the-variants.{Nearest, Mirror}
+use Rattle.border.specs.declared.CellBorder.the-variants.{Nearest, Mirror}
 use Rattle.correlate_grid.specs.Axes.{axisFrom, sourceFor}
 use Rattle.correlate_grid.specs.ByRows.{rowsTo}
 

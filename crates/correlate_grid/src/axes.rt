@@ -3,6 +3,7 @@ ghost use mathlib.Core.Path.{_≡_};
 ghost use Prim.Native.Nat.{_≤_};
 ghost use lib.IntN.{pos};
 ghost use lib.ListN.{length};
+ghost use Rattle.numbers.specs.Limits.{longestAxis, longestLine};
 ghost use Rattle.numbers.specs.Lists.{tabulate};
 ghost use Rattle.border.specs.Modes.{borderOf};
 ghost use Rattle.correlate_grid.specs.Axes.{axisFrom, axesOf, Serves, numbered, Found};
@@ -74,7 +75,7 @@ fn numbering(mode: BorderMode) -> BorderMode
 
 // Sets the cells to 0, 1, 2, ..
 fn count_up(out: &mut [i64])
-    requires { ⌜ length (now out) ≤ 1024 ⌝ }
+    requires { ⌜ length (now out) ≤ longestAxis ⌝ }
     ensures { λ _. ⌜ now (out .exit) ≡ tabulate pos 0 (length (now (out .entry))) ⌝ }
 {
     let n = out.len();
@@ -88,10 +89,10 @@ fn count_up(out: &mut [i64])
 
 // Sets the table's places to the sources of the axis, by padding the numbers of its cells.
 pub(crate) fn find_sources(mode: BorderMode, axis: Axis, table: &mut [i64])
-    requires { ⌜ Serves (borderOf mode) axis × (length (now table) ≡ 1088) ⌝ }
+    requires { ⌜ Serves (borderOf mode) axis × (length (now table) ≡ longestLine) ⌝ }
     ensures { λ _. ⌜ Found (borderOf mode) axis (now (table .exit)) ⌝ }
 {
-    let mut numbers = [0; 1024];
+    let mut numbers = [0; numbers::LONGEST_AXIS];
     count_up(&mut numbers);
     pad_line::pad_lane(
         &numbers,

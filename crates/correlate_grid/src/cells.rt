@@ -4,7 +4,7 @@ ghost use Prim.Native.Nat.{_+_, _*_, _/_, _%_, _<_};
 ghost use lib.ListN.{length};
 ghost use Rattle.numbers.specs.Lists.{tabulate};
 ghost use Rattle.border.specs.Modes.{borderOf};
-ghost use Rattle.correlate_grid.specs.Axes.{Laid};
+ghost use Rattle.correlate_grid.specs.Axes.{KernelNeeds};
 ghost use Rattle.correlate_grid.specs.ByRows.{Mapped, rowsTo, Summing};
 use crate::axes::Axes;
 use crate::axes::find_sources;
@@ -112,16 +112,16 @@ pub(crate) fn correlate_three(
     axes: Axes,
     out: &mut [i64],
 )
-    requires { ⌜ Laid (borderOf mode) (axes .planes) (axes .rows) (axes .cells) (now weights) (now «data») × (length (now out) ≡ length (now «data»)) ⌝ }
+    requires { ⌜ KernelNeeds (borderOf mode) (axes .planes) (axes .rows) (axes .cells) (now weights) (now «data») × (length (now out) ≡ length (now «data»)) ⌝ }
     ensures { λ _. ⌜ now (out .exit) ≡ tabulate (λ k. rowsTo (borderOf mode) (axes .planes) (axes .rows) (axes .cells) (now (weights .entry)) (now («data» .entry)) (k / axes .cells .len) (axes .planes .side * axes .rows .side) (k % axes .cells .len)) 0 (length (now («data» .entry))) ⌝ }
 {
     let planes = axes.planes;
-    let mut first = [0; 1088];
+    let mut first = [0; numbers::LONGEST_LINE];
     find_sources(mode, planes, &mut first);
     let rows = axes.rows;
-    let mut second = [0; 1088];
+    let mut second = [0; numbers::LONGEST_LINE];
     find_sources(mode, rows, &mut second);
-    let mut line = [0; 1088];
+    let mut line = [0; numbers::LONGEST_LINE];
     let total = axes.cells.left + axes.cells.len + axes.cells.right;
     correlate_rows(
         data,

@@ -3,9 +3,10 @@ ghost use mathlib.Core.Path.{_≡_};
 ghost use Prim.Native.Nat.{_+_, _*_, _≤_};
 ghost use lib.IntN.{pos, natAbs, _+ℤ_};
 ghost use lib.ListN.{length, getD};
+ghost use Rattle.numbers.specs.Limits.{longestAxis, mostCells};
 ghost use Rattle.numbers.specs.Lists.{tabulate};
 ghost use Rattle.border.specs.Modes.{borderOf};
-ghost use Rattle.correlate_grid.specs.Axes.{Serves, Laid};
+ghost use Rattle.correlate_grid.specs.Axes.{Serves, KernelNeeds};
 ghost use Rattle.correlate_grid.specs.ByRows.{rowFor, constantOf, rowLine, lineSum, Reading};
 use crate::axes::Axes;
 use crate::axes::Axis;
@@ -13,7 +14,7 @@ use border::BorderMode;
 
 // The row of two sources, with `per` rows in a plane; `none` where one of them is −1.
 pub(crate) fn row_for(i: i64, j: i64, per: usize, none: usize) -> usize
-    requires { ⌜ (natAbs i ≤ 1024) × (natAbs j ≤ 1024) × (per ≤ 1024) ⌝ }
+    requires { ⌜ (natAbs i ≤ longestAxis) × (natAbs j ≤ longestAxis) × (per ≤ longestAxis) ⌝ }
     ensures { λ r. ⌜ r ≡ rowFor i j per none ⌝ }
 {
     if i < 0 {
@@ -42,7 +43,7 @@ fn constant_of(mode: BorderMode) -> i64
 
 // Sets the line to the padded row, or to the constant where there is no row.
 fn load_row(data: &[i64], mode: BorderMode, axis: Axis, none: usize, row: usize, line: &mut [i64])
-    requires { ⌜ Serves (borderOf mode) axis × (length (now «data») ≤ 8192) × ((row ≡ none → ⊥) → row * axis .len + axis .len ≤ length (now «data»)) × (length (now line) ≡ axis .left + axis .len + axis .right) ⌝ }
+    requires { ⌜ Serves (borderOf mode) axis × (length (now «data») ≤ mostCells) × ((row ≡ none → ⊥) → row * axis .len + axis .len ≤ length (now «data»)) × (length (now line) ≡ axis .left + axis .len + axis .right) ⌝ }
     ensures { λ _. ⌜ now (line .exit) ≡ rowLine (borderOf mode) axis none row (now («data» .entry)) ⌝ }
 {
     if row == none {
@@ -64,7 +65,7 @@ pub(crate) fn add_kernel_row(
     line: &mut [i64],
     out: &mut [i64],
 )
-    requires { ⌜ Laid (borderOf mode) (axes .planes) (axes .rows) (axes .cells) (now weights) (now «data») × Reading (axes .planes) (axes .rows) (axes .cells) row q (now line) (now out) ⌝ }
+    requires { ⌜ KernelNeeds (borderOf mode) (axes .planes) (axes .rows) (axes .cells) (now weights) (now «data») × Reading (axes .planes) (axes .rows) (axes .cells) row q (now line) (now out) ⌝ }
     ensures { λ _. ⌜ now (out .exit) ≡ tabulate (λ i. getD (now (out .entry)) i (pos 0) +ℤ lineSum (borderOf mode) (axes .planes) (axes .rows) (axes .cells) (now (weights .entry)) (now («data» .entry)) row q i) 0 (axes .cells .len) ⌝ }
 {
     let cells = axes.cells;

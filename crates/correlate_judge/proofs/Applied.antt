@@ -9,10 +9,10 @@ use Rattle.numbers.specs.Lists.{anyOf}
 use Rattle.numbers.proofs.Any.{any-none, none-any, every-reverse}
 use Rattle.correlate_judge.specs.Judge.{appliedWeights}
 
-pub applied-length : {A : Type 0} (turned : Bool) (w : List A) → length (appliedWeights turned w) ≡ length w
+pub applied-length : {A : Type 0} (convolution : Bool) (w : List A) → length (appliedWeights convolution w) ≡ length w
 applied-length true w = length-reverse w
 applied-length false w = refl
 
-pub applied-weights : {A : Type 0} (heavy : A → Bool) (turned : Bool) (w : List A) → anyOf heavy w ≡ false → anyOf heavy (appliedWeights turned w) ≡ false
+pub applied-weights : {A : Type 0} (heavy : A → Bool) (convolution : Bool) (w : List A) → anyOf heavy w ≡ false → anyOf heavy (appliedWeights convolution w) ≡ false
 applied-weights heavy true w e = none-any heavy (reverse w) (every-reverse _ w (any-none heavy w e))
 applied-weights heavy false w e = e

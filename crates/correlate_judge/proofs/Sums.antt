@@ -21,7 +21,7 @@ use Rattle.border.specs.Modes.{badConstantBy}
 use Rattle.pad_line.proofs.Sizes.{SizedBorder, constant-sized}
 use Rattle.correlate_spec.specs.Correlated.{correlate1dZ}
 use Rattle.correlate_spec.proofs.Bounds.{answer-sized, within-sized}
-use Rattle.correlate_judge.specs.Judge.{badWeight, appliedWeights, badSums}
+use Rattle.correlate_judge.specs.Judge.{badWeight, appliedWeights, badCorrelateSums}
 use Rattle.correlate_judge.proofs.Applied.{applied-length, applied-weights}
 
 -- the greatest size of a level and of a weight
@@ -44,8 +44,8 @@ count-short : (n : ℕ) → outside 1 65 n ≡ false → n ≤ 65
 count-short n e = ltb-false 65 n (or-false (ltb n 1) (ltb 65 n) e .1)
 
 -- condition 12 never holds
-pub no-bad-sums : (turned : Bool) (b : Border ℤ) (o : ℤ) (w : List ℤ) (ns : List ℕ) (a : ℕ) (cells : List ℤ) → anyOf badLevel cells ≡ false
-    → outside 1 65 (length w) ≡ false → anyOf badWeight w ≡ false → badConstantBy badLevel b ≡ false → badSums turned b o w ns a cells ≡ false
-no-bad-sums turned b o w ns a cells l n k c =
-    within b (appliedWeights turned w) (omega (arith, applied-length turned w, count-short (length w) n)) (constant-sized b c) (weights-sized (appliedWeights turned w) (applied-weights badWeight turned w k)) _ ns a cells
+pub no-bad-sums : (convolution : Bool) (b : Border ℤ) (o : ℤ) (w : List ℤ) (ns : List ℕ) (a : ℕ) (cells : List ℤ) → anyOf badLevel cells ≡ false
+    → outside 1 65 (length w) ≡ false → anyOf badWeight w ≡ false → badConstantBy badLevel b ≡ false → badCorrelateSums convolution b o w ns a cells ≡ false
+no-bad-sums convolution b o w ns a cells l n k c =
+    within b (appliedWeights convolution w) (omega (arith, applied-length convolution w, count-short (length w) n)) (constant-sized b c) (weights-sized (appliedWeights convolution w) (applied-weights badWeight convolution w k)) _ ns a cells
     (levels-sized cells l)

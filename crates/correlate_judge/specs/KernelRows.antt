@@ -1,7 +1,7 @@
 -- Worked rows of this crate's definitions: each number at its limits. Each holds by computing.
---   plane b o sides w turned   the number of a call on the rows 1 2 / 3 4
+--   plane b o sides w convolution   the number of a call on the rows 1 2 / 3 4
 --   ones n                     n weights of 1
---   lane b o side n turned     the number of a call on n cells of one axis, with a kernel of side ones
+--   lane b o side n convolution     the number of a call on n cells of one axis, with a kernel of side ones
 --   KernelRows            the rows
 use Prim.Native.Nat.{ℕ, _-_, _^_}
 use mathlib.Core.Path.{_≡_}
@@ -12,18 +12,18 @@ use lib.ListN.{replicate}
 use Rattle.numbers.specs.Refusal.{refusalOf}
 use Rattle.numbers.specs.Rows.{minus, wholes}
 use Rattle.border.specs.Border.{Border, constant, along}
-use Rattle.border.specs.declared.Along.the-variants.{Nearest, Mirror, Reflect, Wrap}
+use Rattle.border.specs.declared.CellBorder.the-variants.{Nearest, Mirror, Reflect, Wrap}
 use Rattle.correlate_judge.specs.WeightRows.{both}
 use Rattle.correlate_judge.specs.KernelJudge.{badKernel, badKernelSums, kernelJudged}
 
 abbrev pub plane : Border ℤ → ℤ → List ℕ → List ℤ → Bool → ℕ
-plane b o sides w turned = refusalOf (kernelJudged turned b o sides w (2 ∷ 2 ∷ []) (wholes (1 ∷ 2 ∷ 3 ∷ 4 ∷ [])) 4)
+plane b o sides w convolution = refusalOf (kernelJudged convolution b o sides w (2 ∷ 2 ∷ []) (wholes (1 ∷ 2 ∷ 3 ∷ 4 ∷ [])) 4)
 
 abbrev pub ones : ℕ → List ℤ
 ones n = replicate n (pos 1)
 
 abbrev pub lane : Border ℤ → ℤ → ℕ → ℕ → Bool → ℕ
-lane b o side n turned = refusalOf (kernelJudged turned b o (side ∷ []) (ones side) (n ∷ []) (ones n) n)
+lane b o side n convolution = refusalOf (kernelJudged convolution b o (side ∷ []) (ones side) (n ∷ []) (ones n) n)
 
 pub record KernelRows : Type 0 where
   -- 5: unequal sides; a side of 0, 7, 8 and 2^64 − 1; one axis and three on a grid of two; none at all; too few weights and too many

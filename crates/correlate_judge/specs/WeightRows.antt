@@ -1,9 +1,9 @@
 -- Worked rows of this crate's definitions: each number at its limits, whole and float. Each holds by computing.
---   three b o w a turned    the number of a call on the cells 1 2 3, whole
+--   three b o w a convolution    the number of a call on the cells 1 2 3, whole
 --   both f                  a correlation and a convolution
 --   least                   −2^63
 --   plus                    1.0
---   single b o w turned x   the number of a call on the one float x
+--   single b o w convolution x   the number of a call on the one float x
 --   WeightRows      the rows
 use Prim.Native.Nat.{ℕ, _^_}
 use mathlib.Core.Path.{_≡_}
@@ -15,12 +15,12 @@ use lib.ListN.{replicate}
 use Rattle.numbers.specs.Refusal.{refusalOf}
 use Rattle.numbers.specs.Rows.{minus, wholes}
 use Rattle.border.specs.Border.{Border, constant, along}
-use Rattle.border.specs.declared.Along.the-variants.{Nearest, Mirror, Reflect, Wrap}
-use Rattle.correlate_judge.specs.Judge.{badWeight, badSums, correlateJudged, correlateJudgedF}
+use Rattle.border.specs.declared.CellBorder.the-variants.{Nearest, Mirror, Reflect, Wrap}
+use Rattle.correlate_judge.specs.Judge.{badWeight, badCorrelateSums, correlateJudged, correlateJudgedF}
 use Rattle.window.specs.Window.{appliedOrigin}
 
 abbrev pub three : Border ℤ → ℤ → List ℤ → ℕ → Bool → ℕ
-three b o w a turned = refusalOf (correlateJudged turned b o w (3 ∷ []) a (wholes (1 ∷ 2 ∷ 3 ∷ [])) 3)
+three b o w a convolution = refusalOf (correlateJudged convolution b o w (3 ∷ []) a (wholes (1 ∷ 2 ∷ 3 ∷ [])) 3)
 
 abbrev pub both : (Bool → ℕ) → List ℕ
 both f = f false ∷ f true ∷ []
@@ -32,7 +32,7 @@ abbrev pub plus : Float
 plus = fin false 1 (pos 0)
 
 abbrev pub single : Border Float → ℤ → List Float → Bool → Float → ℕ
-single b o w turned x = refusalOf (correlateJudgedF turned b o w (1 ∷ []) 0 (x ∷ []) 1)
+single b o w convolution x = refusalOf (correlateJudgedF convolution b o w (1 ∷ []) 0 (x ∷ []) 1)
 
 pub record WeightRows : Type 0 where
   -- 5: 0, 65 and 66 weights
@@ -60,7 +60,7 @@ pub record WeightRows : Type 0 where
   pub one-cell : map (λ o. refusalOf (correlateJudged true (along Wrap) o (wholes (1 ∷ 2 ∷ [])) (1 ∷ []) 0 (wholes (5 ∷ [])) 1)) (pos 0 ∷ minus 1 ∷ []) ≡ 0 ∷ 0 ∷ []
   pub one-cell-mirror : refusalOf (correlateJudged true (along Mirror) (pos 0) (wholes (1 ∷ 2 ∷ [])) (1 ∷ []) 0 (wholes (5 ∷ [])) 1) ≡ 11
   -- 12, of weights and levels that 3 and 6 refuse: 2^31 and −2^31 times 2^32
-  pub sums : map (λ x. badSums false (along Nearest) (pos 0) (pos (2 ^ 32) ∷ []) (1 ∷ []) 0 (x ∷ [])) (pos (2 ^ 31) ∷ minus (2 ^ 31) ∷ []) ≡ true ∷ false ∷ []
+  pub sums : map (λ x. badCorrelateSums false (along Nearest) (pos 0) (pos (2 ^ 32) ∷ []) (1 ∷ []) 0 (x ∷ [])) (pos (2 ^ 31) ∷ minus (2 ^ 31) ∷ []) ≡ true ∷ false ∷ []
   -- 1, 2 and 3 come first
   pub grids : refusalOf (correlateJudged true (along Nearest) (pos 9) [] [] 9 [] 0) ∷ refusalOf (correlateJudged true (along Nearest) (pos 9) [] (3 ∷ []) 9 (wholes (1 ∷ 2 ∷ 3 ∷ [])) 4) ∷ refusalOf (correlateJudged true (along Nearest) (pos 9) [] (1 ∷ []) 9 (pos (2 ^ 31) ∷ []) 1) ∷ [] ≡ 1 ∷ 2 ∷ 3 ∷ []
   -- floats: a NaN, an infinity and −0.0 as level; both infinities and a NaN as weight; a NaN as constant; −2^63 as origin; Mirror with 3 weights on one cell

@@ -14,10 +14,10 @@ fn judge_placed(
     sides: &[usize],
     mode: BorderMode,
     origin: isize,
-    turned: bool,
+    convolution: bool,
 ) -> u8
     requires { ⌜ badShape (now shape) ≡ false ⌝ }
-    ensures { λ r. ⌜ r ≡ refusalOf (kernelPlaced turned (borderOf mode) origin (now (sides .entry)) (now (weights .entry)) (now (shape .entry))) ⌝ }
+    ensures { λ r. ⌜ r ≡ refusalOf (kernelPlaced convolution (borderOf mode) origin (now (sides .entry)) (now (weights .entry)) (now (shape .entry))) ⌝ }
 {
     if crate::kernel_sides::bad_kernel(shape, sides, weights.len()) {
         return numbers::KERNEL;
@@ -32,7 +32,7 @@ fn judge_placed(
     if border::bad_constant(mode) {
         return numbers::CONSTANT;
     }
-    if window::bad_kernel_reach(mode, shape, side, origin, turned) {
+    if window::bad_kernel_reach(mode, shape, side, origin, convolution) {
         return numbers::REACH;
     }
     numbers::ACCEPTED
@@ -46,13 +46,13 @@ fn judge_placed(
 // * `sides` - the length of each of the kernel's axes, all equal.
 // * `mode` - the border.
 // * `origin` - how far the window is moved along every axis, as the caller says it.
-// * `turned` - true for a convolution, which reverses the weights and changes the origin.
+// * `convolution` - true for a convolution, which reverses the weights and changes the origin.
 // * `out` - how many cells the lent output has.
 //
 // Returns 0, or the lowest number of a condition that holds: 1 (shape), 2 (a length), 3 (a level), 5 (the kernel's sides or the count of weights),
 // 6 (a weight), 7 (origin, also of a kernel of one cell), 9 (constant) or 11 (the border cannot fill a pad as it is laid). 12 never occurs: no sum of
 // accepted levels leaves 64 bits. Writes nothing and refuses nothing itself.
-// One cell under Wrap with a kernel of 2 cells and origin 0 gives 0, and with turned 11.
+// One cell under Wrap with a kernel of 2 cells and origin 0 gives 0, and with convolution 11.
 pub fn judge_kernel(
     data: &[i64],
     shape: &[usize],
@@ -60,14 +60,14 @@ pub fn judge_kernel(
     sides: &[usize],
     mode: BorderMode,
     origin: isize,
-    turned: bool,
+    convolution: bool,
     out: usize,
 ) -> u8
-    ensures { λ r. ⌜ r ≡ refusalOf (kernelJudged turned (borderOf mode) origin (now (sides .entry)) (now (weights .entry)) (now (shape .entry)) (now («data» .entry)) out) ⌝ }
+    ensures { λ r. ⌜ r ≡ refusalOf (kernelJudged convolution (borderOf mode) origin (now (sides .entry)) (now (weights .entry)) (now (shape .entry)) (now («data» .entry)) out) ⌝ }
 {
     let refusal = array::judge_grid(data, shape, &[out]);
     if refusal != 0 {
         return refusal;
     }
-    judge_placed(shape, weights, sides, mode, origin, turned)
+    judge_placed(shape, weights, sides, mode, origin, convolution)
 }

@@ -4,7 +4,6 @@ ghost use mathlib.Core.Path.{_≡_};
 ghost use mathlib.Core.Bool.{not, _&&_};
 ghost use mathlib.Core.List.{[], _∷_};
 ghost use lib.Dec.{eqb};
-ghost use Rattle.numbers.specs.Ranges.{outside};
 ghost use Rattle.numbers.specs.Refusal.{refusalOf};
 ghost use Rattle.array_spec.specs.Conditions.{badAxis};
 ghost use Rattle.array_spec.specs.Grid.{lengthOf};
@@ -26,19 +25,19 @@ pub use weights::bad_weights;
 fn judge_weighing(
     shape: &[usize],
     len: usize,
-    six: bool,
+    weights_bad: bool,
     axis: usize,
     mode: BorderMode,
-    nine: bool,
+    constant_bad: bool,
     origin: isize,
-    turned: bool,
+    convolution: bool,
 ) -> u8
-    ensures { λ r. ⌜ r ≡ refusalOf ((badSize len, 5) ∷ (six, 6) ∷ (badWindowOrigin len origin, 7) ∷ (badAxis (now (shape .entry)) axis, 8) ∷ (nine, 9) ∷ (badReach (borderOf mode) len (appliedOrigin turned len origin) (lengthOf (now (shape .entry)) axis), 11) ∷ []) ⌝ }
+    ensures { λ r. ⌜ r ≡ refusalOf ((badSize len, 5) ∷ («weights_bad», 6) ∷ (badWindowOrigin len origin, 7) ∷ (badAxis (now (shape .entry)) axis, 8) ∷ («constant_bad», 9) ∷ (badReach (borderOf mode) len (appliedOrigin convolution len origin) (lengthOf (now (shape .entry)) axis), 11) ∷ []) ⌝ }
 {
     if window::bad_size(len) {
         return numbers::KERNEL;
     }
-    if six {
+    if weights_bad {
         return numbers::WEIGHT;
     }
     if window::bad_window_origin(len, origin) {
@@ -47,11 +46,11 @@ fn judge_weighing(
     if array::bad_axis(shape, axis) {
         return numbers::AXIS;
     }
-    if nine {
+    if constant_bad {
         return numbers::CONSTANT;
     }
     let n = array::len_of(shape, axis);
-    if window::bad_applied_reach(mode, n, len, origin, turned) {
+    if window::bad_applied_reach(mode, n, len, origin, convolution) {
         return numbers::REACH;
     }
     numbers::ACCEPTED
@@ -65,7 +64,7 @@ fn judge_weighing(
 // * `axis` - the axis that is weighed along.
 // * `mode` - the border.
 // * `origin` - how far the window is moved, as the caller says it.
-// * `turned` - true for a convolution, which reverses the weights and changes the origin.
+// * `convolution` - true for a convolution, which reverses the weights and changes the origin.
 // * `out` - how many cells the lent output has.
 //
 // Returns 0, or the lowest number of a condition that holds: 1 (shape), 2 (a length), 3 (a level), 5 (count of weights), 6 (a weight),
@@ -78,18 +77,27 @@ pub fn judge_correlate(
     axis: usize,
     mode: BorderMode,
     origin: isize,
-    turned: bool,
+    convolution: bool,
     out: usize,
 ) -> u8
-    ensures { λ r. ⌜ r ≡ refusalOf (correlateJudged turned (borderOf mode) origin (now (weights .entry)) (now (shape .entry)) axis (now («data» .entry)) out) ⌝ }
+    ensures { λ r. ⌜ r ≡ refusalOf (correlateJudged convolution (borderOf mode) origin (now (weights .entry)) (now (shape .entry)) axis (now («data» .entry)) out) ⌝ }
 {
     let refusal = array::judge_grid(data, shape, &[out]);
     if refusal != 0 {
         return refusal;
     }
-    let six = bad_weights(weights);
-    let nine = border::bad_constant(mode);
-    judge_weighing(shape, weights.len(), six, axis, mode, nine, origin, turned)
+    let weights_bad = bad_weights(weights);
+    let constant_bad = border::bad_constant(mode);
+    judge_weighing(
+        shape,
+        weights.len(),
+        weights_bad,
+        axis,
+        mode,
+        constant_bad,
+        origin,
+        convolution,
+    )
 }
 
 // The same of a call on floats: 3, 6 and 9 refuse what is not finite, and no sum is refused.
@@ -101,26 +109,26 @@ pub fn judge_correlate_f64(
     axis: usize,
     mode: BorderModeF64,
     origin: isize,
-    turned: bool,
+    convolution: bool,
     out: usize,
 ) -> u8
-    ensures { λ r. ⌜ r ≡ refusalOf (correlateJudgedF turned (borderOfF64 mode) origin (now (weights .entry)) (now (shape .entry)) axis (now («data» .entry)) out) ⌝ }
+    ensures { λ r. ⌜ r ≡ refusalOf (correlateJudgedF convolution (borderOfF64 mode) origin (now (weights .entry)) (now (shape .entry)) axis (now («data» .entry)) out) ⌝ }
 {
     let refusal = array::judge_grid_f64(data, shape, &[out]);
     if refusal != 0 {
         return refusal;
     }
-    let six = array::bad_levels_f64(weights);
-    let nine = border::bad_constant_f64(mode);
+    let weights_bad = array::bad_levels_f64(weights);
+    let constant_bad = border::bad_constant_f64(mode);
     judge_weighing(
         shape,
         weights.len(),
-        six,
+        weights_bad,
         axis,
         border::kind_of(mode),
-        nine,
+        constant_bad,
         origin,
-        turned,
+        convolution,
     )
 }
 

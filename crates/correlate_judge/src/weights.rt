@@ -7,10 +7,10 @@ ghost use Rattle.correlate_judge.specs.Judge.{badWeight};
 pub fn bad_weight(z: i64) -> bool
     ensures { λ r. ⌜ r ≡ badWeight z ⌝ }
 {
-    if z < -65535 {
+    if z < numbers::LEAST_WEIGHT {
         return true;
     }
-    if 65535 < z {
+    if numbers::LARGEST_WEIGHT < z {
         return true;
     }
     false

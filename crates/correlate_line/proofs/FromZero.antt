@@ -10,7 +10,7 @@ use Rattle.numbers.specs.Lists.{tabulate, anyOf}
 use Rattle.numbers.specs.Ranges.{outsideZ}
 use Rattle.symmetry_spec.specs.declared.SymmetryState.the-variants.{NonSymmetric}
 use Rattle.correlate_spec.specs.Weighed.{wholeOps, plainAt, weighedLine}
-use Rattle.correlate_spec.specs.Sizes.{Weighable}
+use Rattle.correlate_spec.specs.Sizes.{LineSumNeeds}
 use Rattle.correlate_spec.proofs.Terms.{weighable-kept}
 use Rattle.correlate_line.specs.Added.{addedTo, Addable}
 
@@ -23,7 +23,7 @@ zeros-at zero i = refl
 zeros-at (suc n) zero = refl
 zeros-at (suc n) (suc i) = zeros-at n i
 
-module _ {w s : List ℤ} {n : ℕ} (W : Weighable w s n) {out : List ℤ} (e : out ≡ replicate n (pos 0)) where
+module _ {w s : List ℤ} {n : ℕ} (W : LineSumNeeds w s n) {out : List ℤ} (e : out ≡ replicate n (pos 0)) where
   long : length out ≡ n
   long = ap length e ∙ length-replicate n (pos 0)
 

@@ -13,7 +13,7 @@ use Rattle.numbers.proofs.Any.{none-any, every-imp}
 use Rattle.numbers.proofs.Size.{Size, Sized, size-zero, size-add, size-neg, size-mul, size-le, inside-sized, tested-sized, fits-size}
 use Rattle.correlate_spec.specs.WindowSum.{windowSum}
 use Rattle.correlate_spec.proofs.Sliding.{sum-size}
-use Rattle.correlate_spec.specs.Sizes.{Summable}
+use Rattle.correlate_spec.specs.Sizes.{SumNeeds}
 use Rattle.correlate_line.specs.Raised.{raisedBase, Liftable}
 use Rattle.correlate_spec.proofs.Computed.{read, Computed, size-pos, computed-level, computed-read, computed}
 
@@ -21,7 +21,7 @@ module _ {w : List ℤ} {by : ℕ} (L : Liftable by w) where
   sized : Sized 65535 w
   sized = tested-sized 65535 w (L .weights)
 
-  pub weights-summable : Summable w (length w)
+  pub weights-summable : SumNeeds w (length w)
   weights-summable = record {
     few = L .few;
     long = le-refl (length w);

@@ -10,26 +10,26 @@ use Rattle.numbers.specs.Lists.{tabulate, Every}
 use Rattle.numbers.proofs.Size.{Size, Sized, size-add, size-neg, size-mul, size-le, member-sized, tested-sized}
 use Rattle.correlate_spec.specs.WindowSum.{windowSum}
 use Rattle.correlate_spec.proofs.Sliding.{sum-enters, sum-size}
-use Rattle.correlate_spec.specs.Sizes.{Weighable, Summable}
+use Rattle.correlate_spec.specs.Sizes.{LineSumNeeds, SumNeeds}
 use Rattle.correlate_line.specs.Narrow.{Raised, Narrow}
-use Rattle.correlate_line.specs.Raised.{raisedBase, raisedStart, Liftable, Raisable}
+use Rattle.correlate_line.specs.Raised.{raisedBase, raisedStart, Liftable, RaiseNeeds}
 use Rattle.correlate_spec.proofs.Computed.{read, Computed, size-pos, computed-level, computed-read, computed}
 use Rattle.correlate_line.proofs.RaisedBase.{base-small}
 use Rattle.correlate_spec.proofs.Terms.{weighable-kept}
 use Rattle.correlate_spec.proofs.SlidingSum.{sum-computed}
 
 -- a row of as many cells, its line and its weights
-pub raisable : {by m n : ℕ} {w s : List ℤ} → m ≡ n → Weighable w s n → Narrow s → (by ≤ 65535) × Every (Raised by 131070) w → Raisable by w s m
+pub raisable : {by m n : ℕ} {w s : List ℤ} → m ≡ n → LineSumNeeds w s n → Narrow s → (by ≤ 65535) × Every (Raised by 131070) w → RaiseNeeds by w s m
 raisable e W N r = record { weighable = weighable-kept e W; low = r .0; weights = r .1; cells = N }
 
-pub raisable-kept : {by m n : ℕ} {w s : List ℤ} → m ≡ n → Raisable by w s n → Raisable by w s m
+pub raisable-kept : {by m n : ℕ} {w s : List ℤ} → m ≡ n → RaiseNeeds by w s n → RaiseNeeds by w s m
 raisable-kept e A = raisable e (A .weighable) (A .cells) (A .low, A .weights)
 
-module _ {by : ℕ} {w s : List ℤ} {n : ℕ} (A : Raisable by w s n) where
+module _ {by : ℕ} {w s : List ℤ} {n : ℕ} (A : RaiseNeeds by w s n) where
   pub liftable : Liftable by w
   liftable = record { few = A .weighable .few; weights = A .weighable .weights; low = A .low }
 
-  pub first-summable : Summable s (length w - 1)
+  pub first-summable : SumNeeds s (length w - 1)
   first-summable = record { few = omega (arith, A .weighable .few); long = omega (arith, A .weighable .some, A .weighable .long); cells = A .weighable .cells }
 
   sized : Sized (2 ^ 38) s

@@ -15,7 +15,7 @@ use Rattle.correlate_spec.proofs.Along.{Row, row-start, row-end}
 use Rattle.correlate_spec.proofs.Folded.{start-moved}
 use Rattle.correlate_spec.proofs.Linear.{summed-plus, summed-times, summed-same}
 use Rattle.correlate_spec.proofs.Summed.{summed-agree}
-use Rattle.correlate_line.specs.Raised.{raisedStart, raisedTerm, raisedTo, Raisable}
+use Rattle.correlate_line.specs.Raised.{raisedStart, raisedTerm, raisedTo, RaiseNeeds}
 use Rattle.correlate_line.proofs.RaisedStart.{raisable-kept}
 
 -- ---- numbers x raised by b, times numbers w raised by a
@@ -67,12 +67,12 @@ module _ (by : ℕ) (w s : List ℤ) where
   raised-end {m = m} r p q = row-end _+ℤ_ (raisedStart by w s) (raisedTerm by w s) r p q ∙ ap (λ (g : ℕ → ℤ). tabulate g 0 m) (λ t i. raised-plain i t)
 
 -- ---- the row of starts is made of a line s, which is then known as t
-module _ {by : ℕ} {w s t out : List ℤ} {n : ℕ} (e : t ≡ s) (A : Raisable by w s n) (p : out ≡ tabulate (raisedStart by w s) 0 n) where
+module _ {by : ℕ} {w s t out : List ℤ} {n : ℕ} (e : t ≡ s) (A : RaiseNeeds by w s n) (p : out ≡ tabulate (raisedStart by w s) 0 n) where
   long : length out ≡ n
   long = ap length p ∙ length-tabulate (raisedStart by w s) 0 n
 
-  pub raised-set : Raisable by w t (length out) × (out ≡ tabulate (raisedStart by w t) 0 (length out))
-  raised-set = subst (λ (x : List ℤ). Raisable by w x (length out) × (out ≡ tabulate (raisedStart by w x) 0 (length out))) (sym e) (raisable-kept long A, p ∙ ap (tabulate (raisedStart by w s) 0) (sym long))
+  pub raised-set : RaiseNeeds by w t (length out) × (out ≡ tabulate (raisedStart by w t) 0 (length out))
+  raised-set = subst (λ (x : List ℤ). RaiseNeeds by w x (length out) × (out ≡ tabulate (raisedStart by w x) 0 (length out))) (sym e) (raisable-kept long A, p ∙ ap (tabulate (raisedStart by w s) 0) (sym long))
 
   pub raised-sums : {new : List ℤ} → new ≡ tabulate (plainAt wholeOps w t) 0 (length out) → new ≡ tabulate (plainAt wholeOps w s) 0 n
   raised-sums q = q ∙ (λ j. tabulate (plainAt wholeOps w (e j)) 0 (long j))

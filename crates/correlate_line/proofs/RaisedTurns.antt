@@ -17,13 +17,13 @@ use Rattle.correlate_spec.specs.Weighed.{summed}
 use Rattle.correlate_spec.proofs.Along.{row-held, row-more, row-four}
 use Rattle.correlate_spec.proofs.Sizes.{size-summed}
 use Rattle.correlate_line.specs.Narrow.{Raised}
-use Rattle.correlate_line.specs.Raised.{raisedStart, raisedTerm, raisedTo, Raisable}
+use Rattle.correlate_line.specs.Raised.{raisedStart, raisedTerm, raisedTo, RaiseNeeds}
 use Rattle.correlate_line.specs.Products.{RaisedWeight, product, fourProducts}
 use Rattle.correlate_line.proofs.RaisedNumber.{raised-at}
 use Rattle.correlate_spec.proofs.Computed.{read, Computed, size-pos, computed-level, computed-read, computed}
 use Rattle.correlate_line.proofs.RaisedStart.{start-small}
 
-module _ {by : ℕ} {w s : List ℤ} {n : ℕ} (A : Raisable by w s n) where
+module _ {by : ℕ} {w s : List ℤ} {n : ℕ} (A : RaiseNeeds by w s n) where
   cell : (k : ℕ) → Raised 2147483648 4294967295 (getD s k (pos 0))
   cell k = raised-at s (A .cells) (omega arith) k
 

@@ -15,13 +15,13 @@ use Rattle.numbers.proofs.Size.{Size, size-add, size-le, member-sized, tested-s
 use Rattle.numbers.proofs.Stored.{Stored, front-more}
 use Rattle.numbers.proofs.Tests.{cond-no}
 use Rattle.correlate_spec.proofs.Sizes.{size-cell}
-use Rattle.correlate_spec.specs.Sizes.{Weighable}
+use Rattle.correlate_spec.specs.Sizes.{LineSumNeeds}
 use Rattle.correlate_spec.proofs.Computed.{read, Computed, computed-level, computed-read, computed}
 use Rattle.correlate_spec.proofs.Terms.{cell-size, weight-size}
 use Rattle.correlate_line.specs.Added.{plus, threeTerms, Passed}
 
 -- ---- the terms of one and of three weights: cell a times weight k, whichever they are
-module _ {w s : List ℤ} {n : ℕ} (W : Weighable w s n) where
+module _ {w s : List ℤ} {n : ℕ} (W : LineSumNeeds w s n) where
   abbrev meant : ℕ → ℕ → ℤ
   meant a k = getD s a (pos 0) *ℤ getD w k (pos 0)
 

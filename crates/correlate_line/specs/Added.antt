@@ -13,7 +13,7 @@ use lib.ListN.{length, getD}
 use Rattle.numbers.specs.Lists.{anyOf}
 use Rattle.numbers.specs.Ranges.{outsideZ}
 use Rattle.correlate_spec.specs.Weighed.{wholeOps, cellTerm, plainTo}
-use Rattle.correlate_spec.specs.Sizes.{Weighable}
+use Rattle.correlate_spec.specs.Sizes.{LineSumNeeds}
 
 abbrev pub plus : List ℤ → (ℕ → ℤ) → ℕ → ℤ
 plus held f i = getD held i (pos 0) +ℤ f i
@@ -25,9 +25,9 @@ abbrev pub addedTo : List ℤ → List ℤ → List ℤ → ℕ → ℕ → ℤ
 addedTo held w s n = plus held (plainTo wholeOps w s n)
 
 pub record Addable (w s held : List ℤ) : Type 0 where
-  pub line : Weighable w s (length held)
+  pub line : LineSumNeeds w s (length held)
   pub small : anyOf (outsideZ (negℤ (pos (2 ^ 61))) (pos (2 ^ 61))) held ≡ false
 
 pub record Passed (w s out : List ℤ) : Type 0 where
-  pub line : Weighable w s (length out)
+  pub line : LineSumNeeds w s (length out)
   pub small : anyOf (outsideZ (negℤ (pos (2 ^ 62))) (pos (2 ^ 62))) out ≡ false

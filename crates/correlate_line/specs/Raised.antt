@@ -5,18 +5,19 @@
 --   raisedTerm by w s i j     the window's cell j, raised, times weight j, raised
 --   raisedTo by w s n i       from the start, the first n terms
 --   Liftable by w             how large the weights w and by may be
---   Raisable by w s n         what the workers suppose: the weights w and the padded line s of n cells are weighable, and may be raised
+--   RaiseNeeds by w s n         what the workers suppose: the weights w and the padded line s of n cells are weighable, and may be raised
 use Prim.Native.Nat.{ℕ, _+_, _≤_}
 use mathlib.Core.Path.{_≡_}
 use mathlib.Core.Bool.{false}
 use mathlib.Core.List.{List}
-use lib.IntN.{ℤ, pos, negℤ, _+ℤ_, _-ℤ_, _*ℤ_}
+use lib.IntN.{ℤ, pos, _+ℤ_, _-ℤ_, _*ℤ_}
 use lib.ListN.{length, getD}
+use Rattle.numbers.specs.Limits.{largestWeight, longestWindow}
 use Rattle.numbers.specs.Lists.{anyOf, Every}
-use Rattle.numbers.specs.Ranges.{outsideZ}
+use Rattle.numbers.specs.Ranges.{over}
 use Rattle.correlate_spec.specs.Weighed.{summed}
 use Rattle.correlate_spec.specs.WindowSum.{windowSum}
-use Rattle.correlate_spec.specs.Sizes.{Weighable}
+use Rattle.correlate_spec.specs.Sizes.{LineSumNeeds}
 use Rattle.correlate_line.specs.Narrow.{Raised, Narrow}
 
 abbrev pub raisedBase : ℕ → List ℤ → ℤ
@@ -32,12 +33,12 @@ abbrev pub raisedTo : ℕ → List ℤ → List ℤ → ℕ → ℕ → ℤ
 raisedTo by w s n i = summed _+ℤ_ (raisedStart by w s i) (raisedTerm by w s i) n
 
 pub record Liftable (by : ℕ) (w : List ℤ) : Type 0 where
-  pub few : length w ≤ 65
-  pub weights : anyOf (outsideZ (negℤ (pos 65535)) (pos 65535)) w ≡ false
-  pub low : by ≤ 65535
+  pub few : length w ≤ longestWindow
+  pub weights : anyOf (over largestWeight) w ≡ false
+  pub low : by ≤ largestWeight
 
-pub record Raisable (by : ℕ) (w s : List ℤ) (n : ℕ) : Type 0 where
-  pub weighable : Weighable w s n
-  pub low : by ≤ 65535
+pub record RaiseNeeds (by : ℕ) (w s : List ℤ) (n : ℕ) : Type 0 where
+  pub weighable : LineSumNeeds w s n
+  pub low : by ≤ largestWeight
   pub weights : Every (Raised by 131070) w
   pub cells : Narrow s

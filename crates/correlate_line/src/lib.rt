@@ -4,7 +4,7 @@ ghost use Prim.Native.Nat.{_≤_};
 ghost use lib.ListN.{length};
 ghost use Rattle.symmetry_spec.specs.declared.SymmetryState.the-variants.{NonSymmetric};
 ghost use Rattle.correlate_spec.specs.Weighed.{wholeOps, weighedLine};
-ghost use Rattle.correlate_spec.specs.Sizes.{Weighable};
+ghost use Rattle.correlate_spec.specs.Sizes.{LineSumNeeds};
 ghost use Rattle.correlate_line.specs.Narrow.{Narrow};
 use array::fill;
 use raised::raised_line;
@@ -21,7 +21,7 @@ pub use start::first_sum;
 
 // Sets each cell of out to the weighted sum of its window of the padded line. From five weights on, raising them and the line pays; what the line then holds is of no use.
 pub fn correlate_line(weights: &[i64], line: &mut [i64], out: &mut [i64])
-    requires { ⌜ Weighable (now weights) (now line) (length (now out)) × (5 ≤ length (now weights) → Narrow (now line)) ⌝ }
+    requires { ⌜ LineSumNeeds (now weights) (now line) (length (now out)) × (5 ≤ length (now weights) → Narrow (now line)) ⌝ }
     ensures { λ _. ⌜ now (out .exit) ≡ weighedLine wholeOps NonSymmetric (now (weights .entry)) (now (line .entry)) (length (now (out .entry))) ⌝ }
 {
     if weights.len() >= 5 {

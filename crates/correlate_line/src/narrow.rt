@@ -2,15 +2,16 @@
 ghost use mathlib.Core.Path.{_≡_};
 ghost use mathlib.Core.Bool.{false};
 ghost use Prim.Native.Nat.{_≤_};
-ghost use lib.IntN.{pos, negℤ};
+ghost use lib.IntN.{pos};
+ghost use Rattle.numbers.specs.Limits.{largestWeight};
 ghost use Rattle.numbers.specs.Lists.{anyOf, Every};
-ghost use Rattle.numbers.specs.Ranges.{outsideZ};
+ghost use Rattle.numbers.specs.Ranges.{over};
 ghost use Rattle.correlate_line.specs.Narrow.{Raised};
 
 // By how much the weights are raised: not at all where none is below 0.
 pub(crate) fn raise_of(weights: &[i64]) -> u32
-    requires { ⌜ anyOf (outsideZ (negℤ (pos 65535)) (pos 65535)) (now weights) ≡ false ⌝ }
-    ensures { λ r. ⌜ (r ≤ 65535) × Every (Raised r 131070) (now (weights .entry)) ⌝ }
+    requires { ⌜ anyOf (over largestWeight) (now weights) ≡ false ⌝ }
+    ensures { λ r. ⌜ (r ≤ largestWeight) × Every (Raised r 131070) (now (weights .entry)) ⌝ }
 {
     let n = weights.len();
     let mut i = 0;

@@ -6,9 +6,9 @@ ghost use lib.ListN.{length};
 ghost use Rattle.numbers.specs.Lists.{tabulate};
 ghost use Rattle.symmetry_spec.specs.declared.SymmetryState.the-variants.{NonSymmetric};
 ghost use Rattle.correlate_spec.specs.Weighed.{wholeOps, weighedLine};
-ghost use Rattle.correlate_spec.specs.Sizes.{Weighable};
+ghost use Rattle.correlate_spec.specs.Sizes.{LineSumNeeds};
 ghost use Rattle.correlate_line.specs.Narrow.{Narrow};
-ghost use Rattle.correlate_line.specs.Raised.{raisedStart, raisedTo, Raisable};
+ghost use Rattle.correlate_line.specs.Raised.{raisedStart, raisedTo, RaiseNeeds};
 ghost use Rattle.correlate_line.specs.Products.{lowered};
 use crate::narrow::raise_of;
 use crate::raised_start::start_row;
@@ -20,7 +20,7 @@ use crate::raised_terms::raised_weight;
 
 // Adds to every cell the raised term of cell j of its window. The line holds raised cells.
 fn add_raised_row(weights: &[i64], line: &[i64], by: u32, j: usize, out: &mut [i64])
-    requires { ⌜ Raisable by (now weights) (lowered (now line)) (length (now out)) × (j < length (now weights)) × (now out ≡ tabulate (raisedTo by (now weights) (lowered (now line)) j) 0 (length (now out))) ⌝ }
+    requires { ⌜ RaiseNeeds by (now weights) (lowered (now line)) (length (now out)) × (j < length (now weights)) × (now out ≡ tabulate (raisedTo by (now weights) (lowered (now line)) j) 0 (length (now out))) ⌝ }
     ensures { λ _. ⌜ now (out .exit) ≡ tabulate (raisedTo by (now (weights .entry)) (lowered (now (line .entry))) (j + 1)) 0 (length (now (out .entry))) ⌝ }
 {
     let weight = raised_weight(weights, by, j);
@@ -34,7 +34,7 @@ fn add_raised_row(weights: &[i64], line: &[i64], by: u32, j: usize, out: &mut [i
 
 // Adds to every cell the raised terms of cells j to j + 3 of its window. The line holds raised cells.
 fn add_four_raised_rows(weights: &[i64], line: &[i64], by: u32, j: usize, out: &mut [i64])
-    requires { ⌜ Raisable by (now weights) (lowered (now line)) (length (now out)) × (j + 4 ≤ length (now weights)) × (now out ≡ tabulate (raisedTo by (now weights) (lowered (now line)) j) 0 (length (now out))) ⌝ }
+    requires { ⌜ RaiseNeeds by (now weights) (lowered (now line)) (length (now out)) × (j + 4 ≤ length (now weights)) × (now out ≡ tabulate (raisedTo by (now weights) (lowered (now line)) j) 0 (length (now out))) ⌝ }
     ensures { λ _. ⌜ now (out .exit) ≡ tabulate (raisedTo by (now (weights .entry)) (lowered (now (line .entry))) (j + 4)) 0 (length (now (out .entry))) ⌝ }
 {
     let four = raised_four(weights, by, j);
@@ -48,7 +48,7 @@ fn add_four_raised_rows(weights: &[i64], line: &[i64], by: u32, j: usize, out: &
 
 // Adds to every cell the raised terms of all weights, four weights a pass while four are left. The line holds raised cells, and every cell what its sum starts from.
 fn add_raised(weights: &[i64], line: &[i64], by: u32, out: &mut [i64])
-    requires { ⌜ Raisable by (now weights) (lowered (now line)) (length (now out)) × (now out ≡ tabulate (raisedStart by (now weights) (lowered (now line))) 0 (length (now out))) ⌝ }
+    requires { ⌜ RaiseNeeds by (now weights) (lowered (now line)) (length (now out)) × (now out ≡ tabulate (raisedStart by (now weights) (lowered (now line))) 0 (length (now out))) ⌝ }
     ensures { λ _. ⌜ now (out .exit) ≡ weighedLine wholeOps NonSymmetric (now (weights .entry)) (lowered (now (line .entry))) (length (now (out .entry))) ⌝ }
 {
     let count = weights.len();
@@ -65,7 +65,7 @@ fn add_raised(weights: &[i64], line: &[i64], by: u32, out: &mut [i64])
 
 // Every cell of the window times its own weight, both raised. What the line then holds is of no use.
 pub(crate) fn raised_line(weights: &[i64], line: &mut [i64], out: &mut [i64])
-    requires { ⌜ Weighable (now weights) (now line) (length (now out)) × Narrow (now line) ⌝ }
+    requires { ⌜ LineSumNeeds (now weights) (now line) (length (now out)) × Narrow (now line) ⌝ }
     ensures { λ _. ⌜ now (out .exit) ≡ weighedLine wholeOps NonSymmetric (now (weights .entry)) (now (line .entry)) (length (now (out .entry))) ⌝ }
 {
     let by = raise_of(weights);

@@ -2,7 +2,7 @@
 ghost use mathlib.Core.Path.{_≡_};
 ghost use lib.ListN.{length};
 ghost use Rattle.numbers.specs.Lists.{tabulate};
-ghost use Rattle.correlate_line.specs.Raised.{raisedBase, raisedStart, Liftable, Raisable};
+ghost use Rattle.correlate_line.specs.Raised.{raisedBase, raisedStart, Liftable, RaiseNeeds};
 use crate::start::first_sum;
 
 // What raising the cells adds to a sum, taken from 0.
@@ -29,7 +29,7 @@ fn fill_row(base: i64, out: &mut [i64])
 
 // Sets every cell to base less what raising the weights adds to its sum: the sum of its window, by times.
 fn lower_row(weights: &[i64], line: &[i64], by: u32, base: i64, out: &mut [i64])
-    requires { ⌜ Raisable by (now weights) (now line) (length (now out)) × (base ≡ raisedBase by (now weights)) ⌝ }
+    requires { ⌜ RaiseNeeds by (now weights) (now line) (length (now out)) × (base ≡ raisedBase by (now weights)) ⌝ }
     ensures { λ _. ⌜ now (out .exit) ≡ tabulate (raisedStart by (now (weights .entry)) (now (line .entry))) 0 (length (now (out .entry))) ⌝ }
 {
     let times = by as i64;
@@ -47,7 +47,7 @@ fn lower_row(weights: &[i64], line: &[i64], by: u32, base: i64, out: &mut [i64])
 
 // Sets every cell to what its sum starts from: minus what raising adds to it.
 pub(crate) fn start_row(weights: &[i64], line: &[i64], by: u32, out: &mut [i64])
-    requires { ⌜ Raisable by (now weights) (now line) (length (now out)) ⌝ }
+    requires { ⌜ RaiseNeeds by (now weights) (now line) (length (now out)) ⌝ }
     ensures { λ _. ⌜ now (out .exit) ≡ tabulate (raisedStart by (now (weights .entry)) (now (line .entry))) 0 (length (now (out .entry))) ⌝ }
 {
     let base = base_of(weights, by);

@@ -4,6 +4,7 @@ ghost use mathlib.Core.Path.{_≡_};
 ghost use Prim.Native.Nat.{_+_, _*_, _^_, _≤_, _<_};
 ghost use lib.IntN.{pos};
 ghost use lib.ListN.{length};
+ghost use Rattle.numbers.specs.Limits.{largestWeight};
 ghost use Rattle.numbers.specs.Lists.{Every};
 ghost use Rattle.correlate_line.specs.Narrow.{Raised, Narrow};
 ghost use Rattle.correlate_line.specs.Products.{lowered, RaisedWeight, product, fourProducts};
@@ -18,7 +19,7 @@ pub struct Four {
 
 // Weight j, raised.
 pub(crate) fn raised_weight(weights: &[i64], by: u32, j: usize) -> u64
-    requires { ⌜ Every (Raised by 131070) (now weights) × (by ≤ 65535) × (j < length (now weights)) ⌝ }
+    requires { ⌜ Every (Raised by 131070) (now weights) × (by ≤ largestWeight) × (j < length (now weights)) ⌝ }
     ensures { λ r. ⌜ RaisedWeight by (now (weights .entry)) j r ⌝ }
 {
     ((weights[j] + by as i64) as u32) as u64
@@ -26,7 +27,7 @@ pub(crate) fn raised_weight(weights: &[i64], by: u32, j: usize) -> u64
 
 // Weights j to j + 3, raised.
 pub(crate) fn raised_four(weights: &[i64], by: u32, j: usize) -> Four
-    requires { ⌜ Every (Raised by 131070) (now weights) × (by ≤ 65535) × (j + 4 ≤ length (now weights)) ⌝ }
+    requires { ⌜ Every (Raised by 131070) (now weights) × (by ≤ largestWeight) × (j + 4 ≤ length (now weights)) ⌝ }
     ensures { λ r. ⌜ RaisedWeight by (now (weights .entry)) j (r .w0) × RaisedWeight by (now (weights .entry)) (j + 1) (r .w1) × RaisedWeight by (now (weights .entry)) (j + 2) (r .w2) × RaisedWeight by (now (weights .entry)) (j + 3) (r .w3) ⌝ }
 {
     let w0 = raised_weight(weights, by, j);
@@ -57,7 +58,7 @@ pub(crate) fn raise_cells(line: &mut [i64])
 // The raised cell at a place times a raised weight.
 pub(crate) fn raised_term(line: &[i64], at: usize, weight: u64) -> u64
     requires { ⌜ Narrow (lowered (now line)) × (at < length (now line)) × (weight ≤ 131070) ⌝ }
-    ensures { λ r. ⌜ (pos r ≡ product (lowered (now (line .entry))) at weight) × (r ≤ 2 ^ 38 * 65535) ⌝ }
+    ensures { λ r. ⌜ (pos r ≡ product (lowered (now (line .entry))) at weight) × (r ≤ 2 ^ 38 * largestWeight) ⌝ }
 {
     (line[at] as u32) as u64 * weight
 }
@@ -65,7 +66,7 @@ pub(crate) fn raised_term(line: &[i64], at: usize, weight: u64) -> u64
 // The raised cells at four neighbouring places, each times its raised weight, in one sum.
 pub(crate) fn four_terms(line: &[i64], at: usize, four: Four) -> u64
     requires { ⌜ Narrow (lowered (now line)) × (at + 4 ≤ length (now line)) × (four .w0 ≤ 131070) × (four .w1 ≤ 131070) × (four .w2 ≤ 131070) × (four .w3 ≤ 131070) ⌝ }
-    ensures { λ r. ⌜ (pos r ≡ fourProducts (lowered (now (line .entry))) at (four .w0) (four .w1) (four .w2) (four .w3)) × (r ≤ 4 * (2 ^ 38 * 65535)) ⌝ }
+    ensures { λ r. ⌜ (pos r ≡ fourProducts (lowered (now (line .entry))) at (four .w0) (four .w1) (four .w2) (four .w3)) × (r ≤ 4 * (2 ^ 38 * largestWeight)) ⌝ }
 {
     let t0 = raised_term(line, at, four.w0);
     let t1 = raised_term(line, at + 1, four.w1);

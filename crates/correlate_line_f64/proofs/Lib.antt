@@ -1,4 +1,4 @@
 -- Laws of the loops that take four weights a pass.
 pub mod Turns
-pub mod Told
+pub mod JoinedAs
 pub mod PairTurns

@@ -8,14 +8,14 @@ use lib.IntN.{ℤ, pos, _*ℤ_}
 use lib.ListN.{getD}
 use Rattle.numbers.proofs.Size.{Size, member-sized, tested-sized}
 use Rattle.correlate_spec.proofs.Sizes.{size-cell}
-use Rattle.correlate_spec.specs.Sizes.{Weighable}
+use Rattle.correlate_spec.specs.Sizes.{LineSumNeeds}
 use Rattle.correlate_spec.proofs.Computed.{read, Computed, computed-level, computed}
 
 -- a row of as many cells
-pub weighable-kept : {w s : List ℤ} {n m : ℕ} → m ≡ n → Weighable w s n → Weighable w s m
-weighable-kept {w} {s} e W = subst (Weighable w s) (sym e) W
+pub weighable-kept : {w s : List ℤ} {n m : ℕ} → m ≡ n → LineSumNeeds w s n → LineSumNeeds w s m
+weighable-kept {w} {s} e W = subst (LineSumNeeds w s) (sym e) W
 
-module _ {w s : List ℤ} {n : ℕ} (W : Weighable w s n) where
+module _ {w s : List ℤ} {n : ℕ} (W : LineSumNeeds w s n) where
   pub cell-size : (k : ℕ) → Size (getD s k (pos 0)) (2 ^ 38)
   cell-size k = member-sized (2 ^ 38) s (tested-sized (2 ^ 38) s (W .cells)) k
 

@@ -8,7 +8,7 @@ use mathlib.Core.Bool.{cond}
 use mathlib.Core.List.{List, map, reverse}
 use lib.Dec.{eqb}
 use lib.Ieee.{Float}
-use lib.IntN.{ℤ, pos, negℤ, natAbs, _+ℤ_, _-ℤ_}
+use lib.IntN.{ℤ, pos, natAbs, _+ℤ_, _-ℤ_}
 use lib.ListN.{length, getD}
 use Rattle.symmetry_spec.specs.Class.{classF}
 use Rattle.symmetry_spec.specs.declared.SymmetryState.{SymmetryState}

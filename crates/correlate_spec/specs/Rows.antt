@@ -3,7 +3,7 @@
 --   three f w        f of the cells 1 2 3 with the weights w under Nearest, origin 0
 --   squared f o      f of the rows 1 2 / 3 4 with the kernel 1 0 / 0 10 under Nearest, origin o
 --   nearly           the float weights 1, 2, 1 + 2^−52
---   CorrelationRows  the rows
+--   CorrelateSpecRows  the rows
 use Prim.Native.Nat.{ℕ}
 use mathlib.Core.Path.{_≡_}
 use mathlib.Core.Bool.{true, false}
@@ -12,7 +12,7 @@ use lib.Ieee.{Float, fin}
 use lib.IntN.{ℤ, pos, negsuc}
 use lib.ListN.{getD}
 use Rattle.border.specs.Border.{Border, constant, along}
-use Rattle.border.specs.declared.Along.the-variants.{Nearest}
+use Rattle.border.specs.declared.CellBorder.the-variants.{Nearest}
 use Rattle.numbers.specs.Rows.{wholes, minus}
 use Rattle.symmetry_spec.specs.declared.SymmetryState.the-variants.{NonSymmetric, Symmetric, AntiSymmetric}
 use Rattle.correlate_spec.specs.Weighed.{wholeOps, floatOps, weighedAt, weighedLine}
@@ -38,7 +38,7 @@ squared f o = f (along Nearest) o (sidesOf (2 ∷ 2 ∷ []) 2) (wholes (1 ∷ 0 
 abbrev pub nearly : List Float
 nearly = one ∷ fin false 1 (pos 1) ∷ fin false 4503599627370497 (negsuc 51) ∷ []
 
-pub record CorrelationRows : Type 0 where
+pub record CorrelateSpecRows : Type 0 where
   -- the line of T2, padded with the nearest cell
   pub padded : line (1 ∷ 2 ∷ 3 ∷ []) (1 ∷ 1 ∷ 2 ∷ 3 ∷ 3 ∷ []) 3 ≡ wholes (9 ∷ 14 ∷ 17 ∷ [])
   -- the three ways of summing: 1 2 1 and −1 5 1 on 3 7 4

@@ -17,7 +17,7 @@ use lib.Signed.{leZ}
 use Rattle.numbers.specs.Order.{atLeast}
 use Rattle.numbers.specs.Rows.{wholes, minus}
 use Rattle.border.specs.Border.{Border, constant, along}
-use Rattle.border.specs.declared.Along.the-variants as borders
+use Rattle.border.specs.declared.CellBorder.the-variants as borders
 use Rattle.border.specs.declared.PadMode.{PadMode}
 use Rattle.border.specs.declared.PadMode.the-variants as modes
 use Rattle.pad_spec.specs.Levels.{paddedGrid}

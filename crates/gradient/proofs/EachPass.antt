@@ -26,7 +26,7 @@ use Rattle.window.specs.Window.{badReach}
 use Rattle.correlate_spec.specs.Correlated.{correlate1dZ}
 use Rattle.correlate_spec.proofs.Bounds.{border-le, length-answer}
 use Rattle.correlate_judge.specs.Judge.{badWeight}
-use Rattle.correlate1d.specs.Weighs.{Weighs}
+use Rattle.correlate1d.specs.WeighNeeds.{WeighNeeds}
 use Rattle.correlate1d.proofs.Accepted.{small-constant, small-sized}
 use Rattle.gradient_spec.specs.Gradient.{difference, gradientTo, gradient}
 use Rattle.gradient_spec.specs.Judge.{ThreeSmall, gradientJudged}
@@ -70,7 +70,7 @@ module _ {b : Border ℤ} {ns : List ℕ} {axis : ℕ} {cells : List ℤ} {out s
     pad-filled a h = every-at (λ n. badPad b n 1 ≡ false) ns 1 (any-none (λ n. badPad b n 1) ns (A .reach)) a h
 
     -- a pass along any axis can be weighed, into any grid of as many cells
-    pub weighs-pass : p ≤ 2 ^ 38 → {held : List ℤ} {a : ℕ} → length held ≡ cellCount ns → a < length ns → Weighs b ns a (pos 0) w g held
+    pub weighs-pass : p ≤ 2 ^ 38 → {held : List ℤ} {a : ℕ} → length held ≡ cellCount ns → a < length ns → WeighNeeds b ns a (pos 0) w g held
     weighs-pass l {held} {a} e h = record {
       placed = record {
         shape = A .grid .shape;

@@ -3,7 +3,7 @@
 --   onSquare w b a      the gradient of these along axis a, smoothed by w
 --   box w b a           the same of 2 by 1 by 2 cells, 1 2 3 4
 --   numberOn b a        the number of a Sobel call on the square along axis a
---   GradientJudgeRows   the rows
+--   GradientSpecRows   the rows
 use Prim.Native.Nat.{ℕ, _-_, _^_}
 use mathlib.Core.Path.{_≡_}
 use mathlib.Core.Bool.{true, false}
@@ -12,7 +12,7 @@ use lib.IntN.{ℤ, pos}
 use Rattle.numbers.specs.Refusal.{refusalOf}
 use Rattle.numbers.specs.Rows.{minus, wholes}
 use Rattle.border.specs.Border.{Border, constant, along}
-use Rattle.border.specs.declared.Along.the-variants.{Mirror, Nearest, Reflect, Wrap}
+use Rattle.border.specs.declared.CellBorder.the-variants.{Mirror, Nearest, Reflect, Wrap}
 use Rattle.gradient_spec.specs.Gradient.{difference, prewittWeights, sobelWeights, gradientTo, gradient}
 use Rattle.gradient_spec.specs.Judge.{passesJudged, badGradientSums, gradientJudged, ThreeSmall}
 
@@ -28,7 +28,7 @@ box w b a = gradient w b (2 ∷ 1 ∷ 2 ∷ []) a square
 abbrev pub numberOn : Border ℤ → ℕ → ℕ
 numberOn b a = refusalOf (gradientJudged sobelWeights b (2 ∷ 2 ∷ []) a square 4 4)
 
-pub record GradientJudgeRows : Type 0 where
+pub record GradientSpecRows : Type 0 where
   -- the weights of every pass are three small ones
   pub weights : ThreeSmall difference × ThreeSmall prewittWeights × ThreeSmall sobelWeights
   -- T7, Sobel along axis 0; the grid after the difference, and after axis 0, which is not smoothed

@@ -13,6 +13,7 @@ use mathlib.Core.Bool.{Bool, _&&_, cond}
 use mathlib.Core.List.{List}
 use lib.Dec.{leb, ltb, eqb}
 use lib.ListN.{length, getD}
+use Rattle.numbers.specs.Limits.{mostPaddedCells}
 use Rattle.numbers.specs.Lists.{tabulate}
 use Rattle.array_spec.specs.Grid.{cellCount, lengthOf, strideOf}
 use Rattle.array_spec.specs.Conditions.{badShape}
@@ -34,7 +35,7 @@ unfoldable pub withLane : {A : Type 0} → A → ℕ → ℕ → ℕ → List A 
 withLane d n s l line g = tabulate (λ k. cond (eqb (laneOf n s k) l) (getD line (k / s % n) d) (getD g k d)) 0 (length g)
 
 unfoldable pub laneInside : ℕ → ℕ → ℕ → ℕ → Bool
-laneInside n s l count = leb count 32768 && leb 1 n && leb 1 s && leb s count && ltb (laneBase n s l + (n - 1) * s) count
+laneInside n s l count = leb count mostPaddedCells && leb 1 n && leb 1 s && leb s count && ltb (laneBase n s l + (n - 1) * s) count
 
 abbrev pub readLane : {A : Type 0} → A → ℕ → ℕ → List A → List A → List A
 readLane d s l g line = cond (laneInside (length line) s l (length g)) (lane d (length line) s l g) line

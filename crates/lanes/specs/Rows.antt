@@ -1,5 +1,4 @@
 -- Worked rows of this crate's definitions. Each holds by computing.
---   wholes ns    the natural numbers ns as whole levels
 --   two          the rows 1 2 3 / 4 5 6
 --   turned a     `two` with every lane of axis a read from its end
 --   LanesRows    the rows
@@ -8,11 +7,9 @@ use mathlib.Core.Path.{_≡_}
 use mathlib.Core.Bool.{true, false}
 use mathlib.Core.List.{List, [], _∷_, map, reverse}
 use lib.IntN.{ℤ, pos}
+use Rattle.numbers.specs.Rows.{wholes}
 use Rattle.lanes.specs.Axes.{overAxes}
 use Rattle.lanes.specs.Lanes.{laneOf, lane, withLane, laneInside, readLane, alongAxis, lanesOf}
-
-abbrev pub wholes : List ℕ → List ℤ
-wholes ns = map pos ns
 
 abbrev pub two : List ℤ
 two = wholes (1 ∷ 2 ∷ 3 ∷ 4 ∷ 5 ∷ 6 ∷ [])

@@ -3,6 +3,7 @@ ghost use mathlib.Core.Path.{_≡_};
 ghost use mathlib.Core.Bool.{cond};
 ghost use Prim.Native.Nat.{ℕ, _+_, _≤_, _<_};
 ghost use lib.ListN.{length};
+ghost use Rattle.numbers.specs.Limits.{longestPaddedAxis, mostPaddedCells};
 ghost use Rattle.array_spec.specs.Grid.{lengthOf, strideOf};
 ghost use Rattle.lanes.specs.Rows.{LanesRows};
 ghost use Rattle.lanes.specs.Lanes.{lanesOf, laneBase, laneInside};
@@ -18,7 +19,7 @@ pub struct Lanes {
 // How many places apart the cells of an axis stand, in a grid of at most three axes of at most 1,152 cells each: a padded grid has so many.
 // Of 4 2 3 the cells of axis 0 stand 6 apart.
 pub fn stride_of(shape: &[usize], axis: usize) -> usize
-    requires { ⌜ (length (now shape) ≤ 3) × ((a : ℕ) → lengthOf (now shape) a ≤ 1152) ⌝ }
+    requires { ⌜ (length (now shape) ≤ 3) × ((a : ℕ) → lengthOf (now shape) a ≤ longestPaddedAxis) ⌝ }
     ensures { λ r. ⌜ r ≡ strideOf (now (shape .entry)) axis ⌝ }
 {
     if axis == 0 {
@@ -55,7 +56,7 @@ pub fn lanes_of(shape: &[usize], axis: usize) -> Lanes
 
 // The place of a lane's first cell. Lanes of neighbouring cells, and those of an axis that has none before it, need no division.
 fn base_of(n: usize, stride: usize, lane: usize) -> usize
-    requires { ⌜ (0 < stride) × (n ≤ 32768) × (stride ≤ 32768) × (lane ≤ 32768) ⌝ }
+    requires { ⌜ (0 < stride) × (n ≤ mostPaddedCells) × (stride ≤ mostPaddedCells) × (lane ≤ mostPaddedCells) ⌝ }
     ensures { λ r. ⌜ r ≡ laneBase n stride lane ⌝ }
 {
     if stride == 1 {
@@ -77,7 +78,7 @@ fn base_of(n: usize, stride: usize, lane: usize) -> usize
 pub fn first_place(count: usize, n: usize, stride: usize, lane: usize) -> usize
     ensures { λ r. ⌜ r ≡ cond (laneInside n stride lane count) (laneBase n stride lane) count ⌝ }
 {
-    if 32768 < count {
+    if numbers::MOST_PADDED_CELLS < count {
         return count;
     }
     if n < 1 {
@@ -115,7 +116,7 @@ pub struct Start {
 //
 // Of 2 by 3 by 2 cells lane 1 of axis 1 starts at place 1 and is the last of its run, lane 2 at place 6.
 pub fn next_start(n: usize, stride: usize, lane: usize, start: Start) -> Start
-    requires { ⌜ Starts n stride lane start × (0 < n) × (n ≤ 32768) × (0 < stride) × (stride ≤ 32768) × (start .place ≤ 32768) ⌝ }
+    requires { ⌜ Starts n stride lane start × (0 < n) × (n ≤ mostPaddedCells) × (0 < stride) × (stride ≤ mostPaddedCells) × (start .place ≤ mostPaddedCells) ⌝ }
     ensures { λ r. ⌜ Starts n stride (lane + 1) r ⌝ }
 {
     let offset = start.offset + 1;

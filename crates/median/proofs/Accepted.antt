@@ -19,7 +19,7 @@ use Rattle.array_spec.specs.Grid.{cellCount, lengthOf}
 use Rattle.array_spec.proofs.Judged.{lengths-passed}
 use Rattle.array_spec.proofs.Shapes.{Accepted, shape-accepted}
 use Rattle.median_spec.specs.Around.{medianAnswer}
-use Rattle.median_spec.specs.ByRows.{Laid}
+use Rattle.median_spec.specs.ByRows.{MaskNeeds}
 use Rattle.median.specs.Judge.{badSingle, medianJudged}
 
 -- ---- three axes
@@ -36,7 +36,7 @@ some-two n h e = more (eqb-false n 1 e)
     more : (n ≡ 1 → ⊥) → 2 ≤ n
     more o = omega arith
 
-laid-three : (a b c : ℕ) (mask : List Bool) → Accepted (a ∷ b ∷ c ∷ []) → length mask ≡ cellCount (a ∷ b ∷ c ∷ []) → badSingle (a ∷ b ∷ c ∷ []) ≡ false → Laid a b c mask
+laid-three : (a b c : ℕ) (mask : List Bool) → Accepted (a ∷ b ∷ c ∷ []) → length mask ≡ cellCount (a ∷ b ∷ c ∷ []) → badSingle (a ∷ b ∷ c ∷ []) ≡ false → MaskNeeds a b c mask
 laid-three a b c mask A e s = record {
   some-planes = A .full .0;
   some-rows = A .full .1 .0;
@@ -67,7 +67,7 @@ module _ (ns : List ℕ) (mask out : List Bool) (e : refusalOf (medianJudged ns 
     same : a ∷ b ∷ c ∷ [] ≡ ns
     same = (λ i. ea i ∷ eb i ∷ ec i ∷ []) ∙ sym (three-axes ns axes)
 
-    pub mask-laid : Laid a b c mask × (length out ≡ length mask)
+    pub mask-laid : MaskNeeds a b c mask × (length out ≡ length mask)
     mask-laid =
         let A = subst Accepted (sym same) (shape-accepted ns shape) in
         let l = subst (λ (s : List ℕ). length mask ≡ cellCount s) (sym same) (lent .0) in

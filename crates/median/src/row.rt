@@ -4,13 +4,14 @@ ghost use mathlib.Core.Bool.{false};
 ghost use mathlib.Core.List.{[], _∷_};
 ghost use Prim.Native.Nat.{_+_, _*_, _≤_, _<_, min};
 ghost use lib.ListN.{length, getD};
+ghost use Rattle.numbers.specs.Limits.{mostCells};
 ghost use Rattle.median_spec.specs.Around.{one, medianAnswer};
-ghost use Rattle.median_spec.specs.ByRows.{spanOf, planeCount, columnCount, Reaches, Room, added, setRow, medianOf, Laid, Blank};
+ghost use Rattle.median_spec.specs.ByRows.{spanOf, planeCount, columnCount, Reaches, Room, added, setRow, medianOfPlace, MaskNeeds, Blank};
 use median_spec::Span;
 
 // One past the last coordinate around cell i, inside an axis of n cells.
 fn past_around(n: usize, i: usize) -> usize
-    requires { ⌜ (i < n) × (n ≤ 8192) ⌝ }
+    requires { ⌜ (i < n) × (n ≤ mostCells) ⌝ }
     ensures { λ r. ⌜ r ≡ min (i + 2) n ⌝ }
 {
     if i + 1 == n {
@@ -21,7 +22,7 @@ fn past_around(n: usize, i: usize) -> usize
 
 // The coordinates of cell i and its neighbours inside an axis of n cells.
 fn around(n: usize, i: usize) -> Span
-    requires { ⌜ (i < n) × (n ≤ 8192) ⌝ }
+    requires { ⌜ (i < n) × (n ≤ mostCells) ⌝ }
     ensures { λ r. ⌜ r ≡ spanOf n i ⌝ }
 {
     let to = past_around(n, i);
@@ -82,8 +83,8 @@ fn median_row(
     counts: &mut [u8],
     out: &mut [bool],
 )
-    requires { ⌜ Laid planes rows (length (now counts)) (now mask) × (r < planes * rows) × (length (now out) ≡ length (now mask)) × Blank (now counts) ⌝ }
-    ensures { λ _. ⌜ now (out .exit) ≡ setRow (r * length (now (counts .entry))) (length (now (counts .entry))) (medianOf planes rows (length (now (counts .entry))) (now (mask .entry))) (now (out .entry)) ⌝ }
+    requires { ⌜ MaskNeeds planes rows (length (now counts)) (now mask) × (r < planes * rows) × (length (now out) ≡ length (now mask)) × Blank (now counts) ⌝ }
+    ensures { λ _. ⌜ now (out .exit) ≡ setRow (r * length (now (counts .entry))) (length (now (counts .entry))) (medianOfPlace planes rows (length (now (counts .entry))) (now (mask .entry))) (now (out .entry)) ⌝ }
 {
     let xs = around(planes, r / rows);
     let ys = around(rows, r % rows);
@@ -95,16 +96,16 @@ fn median_row(
 
 // The same, with a buffer of its own.
 fn set_row(mask: &[bool], planes: usize, rows: usize, n: usize, r: usize, out: &mut [bool])
-    requires { ⌜ Laid planes rows n (now mask) × (r < planes * rows) × (length (now out) ≡ length (now mask)) ⌝ }
-    ensures { λ _. ⌜ now (out .exit) ≡ setRow (r * n) n (medianOf planes rows n (now (mask .entry))) (now (out .entry)) ⌝ }
+    requires { ⌜ MaskNeeds planes rows n (now mask) × (r < planes * rows) × (length (now out) ≡ length (now mask)) ⌝ }
+    ensures { λ _. ⌜ now (out .exit) ≡ setRow (r * n) n (medianOfPlace planes rows n (now (mask .entry))) (now (out .entry)) ⌝ }
 {
-    let mut counts = [0; 1024];
+    let mut counts = [0; numbers::LONGEST_AXIS];
     median_row(mask, planes, rows, r, &mut counts[..n], out);
 }
 
 // Sets every row of out to its medians.
 pub(crate) fn median_rows(mask: &[bool], planes: usize, rows: usize, n: usize, out: &mut [bool])
-    requires { ⌜ Laid planes rows n (now mask) × (length (now out) ≡ length (now mask)) ⌝ }
+    requires { ⌜ MaskNeeds planes rows n (now mask) × (length (now out) ≡ length (now mask)) ⌝ }
     ensures { λ _. ⌜ now (out .exit) ≡ medianAnswer (planes ∷ rows ∷ n ∷ []) (now (mask .entry)) ⌝ }
 {
     let count = planes * rows;

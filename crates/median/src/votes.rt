@@ -3,6 +3,7 @@ ghost use mathlib.Core.Path.{_≡_};
 ghost use Prim.Native.Nat.{_+_, _-_, _*_, _/_, _≤_, _<_};
 ghost use lib.Dec.{ltb};
 ghost use lib.ListN.{length, getD};
+ghost use Rattle.numbers.specs.Limits.{mostCells};
 ghost use Rattle.median_spec.specs.ByRows.{votedAt, Counted, setRow};
 
 // The vote of an end of the row, whose two cells are i and i + 1.
@@ -16,7 +17,7 @@ fn vote_end(counts: &[u8], m: u8, i: usize) -> bool
 
 // Sets the places from a + 1 on to the votes of the cells that are no end of the row.
 fn vote_inside(counts: &[u8], m: u8, a: usize, out: &mut [bool])
-    requires { ⌜ Counted (now counts) m × (a + length (now counts) ≤ length (now out)) × (length (now out) ≤ 8192) ⌝ }
+    requires { ⌜ Counted (now counts) m × (a + length (now counts) ≤ length (now out)) × (length (now out) ≤ mostCells) ⌝ }
     ensures { λ _. ⌜ now (out .exit) ≡ setRow (a + 1) (length (now (counts .entry)) - 2) (λ k. votedAt (now (counts .entry)) m (k - a)) (now (out .entry)) ⌝ }
 {
     let inner = counts.len() - 2;
@@ -31,7 +32,7 @@ fn vote_inside(counts: &[u8], m: u8, a: usize, out: &mut [bool])
 
 // Sets the places from a on, one for each count, to the votes of m rows around.
 pub(crate) fn vote_row(counts: &[u8], m: u8, a: usize, out: &mut [bool])
-    requires { ⌜ Counted (now counts) m × (a + length (now counts) ≤ length (now out)) × (length (now out) ≤ 8192) ⌝ }
+    requires { ⌜ Counted (now counts) m × (a + length (now counts) ≤ length (now out)) × (length (now out) ≤ mostCells) ⌝ }
     ensures { λ _. ⌜ now (out .exit) ≡ setRow a (length (now (counts .entry))) (λ k. votedAt (now (counts .entry)) m (k - a)) (now (out .entry)) ⌝ }
 {
     let last = counts.len() - 2;

@@ -12,7 +12,7 @@ use lib.ListN.{length}
 use Rattle.numbers.specs.Lists.{tabulate}
 use Rattle.numbers.proofs.Stored.{Stored, stored-none, stored-then, stored-all, table-stored}
 use Rattle.median_spec.specs.Around.{medianAnswer}
-use Rattle.median_spec.specs.ByRows.{inRow, setRow, medianOf, Laid}
+use Rattle.median_spec.specs.ByRows.{inRow, setRow, medianOfPlace, MaskNeeds}
 
 -- below row r + 1: in row r, or below it
 row-next : (r n k : ℕ) → ltb k ((r + 1) * n) ≡ inRow (r * n) n k || ltb k (r * n)
@@ -37,11 +37,11 @@ module _ (f : ℕ → Bool) (n : ℕ) where
   rows-more r {out₀} {out} {out′} S e =
       stored-then false f (λ k. ltb k (r * n)) (inRow (r * n) n) (λ k. ltb k ((r + 1) * n)) S (table-stored false f (inRow (r * n) n) out out′ e) (row-next r n)
 
-pub rows-all : {planes rows n r : ℕ} {mask out₀ out : List Bool} → Laid planes rows n mask → length out₀ ≡ length mask → r ≤ planes * rows → planes * rows ≤ r
-    → Stored false (λ k. ltb k (r * n)) (medianOf planes rows n mask) out₀ out → out ≡ medianAnswer (planes ∷ rows ∷ n ∷ []) mask
+pub rows-all : {planes rows n r : ℕ} {mask out₀ out : List Bool} → MaskNeeds planes rows n mask → length out₀ ≡ length mask → r ≤ planes * rows → planes * rows ≤ r
+    → Stored false (λ k. ltb k (r * n)) (medianOfPlace planes rows n mask) out₀ out → out ≡ medianAnswer (planes ∷ rows ∷ n ∷ []) mask
 unfolding medianAnswer
 rows-all {planes} {rows} {n} {r} {mask} {out₀} {out} L long below last S =
-    stored-all false (medianOf planes rows n mask) (λ k. ltb k (r * n)) (λ k b. lt-ltb k (r * n) (omega (arith, whole))) S ∙ ap (tabulate (medianOf planes rows n mask) 0) (whole ∙ count)
+    stored-all false (medianOfPlace planes rows n mask) (λ k. ltb k (r * n)) (λ k b. lt-ltb k (r * n) (omega (arith, whole))) S ∙ ap (tabulate (medianOfPlace planes rows n mask) 0) (whole ∙ count)
   where
     same : r ≡ planes * rows
     same = omega arith

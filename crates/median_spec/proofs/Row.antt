@@ -8,12 +8,12 @@ use native.Mathlib.Omega.{arith}
 use lib.ListN.{length, getD}
 use Rattle.numbers.proofs.Stored.{stored-agree, stored-table, table-stored}
 use Rattle.median_spec.specs.declared.Span.{Span}
-use Rattle.median_spec.specs.ByRows.{spanOf, columnCount, Reaches, Room, added, votedAt, Counted, inRow, setRow, medianOf, Laid, Blank}
+use Rattle.median_spec.specs.ByRows.{spanOf, columnCount, Reaches, Room, added, votedAt, Counted, inRow, setRow, medianOfPlace, MaskNeeds, Blank}
 use Rattle.median_spec.proofs.Adding.{length-added}
 use Rattle.median_spec.proofs.Spans.{Short, span-short, around-some, around-few, blank-room, blank-added, added-few, plane-below, row-below, row-room, planes-reach}
 use Rattle.median_spec.proofs.ThreeAxes.{row-median}
 
-module _ {planes rows : ℕ} {mask : List Bool} {c : List ℕ} (blank : Blank c) (L : Laid planes rows (length c) mask) (r : ℕ) (h : r < planes * rows)
+module _ {planes rows : ℕ} {mask : List Bool} {c : List ℕ} (blank : Blank c) (L : MaskNeeds planes rows (length c) mask) (r : ℕ) (h : r < planes * rows)
     {xs ys : Span} (ex : xs ≡ spanOf planes (r / rows)) (ey : ys ≡ spanOf rows (r % rows)) where
   planes-short : Short planes xs
   planes-short = span-short (plane-below L r h) ex
@@ -50,10 +50,10 @@ module _ {planes rows : ℕ} {mask : List Bool} {c : List ℕ} (blank : Blank c)
     }
 
     pub row-voted : (out : List Bool) {out′ : List Bool} → out′ ≡ setRow (r * length c′) (length c′) (λ k. votedAt c′ ((xs .to - xs .from) * (ys .to - ys .from)) (k - r * length c′)) out
-        → out′ ≡ setRow (r * length c) (length c) (medianOf planes rows (length c) mask) out
+        → out′ ≡ setRow (r * length c) (length c) (medianOfPlace planes rows (length c) mask) out
     row-voted out {out′} v =
-        stored-table false (medianOf planes rows (length c) mask) (inRow (r * length c) (length c))
-        (stored-agree false votes (inRow (r * length c) (length c)) (medianOf planes rows (length c) mask) same (table-stored false votes (inRow (r * length c) (length c)) out out′ moved))
+        stored-table false (medianOfPlace planes rows (length c) mask) (inRow (r * length c) (length c))
+        (stored-agree false votes (inRow (r * length c) (length c)) (medianOfPlace planes rows (length c) mask) same (table-stored false votes (inRow (r * length c) (length c)) out out′ moved))
       where
         votes : ℕ → Bool
         votes k = votedAt c′ ((xs .to - xs .from) * (ys .to - ys .from)) (k - r * length c)
@@ -64,5 +64,5 @@ module _ {planes rows : ℕ} {mask : List Bool} {c : List ℕ} (blank : Blank c)
         cells : (z : ℕ) → z < length c → getD c′ z 0 ≡ columnCount mask rows (length c) xs ys z
         cells z b = ap (λ (s : List ℕ). getD s z 0) e ∙ blank-added planes-short rows-short mask blank z b
 
-        same : (k : ℕ) → inRow (r * length c) (length c) k ≡ true → votes k ≡ medianOf planes rows (length c) mask k
+        same : (k : ℕ) → inRow (r * length c) (length c) k ≡ true → votes k ≡ medianOfPlace planes rows (length c) mask k
         same = row-median planes rows (length c) mask r h (L .some-rows) ex ey c′ counts-long cells

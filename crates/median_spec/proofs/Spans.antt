@@ -11,7 +11,7 @@ use lib.Dec.{ltb}
 use lib.ListN.{length, getD, take, replicate, List·getD-eq-default}
 use Rattle.median_spec.specs.declared.Span.{Span}
 use Rattle.median_spec.specs.Around.{upTo, one}
-use Rattle.median_spec.specs.ByRows.{spanOf, cellOf, planeCount, columnCount, Reaches, Room, added, Laid, Blank}
+use Rattle.median_spec.specs.ByRows.{spanOf, cellOf, planeCount, columnCount, Reaches, Room, added, MaskNeeds, Blank}
 use Rattle.median_spec.proofs.Totals.{length-upTo, total-bound}
 use Rattle.median_spec.proofs.Adding.{length-added, getD-added}
 use Rattle.median_spec.proofs.Reach.{row-end}
@@ -80,7 +80,7 @@ blank-part n m = record { zero = at n m }
     at (suc n) (suc m) (suc z) = at n m z
 
 -- ---- row r of a laid mask
-module _ {planes rows n : ℕ} {mask : List Bool} (L : Laid planes rows n mask) where
+module _ {planes rows n : ℕ} {mask : List Bool} (L : MaskNeeds planes rows n mask) where
   pub rows-count : planes * rows ≤ 8192
   rows-count = omega (arith, mul-le-mul (le-refl (planes * rows)) (L .two), L .count, L .small)
 

@@ -14,7 +14,7 @@ use Rattle.array_spec.specs.Grid.{placeOf, coordinate, levelAt}
 use Rattle.array_spec.proofs.Places.{Within, coordinate-place}
 use Rattle.median_spec.specs.declared.Span.{Span}
 use Rattle.median_spec.specs.Around.{around, total, one, cellsAround, trueAround, medianAt}
-use Rattle.median_spec.specs.ByRows.{spanOf, cellOf, columnCount, votedAt, inRow, medianOf}
+use Rattle.median_spec.specs.ByRows.{spanOf, cellOf, columnCount, votedAt, inRow, medianOfPlace}
 use Rattle.median_spec.proofs.Totals.{length-upTo, total-agree, total-swap}
 
 module _ (planes rows n : ℕ) (mask : List Bool) where
@@ -53,7 +53,7 @@ module _ (planes rows n : ℕ) (mask : List Bool) where
     at : (a : ℕ) → a < 3 → coordinate ns ((x * rows + y) * n + z) a ≡ three x y z a
     at a l = ap (λ (k : ℕ). coordinate ns k a) (sym (place-three x y z)) ∙ coordinate-place ns (three x y z) within a l
 
-    median-three : medianOf planes rows n mask ((x * rows + y) * n + z) ≡ votes x y z
+    median-three : medianOfPlace planes rows n mask ((x * rows + y) * n + z) ≡ votes x y z
     median-three = median-at (coordinate ns ((x * rows + y) * n + z)) ∙ (λ i. votes (at 0 (omega arith) i) (at 1 (omega arith) i) (at 2 (omega arith) i))
 
   -- ---- row r, from the counts of its columns
@@ -75,17 +75,17 @@ module _ (planes rows n : ℕ) (mask : List Bool) where
         below : (j : ℕ) → j < min (z + 2) n → j < n
         below j b = omega arith
 
-    voted-median : (z : ℕ) → z < n → votedAt c m z ≡ medianOf planes rows n mask (r * n + z)
+    voted-median : (z : ℕ) → z < n → votedAt c m z ≡ medianOfPlace planes rows n mask (r * n + z)
     voted-median z b =
         (λ i. ltb ((m * length (around (long i) z) - 1) / 2) (total (λ j. getD c j 0) (around (long i) z)))
         ∙ (λ i. ltb ((rows-around i * length (around n z) - 1) / 2) (column-is z i))
         ∙ sym (median-three (r / rows) (r % rows) z (div-lt-iff-lt-mul some .1 h) (mod-lt r some) b)
-        ∙ ap (λ (q : ℕ). medianOf planes rows n mask (q * n + z)) (div-add-mod' r rows)
+        ∙ ap (λ (q : ℕ). medianOfPlace planes rows n mask (q * n + z)) (div-add-mod' r rows)
 
-    pub row-median : (k : ℕ) → inRow (r * n) n k ≡ true → votedAt c ((xs .to - xs .from) * (ys .to - ys .from)) (k - r * n) ≡ medianOf planes rows n mask k
+    pub row-median : (k : ℕ) → inRow (r * n) n k ≡ true → votedAt c ((xs .to - xs .from) * (ys .to - ys .from)) (k - r * n) ≡ medianOfPlace planes rows n mask k
     row-median k e =
         let p = and-true _ _ e in
         let lo : r * n ≤ k = ltb-false k (r * n) (not-true _ (p .0)) in
         let hi : k < r * n + n = ltb-true k (r * n + n) (p .1) in
         let g : r * n + (k - r * n) ≡ k = omega arith in
-        voted-median (k - r * n) (omega arith) ∙ ap (medianOf planes rows n mask) g
+        voted-median (k - r * n) (omega arith) ∙ ap (medianOfPlace planes rows n mask) g

@@ -10,9 +10,9 @@
 --   Counted counts m        the counts of one to nine rows around, along a row of two cells or more
 --   inRow a n k             whether k is one of the n places from a on
 --   setRow a n f held       the cells held, with f of its place on the n places from a on
---   medianOf planes rows n mask k   the median of the cell at place k
+--   medianOfPlace planes rows n mask k   the median of the cell at place k
 --   Blank counts            every count is 0
---   Laid planes rows n mask     the mask has planes of rows of n cells, two or more, and at most 8,192 in all
+--   MaskNeeds planes rows n mask     the mask has planes of rows of n cells, two or more, and at most 8,192 in all
 use Prim.Native.Nat.{ℕ, _+_, _-_, _*_, _/_, _≤_, _<_, min}
 use mathlib.Core.Path.{_≡_}
 use mathlib.Core.Bool.{Bool, false, not, _&&_, cond}
@@ -63,13 +63,13 @@ inRow a n k = not (ltb k a) && ltb k (a + n)
 abbrev pub setRow : ℕ → ℕ → (ℕ → Bool) → List Bool → List Bool
 setRow a n f held = tabulate (λ k. cond (inRow a n k) (f k) (getD held k false)) 0 (length held)
 
-abbrev pub medianOf : ℕ → ℕ → ℕ → List Bool → ℕ → Bool
-medianOf planes rows n mask k = medianAt (planes ∷ rows ∷ n ∷ []) mask (coordinate (planes ∷ rows ∷ n ∷ []) k)
+abbrev pub medianOfPlace : ℕ → ℕ → ℕ → List Bool → ℕ → Bool
+medianOfPlace planes rows n mask k = medianAt (planes ∷ rows ∷ n ∷ []) mask (coordinate (planes ∷ rows ∷ n ∷ []) k)
 
 pub record Blank (counts : List ℕ) : Type 0 where
   pub zero : (z : ℕ) → getD counts z 0 ≡ 0
 
-pub record Laid (planes rows n : ℕ) (mask : List Bool) : Type 0 where
+pub record MaskNeeds (planes rows n : ℕ) (mask : List Bool) : Type 0 where
   pub some-planes : 1 ≤ planes
   pub some-rows : 1 ≤ rows
   pub two : 2 ≤ n

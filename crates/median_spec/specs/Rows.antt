@@ -3,7 +3,7 @@
 --   at p            the coordinates in the list p
 --   cube t f        a mask of 3 by 3 by 3 cells: t true ones, then f false ones
 --   six             the mask 1 1 0 / 1 0 0 // 1 0 1 / 0 1 0, of 2 by 2 by 3 cells
---   MedianRowRows   the rows
+--   MedianSpecRows   the rows
 use Prim.Native.Nat.{ℕ}
 use mathlib.Core.Path.{_≡_}
 use mathlib.Core.Bool.{Bool, true, false}
@@ -25,7 +25,7 @@ cube t f = replicate t true ++ replicate f false
 abbrev pub six : List Bool
 six = bits (1 ∷ 1 ∷ 0 ∷ 1 ∷ 0 ∷ 0 ∷ 1 ∷ 0 ∷ 1 ∷ 0 ∷ 1 ∷ 0 ∷ [])
 
-pub record MedianRowRows : Type 0 where
+pub record MedianSpecRows : Type 0 where
   -- the first, a middle and the last cell of an axis; the cells of an axis of two; the cell of an axis of one
   pub neighbours : around 5 0 ∷ around 5 2 ∷ around 5 4 ∷ around 2 0 ∷ around 2 1 ∷ around 1 0 ∷ [] ≡ (0 ∷ 1 ∷ []) ∷ (1 ∷ 2 ∷ 3 ∷ []) ∷ (3 ∷ 4 ∷ []) ∷ (0 ∷ 1 ∷ []) ∷ (0 ∷ 1 ∷ []) ∷ (0 ∷ []) ∷ []
   pub sums : total (λ j. j) (upTo 2 5) ∷ one true ∷ one false ∷ [] ≡ 9 ∷ 1 ∷ 0 ∷ []

@@ -1,6 +1,6 @@
 // The median of a mask of three axes: its definitions, cell by cell and row by row, and their laws.
 // `median_row` has the code.
-ghost use Rattle.median_spec.specs.Rows.{MedianRowRows};
+ghost use Rattle.median_spec.specs.Rows.{MedianSpecRows};
 
 // The coordinates from `from` to `to`, `to` not included.
 pub struct Span {
@@ -10,5 +10,5 @@ pub struct Span {
 
 // Worked rows of this crate's definitions. Refuses nothing.
 pub fn rows()
-    ensures { λ _. ⌜ MedianRowRows ⌝ }
+    ensures { λ _. ⌜ MedianSpecRows ⌝ }
 {}

@@ -12,7 +12,7 @@ use lib.IntN.{ℤ, pos, natAbs, negℤ, _+ℤ_, _-ℤ_, +ℤ-assoc, +ℤ-comm, n
 use lib.ListN.{length, getD, take}
 use lib.Seq.{ext-getD}
 use Rattle.numbers.specs.Lists.{tabulate, upFrom}
-use Rattle.numbers.specs.Order.{least}
+use Rattle.numbers.specs.Order.{extreme}
 use Rattle.numbers.specs.Windows.{windowOf}
 use Rattle.numbers.proofs.Range.{up-mem, map-up}
 use Rattle.numbers.proofs.Tabulate.{length-tabulate, getD-tabulate, drop-tabulate, take-tabulate}
@@ -37,7 +37,7 @@ use Rattle.min_max_spec.proofs.Windows.{Lands, in-window, cell-inside, lands}
 
 -- for each cell of a lane the first level, in the order, of its window of the padded line
 abbrev pub lineOf : (ℤ → ℤ → Bool) → Call → List ℤ → List ℤ
-lineOf le c s = tabulate (λ i. least le (pos 0) (windowOf (paddedLine (pos 0) (c .border) (leftPad (c .size) (c .origin)) (rightPad (c .size) (c .origin)) s) i (c .size))) 0 (length s)
+lineOf le c s = tabulate (λ i. extreme le (pos 0) (windowOf (paddedLine (pos 0) (c .border) (leftPad (c .size) (c .origin)) (rightPad (c .size) (c .origin)) s) i (c .size))) 0 (length s)
 
 -- two lanes that agree on the axis have the same extension where it lands on the axis
 lane-agree : {A : Type 0} (b : Border A) (n : ℕ) (h h′ : ℕ → A) (z : ℤ) → ((j : ℕ) → j < n → h j ≡ h′ j) → Lands b n z → extendedLane b n h z ≡ extendedLane b n h′ z
@@ -120,9 +120,9 @@ module _ (le : ℤ → ℤ → Bool) (cells : List ℤ) (c : Call) (accept : num
   full = shape-accepted (c .shape) (P .grid .shape) .full
 
   -- the level that the call gives at place k
-  given : (k : ℕ) → k < length cells → getD (answerOf le cells c) k (pos 0) ≡ least le (pos 0) (map (laneLevel cells c k) (window c (pos (coordinate (c .shape) k (c .axis)))))
+  given : (k : ℕ) → k < length cells → getD (answerOf le cells c) k (pos 0) ≡ extreme le (pos 0) (map (laneLevel cells c k) (window c (pos (coordinate (c .shape) k (c .axis)))))
   unfolding answerOf
-  given k h = getD-tabulate (λ k. least le (pos 0) (map (laneLevel cells c k) (window c (pos (coordinate (c .shape) k (c .axis)))))) (length cells) k (pos 0) h
+  given k h = getD-tabulate (λ k. extreme le (pos 0) (map (laneLevel cells c k) (window c (pos (coordinate (c .shape) k (c .axis)))))) (length cells) k (pos 0) h
 
   pub answer-lanes : alone c ≡ false → answerOf le cells c ≡ alongAxis (pos 0) (lineOf le c) (c .shape) (c .axis) cells
   answer-lanes padded =
@@ -140,10 +140,10 @@ module _ (le : ℤ → ℤ → Bool) (cells : List ℤ) (c : Call) (accept : num
           let ls : length s ≡ n = length-tabulate f 0 n in
           let m : p (c .axis) < n = coordinate-within (c .shape) k full b (c .axis) on in
           given k h
-          ∙ ap (least le (pos 0)) (same-window cells c P padded f s (p (c .axis)) ls m (λ j l. sym (getD-tabulate f n j (pos 0) l)))
+          ∙ ap (extreme le (pos 0)) (same-window cells c P padded f s (p (c .axis)) ls m (λ j l. sym (getD-tabulate f n j (pos 0) l)))
           ∙ sym (ap (λ x. getD (alongAxis (pos 0) (lineOf le c) (c .shape) (c .axis) cells) x (pos 0)) (sym (place-coordinate (c .shape) k full b))
           ∙ getD-along (pos 0) (lineOf le c) (c .shape) (c .axis) cells p full on (coordinate-within (c .shape) k full b) count
-          ∙ getD-tabulate (λ i. least le (pos 0) (windowOf (paddedLine (pos 0) (c .border) (leftPad (c .size) (c .origin)) (rightPad (c .size) (c .origin)) s) i (c .size))) (length s) (p (c .axis)) (pos 0) (subst (λ (x : ℕ). p (c .axis) < x) (sym ls) m))
+          ∙ getD-tabulate (λ i. extreme le (pos 0) (windowOf (paddedLine (pos 0) (c .border) (leftPad (c .size) (c .origin)) (rightPad (c .size) (c .origin)) s) i (c .size))) (length s) (p (c .axis)) (pos 0) (subst (λ (x : ℕ). p (c .axis) < x) (sym ls) m))
 
   pub answer-copied : alone c ≡ true → answerOf le cells c ≡ cells
   answer-copied one =
@@ -159,6 +159,6 @@ module _ (le : ℤ → ℤ → Bool) (cells : List ℤ) (c : Call) (accept : num
           let i = coordinate (c .shape) k (c .axis) in
           let m : i < axisLength c = coordinate-within (c .shape) k full b (c .axis) on in
           given k h
-          ∙ (λ j. least le (pos 0) (map (laneLevel cells c k) (upFrom (first-alone c (pos i) one j) (eqb-true (c .size) 1 one j))))
+          ∙ (λ j. extreme le (pos 0) (map (laneLevel cells c k) (upFrom (first-alone c (pos i) one j) (eqb-true (c .size) 1 one j))))
           ∙ lane-inside (c .border) (axisLength c) (λ j. levelAt (pos 0) (c .shape) cells (moved (c .axis) j (coordinate (c .shape) k))) i m
           ∙ ap (λ x. getD cells x (pos 0)) (place-ext (c .shape) (moved (c .axis) i (coordinate (c .shape) k)) (coordinate (c .shape) k) (λ x l. own k x (eqb x (c .axis)) refl) ∙ place-coordinate (c .shape) k full b)

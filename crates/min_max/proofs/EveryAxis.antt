@@ -22,7 +22,7 @@ use Rattle.lanes.proofs.Passes as passes
 use Rattle.min_max_spec.specs.Call.{firstIn, numberOf}
 use Rattle.min_max_spec.specs.Run.{answerOf}
 use Rattle.min_max_spec.proofs.Passed.{length-answer, answer-in}
-use Rattle.min_max_judge.specs.Judge.{callOf, axesJudged, filterJudged}
+use Rattle.min_max_judge.specs.Judge.{callOf, filterAxesJudged, filterJudged}
 use Rattle.window.specs.Window.{badWindowOrigin, badReach}
 use Rattle.min_max.specs.Filters.{filterAnswer}
 
@@ -37,7 +37,7 @@ module _ (cells : List ℤ) (ns : List ℕ) (size : ℕ) (m : BorderMode) (o : �
 
   pub filtered : refusalOf (filterJudged cells (callOf ns size 0 m o out) second) ≡ 0 → Filtered
   filtered e =
-      let p = grid-passed badLevel ns cells (length out ∷ second ∷ []) (axesJudged ns size (borderOf m) o) (tt, (tt, (tt, (tt, tt)))) e in
+      let p = grid-passed badLevel ns cells (length out ∷ second ∷ []) (filterAxesJudged ns size (borderOf m) o) (tt, (tt, (tt, (tt, tt)))) e in
       record { grid = p .0; sizes = p .1 .0; origin = p .1 .1 .0; level = p .1 .1 .1 .0; reach = p .1 .1 .1 .1 .0 }
 
   module _ (F : Filtered) where

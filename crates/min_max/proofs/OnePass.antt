@@ -18,7 +18,7 @@ use Rattle.pad_line.specs.Line.{paddedLine}
 use Rattle.border.specs.Reach.{badPad}
 use Rattle.pad_line.specs.Lane.{LineNeeds, AxisNeeds}
 use Rattle.pad_line.proofs.OneLane.{length-line}
-use Rattle.min_max_ring.specs.Firsts.{firsts, Served}
+use Rattle.min_max_ring.specs.Extremes.{extremes, RingNeeds}
 use Rattle.min_max_spec.specs.Call.{Call, alone, axisLength, numberOf}
 use Rattle.window.specs.Window.{leftPad, rightPad}
 use Rattle.min_max_spec.specs.Run.{answerOf}
@@ -28,7 +28,7 @@ use Rattle.min_max.proofs.ByLanes.{lineOf, answer-lanes, answer-copied,
 
 -- a padded lane that has room serves the ring, where the window has two cells or more
 pub lane-served : {b : Border ℤ} {n s base left right : ℕ} {g line : List ℤ} → LineNeeds b n s base left right g line → 0 < left + right
-    → Served (length (paddedLine (pos 0) b left right (laneAt (pos 0) g base s n))) (left + right + 1) n
+    → RingNeeds (length (paddedLine (pos 0) b left right (laneAt (pos 0) g base s n))) (left + right + 1) n
 lane-served R h = let e = length-line (pos 0) R in record { wide = omega arith; narrow = omega (arith, R .narrow); short = omega (arith, R .padding .fits, R .buffer); cells = omega arith }
 
 module _ (le : ℤ → ℤ → Bool) (cells : List ℤ) (c : Call) (accept : numberOf cells c ≡ 0) where
@@ -77,8 +77,8 @@ module _ (le : ℤ → ℤ → Bool) (cells : List ℤ) (c : Call) (accept : num
       }
 
       lines : (s : List ℤ) → extremesOf le (c .border) l g s ≡ lineOf le c s
-      unfolding firsts
-      lines s = (λ j. firsts le (paddedLine (pos 0) (c .border) (L j) (G j) s) (total j) (length s))
+      unfolding extremes
+      lines s = (λ j. extremes le (paddedLine (pos 0) (c .border) (L j) (G j) s) (total j) (length s))
 
       pub swept-answer : {out : List ℤ} → out ≡ alongAxis (pos 0) (extremesOf le (c .border) l g) (c .shape) (c .axis) cells → out ≡ answerOf le cells c
       swept-answer e = e ∙ ap (λ (f : List ℤ → List ℤ). alongAxis (pos 0) f (c .shape) (c .axis) cells) (λ j s. lines s j) ∙ sym (answer-lanes le cells c accept padded)

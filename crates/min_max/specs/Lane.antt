@@ -1,7 +1,7 @@
 -- Which level of a window is kept, and one lane: what the workers fill. What a one-axis call is, which number it gets
 -- and what it fills stand in `sweeps`.
 --   orderOf e                      the test of the order: ≤ for the least level, ≥ for the greatest
---   firstsBy le size p n           the line filter: the first level, in the order, of each window of size cells of the
+--   extremesBy le size p n           the line filter: the first level, in the order, of each window of size cells of the
 --                                  padded line p, cells 0 to n − 1
 --   extremesOf le b left right s   for each cell of the line s the first level, in the order, of its window of the
 --                                  padded line
@@ -13,7 +13,7 @@ use lib.Signed.{leZ}
 use Rattle.numbers.specs.Order.{atLeast}
 use Rattle.border.specs.Border.{Border}
 use Rattle.pad_line.specs.Lane.{filteredLane}
-use Rattle.min_max_ring.specs.Firsts.{firsts}
+use Rattle.min_max_ring.specs.Extremes.{extremes}
 use Rattle.min_max.specs.declared.extreme.Extreme.{Extreme}
 use Rattle.min_max.specs.declared.extreme.Extreme.the-variants.{Least, Greatest}
 
@@ -21,8 +21,8 @@ abbrev pub orderOf : Extreme → ℤ → ℤ → Bool
 orderOf Least = leZ
 orderOf Greatest = atLeast
 
-abbrev pub firstsBy : (ℤ → ℤ → Bool) → ℕ → List ℤ → ℕ → List ℤ
-firstsBy le size p n = firsts le p size n
+abbrev pub extremesBy : (ℤ → ℤ → Bool) → ℕ → List ℤ → ℕ → List ℤ
+extremesBy le size p n = extremes le p size n
 
 abbrev pub extremesOf : (ℤ → ℤ → Bool) → Border ℤ → ℕ → ℕ → List ℤ → List ℤ
-extremesOf le b left right s = filteredLane (pos 0) (firstsBy le (left + right + 1)) b left right s
+extremesOf le b left right s = filteredLane (pos 0) (extremesBy le (left + right + 1)) b left right s

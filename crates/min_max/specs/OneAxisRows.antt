@@ -7,7 +7,7 @@ use mathlib.Core.List.{List, [], _∷_}
 use lib.IntN.{ℤ, pos, negsuc}
 use lib.Signed.{leZ}
 use Rattle.border.specs.Border.{constant, along}
-use Rattle.border.specs.declared.Along.the-variants.{Nearest, Reflect}
+use Rattle.border.specs.declared.CellBorder.the-variants.{Nearest, Reflect}
 use Rattle.border.specs.declared.BorderMode.the-variants as modes
 use Rattle.min_max_spec.specs.Run.{answerOf}
 use Rattle.min_max_judge.specs.Judge.{callOf}

@@ -4,19 +4,20 @@ ghost use mathlib.Core.Path.{_≡_};
 ghost use Prim.Native.Nat.{_+_, _<_};
 ghost use lib.IntN.{pos};
 ghost use lib.ListN.{length};
+ghost use Rattle.numbers.specs.Limits.{longestLine};
 ghost use Rattle.array_spec.specs.Grid.{lengthOf, strideOf};
 ghost use Rattle.lanes.specs.Lanes.{laneAt, alongAxis};
 ghost use Rattle.border.specs.Modes.{borderOf};
 ghost use Rattle.pad_line.specs.Lane.{LineNeeds, AxisNeeds};
-ghost use Rattle.min_max_ring.specs.Firsts.{firsts, Served};
+ghost use Rattle.min_max_ring.specs.Extremes.{extremes, RingNeeds};
 ghost use Rattle.min_max.specs.Lane.{orderOf, extremesOf};
 use crate::extreme::Extreme;
 use border::BorderMode;
 
 // Writes the least or the greatest level of each window of a padded line.
 fn filter_line(extreme: Extreme, size: usize, line: &[i64], out: &mut [i64])
-    requires { ⌜ Served (length (now line)) size (length (now out)) ⌝ }
-    ensures { λ _. ⌜ now (out .exit) ≡ firsts (orderOf extreme) (now (line .entry)) size (length (now (out .entry))) ⌝ }
+    requires { ⌜ RingNeeds (length (now line)) size (length (now out)) ⌝ }
+    ensures { λ _. ⌜ now (out .exit) ≡ extremes (orderOf extreme) (now (line .entry)) size (length (now (out .entry))) ⌝ }
 {
     match extreme {
         Extreme::Least => min_max_line::minimum_windows(line, size, out),
@@ -59,7 +60,7 @@ fn filter_rows(
     line: &mut [i64],
     out: &mut [i64],
 )
-    requires { ⌜ AxisNeeds (borderOf mode) (now shape) axis left right (now «data») (now out) × (0 < left + right) × (length (now line) ≡ 1088) × (strideOf (now shape) axis ≡ 1) ⌝ }
+    requires { ⌜ AxisNeeds (borderOf mode) (now shape) axis left right (now «data») (now out) × (0 < left + right) × (length (now line) ≡ longestLine) × (strideOf (now shape) axis ≡ 1) ⌝ }
     ensures { λ _. ⌜ now (out .exit) ≡ alongAxis (pos 0) (extremesOf (orderOf extreme) (borderOf mode) left right) (now (shape .entry)) axis (now («data» .entry)) ⌝ }
 {
     let along = lanes::lanes_of(shape, axis);
@@ -99,7 +100,7 @@ fn filter_lanes(
     swept: &mut [i64],
     out: &mut [i64],
 )
-    requires { ⌜ AxisNeeds (borderOf mode) (now shape) axis left right (now «data») (now out) × (0 < left + right) × (length (now line) ≡ 1088) × (length (now swept) ≡ lengthOf (now shape) axis) ⌝ }
+    requires { ⌜ AxisNeeds (borderOf mode) (now shape) axis left right (now «data») (now out) × (0 < left + right) × (length (now line) ≡ longestLine) × (length (now swept) ≡ lengthOf (now shape) axis) ⌝ }
     ensures { λ _. ⌜ now (out .exit) ≡ alongAxis (pos 0) (extremesOf (orderOf extreme) (borderOf mode) left right) (now (shape .entry)) axis (now («data» .entry)) ⌝ }
 {
     let along = lanes::lanes_of(shape, axis);
@@ -141,11 +142,11 @@ fn filter_columns(
     line: &mut [i64],
     out: &mut [i64],
 )
-    requires { ⌜ AxisNeeds (borderOf mode) (now shape) axis left right (now «data») (now out) × (0 < left + right) × (length (now line) ≡ 1088) ⌝ }
+    requires { ⌜ AxisNeeds (borderOf mode) (now shape) axis left right (now «data») (now out) × (0 < left + right) × (length (now line) ≡ longestLine) ⌝ }
     ensures { λ _. ⌜ now (out .exit) ≡ alongAxis (pos 0) (extremesOf (orderOf extreme) (borderOf mode) left right) (now (shape .entry)) axis (now («data» .entry)) ⌝ }
 {
     let n = array::len_of(shape, axis);
-    let mut swept = [0; 1024];
+    let mut swept = [0; numbers::LONGEST_AXIS];
     filter_lanes(
         extreme,
         mode,
@@ -175,7 +176,7 @@ pub(crate) fn filter_axis(
     requires { ⌜ AxisNeeds (borderOf mode) (now shape) axis left right (now «data») (now out) × (0 < left + right) ⌝ }
     ensures { λ _. ⌜ now (out .exit) ≡ alongAxis (pos 0) (extremesOf (orderOf extreme) (borderOf mode) left right) (now (shape .entry)) axis (now («data» .entry)) ⌝ }
 {
-    let mut line = [0; 1088];
+    let mut line = [0; numbers::LONGEST_LINE];
     if lanes::stride_of(shape, axis) == 1 {
         filter_rows(
             extreme,

@@ -12,7 +12,7 @@ use lib.ListN.{drop}
 use Rattle.numbers.specs.Ranges.{outside}
 use Rattle.numbers.specs.Refusal.{Judged, refusalOf}
 use Rattle.numbers.proofs.Refusal.{judged-all, chain-stops}
-use Rattle.numbers.proofs.Tests.{told}
+use Rattle.numbers.proofs.Tests.{condition-is}
 use Rattle.border.specs.Border.{Border}
 use Rattle.window.specs.Origin.{badOrigin, originPads}
 use Rattle.window.proofs.Answered.{not-refused, left-is, right-is}

@@ -11,11 +11,11 @@ use lib.IntN.{ℤ, pos, negsuc}
 use Rattle.numbers.specs.Refusal.{refusalOf}
 use Rattle.border.specs.Border.{along}
 use Rattle.border.specs.Modes.{borderOf}
-use Rattle.border.specs.declared.Along.the-variants.{Mirror}
+use Rattle.border.specs.declared.CellBorder.the-variants.{Mirror}
 use Rattle.border.specs.declared.BorderMode.{BorderMode}
 use Rattle.border.specs.declared.BorderMode.the-variants as modes
 use Rattle.min_max_spec.specs.Call.{Call, callJudged}
-use Rattle.min_max_judge.specs.Judge.{callOf, axesJudged, filterJudged}
+use Rattle.min_max_judge.specs.Judge.{callOf, filterAxesJudged, filterJudged}
 
 abbrev pub square : List ℤ
 square = pos 5 ∷ pos 3 ∷ pos 4 ∷ pos 9 ∷ []
@@ -41,4 +41,4 @@ pub record MinMaxJudgeRows : Type 0 where
   pub origin-1 : refusalOf (filterJudged square (onSquare 2 modes.Nearest (pos 1)) 4) ≡ 7
   pub constant-out : refusalOf (filterJudged square (onSquare 2 (modes.Constant (pos 2147483648)) (pos 0)) 4) ≡ 9
   pub reach-out : refusalOf (filterJudged square (onSquare 5 modes.Mirror (pos 0)) 4) ≡ 11
-  pub last-axis-out : refusalOf (axesJudged (9 ∷ 2 ∷ []) 5 (along Mirror) (pos 0)) ≡ 11
+  pub last-axis-out : refusalOf (filterAxesJudged (9 ∷ 2 ∷ []) 5 (along Mirror) (pos 0)) ≡ 11

@@ -4,11 +4,10 @@ ghost use mathlib.Core.Bool.{false, not, _&&_};
 ghost use mathlib.Core.List.{[]};
 ghost use lib.Dec.{eqb};
 ghost use Rattle.numbers.specs.Lists.{anyOf};
-ghost use Rattle.numbers.specs.Ranges.{outside};
 ghost use Rattle.numbers.specs.Refusal.{refusalOf};
 ghost use Rattle.border.specs.Modes.{borderOf};
 ghost use Rattle.min_max_spec.specs.Call.{windowJudged, callJudged};
-ghost use Rattle.min_max_judge.specs.Judge.{callOf, sizeJudged, axesJudged, filterJudged};
+ghost use Rattle.min_max_judge.specs.Judge.{callOf, sizeJudged, filterAxesJudged, filterJudged};
 ghost use Rattle.min_max_judge.specs.Rows.{MinMaxJudgeRows};
 use border::BorderMode;
 
@@ -79,7 +78,7 @@ pub fn judge_call(
 
 // Conditions 5, 7, 9 and 11 of a window along every axis.
 fn judge_axes(shape: &[usize], size: usize, mode: BorderMode, origin: isize) -> u8
-    ensures { λ r. ⌜ r ≡ refusalOf (axesJudged (now (shape .entry)) size (borderOf mode) origin) ⌝ }
+    ensures { λ r. ⌜ r ≡ refusalOf (filterAxesJudged (now (shape .entry)) size (borderOf mode) origin) ⌝ }
 {
     let refusal = judge_size(size, origin);
     if refusal != 0 {

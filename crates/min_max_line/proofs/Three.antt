@@ -11,7 +11,7 @@ use lib.Signed.{mag}
 use mir.Syntax.{w64}
 use mir.Val.{toZ, ofZ}
 use Rattle.numbers.specs.Lists.{tabulate}
-use Rattle.numbers.specs.Order.{least, leastFrom}
+use Rattle.numbers.specs.Order.{extreme, extremeFrom}
 use Rattle.numbers.specs.Windows.{windowOf}
 use Rattle.numbers.proofs.Read.{read}
 use Rattle.numbers.proofs.Tabulate.{tabulate-unique}
@@ -21,16 +21,16 @@ module _ (le : ℤ → ℤ → Bool) (s : List ℤ) (i : ℕ) (h : i + 3 ≤ len
   cells : windowOf s i 3 ≡ tabulate (λ j. getD s (i + j) (pos 0)) 0 3
   cells = tabulate-unique (pos 0) (λ j. getD s (i + j) (pos 0)) (windowOf s i 3) 3 (length-window s i 3 h) (λ j b. getD-window s i 3 j (pos 0) h b)
 
-  in-turn : least le (pos 0) (windowOf s i 3) ≡ leastFrom le (getD s (i + 0) (pos 0)) (getD s (i + 1) (pos 0) ∷ getD s (i + 2) (pos 0) ∷ [])
+  in-turn : extreme le (pos 0) (windowOf s i 3) ≡ extremeFrom le (getD s (i + 0) (pos 0)) (getD s (i + 1) (pos 0) ∷ getD s (i + 2) (pos 0) ∷ [])
   unfolding tabulate
-  in-turn = ap (least le (pos 0)) cells
+  in-turn = ap (extreme le (pos 0)) cells
 
-  first-three : leastFrom le (getD s i (pos 0)) (getD s (i + 1) (pos 0) ∷ getD s (i + 2) (pos 0) ∷ []) ≡ least le (pos 0) (windowOf s i 3)
-  first-three = ap (λ (k : ℕ). leastFrom le (getD s k (pos 0)) (getD s (i + 1) (pos 0) ∷ getD s (i + 2) (pos 0) ∷ [])) (sym (add-zero i)) ∙ sym in-turn
+  first-three : extremeFrom le (getD s i (pos 0)) (getD s (i + 1) (pos 0) ∷ getD s (i + 2) (pos 0) ∷ []) ≡ extreme le (pos 0) (windowOf s i 3)
+  first-three = ap (λ (k : ℕ). extremeFrom le (getD s k (pos 0)) (getD s (i + 1) (pos 0) ∷ getD s (i + 2) (pos 0) ∷ [])) (sym (add-zero i)) ∙ sym in-turn
 
   -- x, y and z are the three cells, b is the first of x and y, and r of b and z
   pub three-read : {x y z b r : ℤ} → x ≡ getD s i (pos 0) → y ≡ getD s (i + 1) (pos 0) → z ≡ getD s (i + 2) (pos 0) → mag b < 2 ^ 63 → mag r < 2 ^ 63
-      → b ≡ leastFrom le x (y ∷ []) → r ≡ leastFrom le (toZ w64 (ofZ w64 b)) (z ∷ []) → toZ w64 (ofZ w64 r) ≡ least le (pos 0) (windowOf s i 3)
+      → b ≡ extremeFrom le x (y ∷ []) → r ≡ extremeFrom le (toZ w64 (ofZ w64 b)) (z ∷ []) → toZ w64 (ofZ w64 r) ≡ extreme le (pos 0) (windowOf s i 3)
   three-read ex ey ez hb hr p q =
-      let e = read hb (p ∙ (λ j. leastFrom le (ex j) (ey j ∷ []))) in
-      read hr (q ∙ (λ j. leastFrom le (e j) (ez j ∷ []))) ∙ first-three
+      let e = read hb (p ∙ (λ j. extremeFrom le (ex j) (ey j ∷ []))) in
+      read hr (q ∙ (λ j. extremeFrom le (e j) (ez j ∷ []))) ∙ first-three

@@ -5,7 +5,7 @@
 ghost use mathlib.Core.Path.{_≡_};
 ghost use lib.ListN.{length};
 ghost use Rattle.numbers.specs.Order.{atLeast};
-ghost use Rattle.min_max_ring.specs.Firsts.{Served, firsts, sweptBy};
+ghost use Rattle.min_max_ring.specs.Extremes.{RingNeeds, extremes, sweptBy};
 use crate::three_cells::three_cells;
 use min_max_ring::Pair;
 use min_max_ring::place;
@@ -13,11 +13,11 @@ use min_max_ring::serves;
 
 // Writes the greatest of line[i .. i + len] to each cell i of out.
 fn maximum_cells(line: &[i64], len: usize, out: &mut [i64])
-    requires { ⌜ Served (length (now line)) len (length (now out)) ⌝ }
-    ensures { λ _. ⌜ now (out .exit) ≡ firsts atLeast (now (line .entry)) len (length (now (out .entry))) ⌝ }
+    requires { ⌜ RingNeeds (length (now line)) len (length (now out)) ⌝ }
+    ensures { λ _. ⌜ now (out .exit) ≡ extremes atLeast (now (line .entry)) len (length (now (out .entry))) ⌝ }
 {
     let none = Pair { val: 0, death: 0 };
-    let mut pairs = [none; 65];
+    let mut pairs = [none; numbers::LONGEST_WINDOW];
     let mut front = line[0];
     let mut death = len;
     pairs[0] = Pair { val: front, death };
@@ -86,8 +86,8 @@ fn maximum_cells(line: &[i64], len: usize, out: &mut [i64])
 
 // As `maximum_line`, of a line that the ring serves: for a caller that knows so, as the loop over lanes does.
 pub fn maximum_windows(line: &[i64], len: usize, out: &mut [i64])
-    requires { ⌜ Served (length (now line)) len (length (now out)) ⌝ }
-    ensures { λ _. ⌜ now (out .exit) ≡ firsts atLeast (now (line .entry)) len (length (now (out .entry))) ⌝ }
+    requires { ⌜ RingNeeds (length (now line)) len (length (now out)) ⌝ }
+    ensures { λ _. ⌜ now (out .exit) ≡ extremes atLeast (now (line .entry)) len (length (now (out .entry))) ⌝ }
 {
     if len == 3 {
         three_cells(true, line, out);

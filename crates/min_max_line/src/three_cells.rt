@@ -4,12 +4,12 @@ ghost use mathlib.Core.Path.{_≡_};
 ghost use mathlib.Core.List.{[], _∷_};
 ghost use Prim.Native.Nat.{_+_};
 ghost use lib.ListN.{length};
-ghost use Rattle.numbers.specs.Order.{leastFrom};
-ghost use Rattle.min_max_ring.specs.Firsts.{firsts, orderOf};
+ghost use Rattle.numbers.specs.Order.{extremeFrom};
+ghost use Rattle.min_max_ring.specs.Extremes.{extremes, orderBy};
 
 // Of two levels the greater where greatest is true, else the lesser. The compiler takes the test of the flag out of the loop that asks it.
 fn first_of(greatest: bool, a: i64, b: i64) -> i64
-    ensures { λ r. ⌜ r ≡ leastFrom (orderOf greatest) a (b ∷ []) ⌝ }
+    ensures { λ r. ⌜ r ≡ extremeFrom (orderBy greatest) a (b ∷ []) ⌝ }
 {
     if greatest {
         if a < b {
@@ -28,7 +28,7 @@ fn first_of(greatest: bool, a: i64, b: i64) -> i64
 // of each choice, where it emulates 64-bit comparisons by vector instructions if all three are read anew: 0.42 to 0.48 ns a cell for 0.94 to 0.97, in C by the same compiler.
 pub(crate) fn three_cells(greatest: bool, line: &[i64], out: &mut [i64])
     requires { ⌜ length (now out) + 3 ≡ length (now line) + 1 ⌝ }
-    ensures { λ _. ⌜ now (out .exit) ≡ firsts (orderOf greatest) (now (line .entry)) 3 (length (now (out .entry))) ⌝ }
+    ensures { λ _. ⌜ now (out .exit) ≡ extremes (orderBy greatest) (now (line .entry)) 3 (length (now (out .entry))) ⌝ }
 {
     let n = out.len();
     let mut x0 = line[0];

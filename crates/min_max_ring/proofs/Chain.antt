@@ -10,9 +10,9 @@ use borrow.Author.Count.{below-more}
 use lib.Dec.{T}
 use lib.IntN.{ℤ, pos}
 use lib.ListN.{length, getD}
-use Rattle.numbers.specs.Order.{Total, least}
+use Rattle.numbers.specs.Order.{Total, extreme}
 use Rattle.numbers.specs.Windows.{windowOf}
-use Rattle.numbers.proofs.Least.{least-unique-at}
+use Rattle.numbers.proofs.Extreme.{extreme-unique-at}
 use Rattle.numbers.proofs.Window.{length-window, getD-window}
 use Rattle.min_max_ring.specs.declared.Pair.{Pair}
 
@@ -107,14 +107,14 @@ module _ {le : ℤ → ℤ → Bool} (O : Total le) (line : List ℤ) (len : ℕ
   chain-trimmed v i lo (p ∷ ps) q t h = (h .0, chain-trimmed v i (p .death - len + 1) ps q t (h .1))
 
   -- the first pair of the last len cells is the first of the window
-  pub chain-answer : (k : ℕ) (p : Pair) (ps : List Pair) → k + len ≤ length line → Covered le line len (k + len) k (p ∷ ps) → p .val ≡ least le (pos 0) (windowOf line k len)
+  pub chain-answer : (k : ℕ) (p : Pair) (ps : List Pair) → k + len ≤ length line → Covered le line len (k + len) k (p ∷ ps) → p .val ≡ extreme le (pos 0) (windowOf line k len)
   unfolding Chain
   chain-answer k p ps b h =
       let g = h .0 in
       let n = length-window line k len b in
       let at = p .death - len - k in
       let m : k + at ≡ p .death - len = omega arith in
-      least-unique-at le O (pos 0) (p .val) (windowOf line k len) at (omega arith)
+      extreme-unique-at le O (pos 0) (p .val) (windowOf line k len) at (omega arith)
       (g .lies .is ∙ ap (λ (z : ℕ). getD line z (pos 0)) (sym m) ∙ sym (getD-window line k len at (pos 0) b (omega arith)))
       (λ j l. subst (λ (z : ℤ). T (le (p .val) z)) (sym (getD-window line k len j (pos 0) b (omega arith))) (g .first (k + j) (omega arith) (omega arith)))
 

@@ -12,14 +12,14 @@ use lib.ListN.{getD, length, set}
 use lib.Seq.{getD-set-same, getD-set-other}
 use Rattle.numbers.proofs.Tests.{cond-yes, cond-no}
 use Rattle.min_max_ring.specs.declared.Pair.{Pair}
-use Rattle.min_max_ring.specs.Ring.{placeOf, noPair, itemsFrom}
+use Rattle.min_max_ring.specs.Ring.{ringPlace, noPair, itemsFrom}
 
 -- once round is the remainder
-pub place-mod : (k : ℕ) → k < 130 → placeOf k ≡ k % 65
-unfolding placeOf
+pub place-mod : (k : ℕ) → k < 130 → ringPlace k ≡ k % 65
+unfolding ringPlace
 place-mod k h = go (decLt k 65)
   where
-    go : Dec (k < 65) → placeOf k ≡ k % 65
+    go : Dec (k < 65) → ringPlace k ≡ k % 65
     go (yes l) = cond-yes _ k (k - 65) (lt-ltb k 65 l) ∙ sym (mod-eq-of-lt l)
     go (no l) = let b : 65 ≤ k = omega arith in cond-no _ k (k - 65) (le-ltb k 65 b) ∙ omega arith
 

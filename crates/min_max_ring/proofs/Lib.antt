@@ -1,5 +1,5 @@
 -- Laws that belong to no one function, leaves first.
-pub mod Served
+pub mod RingNeeds
 pub mod Items
 pub mod Chain
 pub mod Ring

@@ -11,11 +11,11 @@ use lib.Dec.{T}
 use lib.IntN.{ℤ, pos}
 use lib.ListN.{length, getD, set, length-set}
 use lib.Seq.{getD-set-same, getD-set-other}
-use Rattle.numbers.specs.Order.{Total, least}
+use Rattle.numbers.specs.Order.{Total, extreme}
 use Rattle.numbers.specs.Windows.{windowOf}
 use Rattle.numbers.proofs.Tests.{T-true, T-false}
 use Rattle.min_max_ring.specs.declared.Pair.{Pair}
-use Rattle.min_max_ring.specs.Ring.{placeOf, noPair, itemsFrom}
+use Rattle.min_max_ring.specs.Ring.{ringPlace, noPair, itemsFrom}
 use Rattle.min_max_ring.proofs.Items.{place-mod, length-items, items-turned, items-front, items-back, items-pushed}
 use Rattle.min_max_ring.proofs.Chain.{Covered, Open, chain-open, chain-room, chain-some, chain-expired, chain-kept, chain-last-cell, chain-trimmed, chain-answer, chain-alone, chain-replaced, chain-pushed}
 
@@ -74,7 +74,7 @@ module _ {le : ℤ → ℤ → Bool} (O : Total le) {line : List ℤ} {len : ℕ
     ring-front = subst (λ (l : List Pair). Covered le line len i lo l) ring-items (r .covered)
 
     -- the front is the first of its window
-    pub ring-answer : i ≡ lo + len → i ≤ length line → front ≡ least le (pos 0) (windowOf line lo len)
+    pub ring-answer : i ≡ lo + len → i ≤ length line → front ≡ extreme le (pos 0) (windowOf line lo len)
     ring-answer e b =
         chain-answer O line len lo (pair front death) (itemsFrom ps (start + 1) (count - 1)) (omega arith)
         (subst (λ (k : ℕ). Covered le line len k lo (pair front death ∷ itemsFrom ps (start + 1) (count - 1))) e ring-front)
@@ -101,7 +101,7 @@ module _ {le : ℤ → ℤ → Bool} (O : Total le) {line : List ℤ} {len : ℕ
 
   module _ {i : ℕ} {ps : List Pair} {start count : ℕ} {front : ℤ} {death : ℕ} (r : Ring le line len i (i - len) ps start count front death) where
     -- the front's cell leaves the window
-    pub ring-popped : death ≡ i → {s : ℕ} → s ≡ placeOf (start + 1) → Ring le line len i (i + 1 - len) ps s (count - 1) (getD ps s noPair .val) (getD ps s noPair .death)
+    pub ring-popped : death ≡ i → {s : ℕ} → s ≡ ringPlace (start + 1) → Ring le line len i (i + 1 - len) ps s (count - 1) (getD ps s noPair .val) (getD ps s noPair .death)
     ring-popped e {s} q =
         let m : s ≡ (start + 1) % 65 = q ∙ place-mod (start + 1) (omega arith) in
         let rest : Covered le line len i (i + 1 - len) (itemsFrom ps s (count - 1))
@@ -148,7 +148,7 @@ module _ {le : ℤ → ℤ → Bool} (O : Total le) {line : List ℤ} {len : ℕ
         omega arith
 
     -- the back goes, and the pair before it, at place b, is the back
-    pub trim-more : le v front ≡ false → le v last ≡ true → {b : ℕ} {last′ : ℤ} → b ≡ placeOf (start + (count - 1) - 1) → last′ ≡ getD ps b noPair .val
+    pub trim-more : le v front ≡ false → le v last ≡ true → {b : ℕ} {last′ : ℤ} → b ≡ ringPlace (start + (count - 1) - 1) → last′ ≡ getD ps b noPair .val
         → Trimming le line len v i lo ps start count₀ (count - 1) front death last′
     trim-more f t q e =
         let n = trim-two f t in
@@ -165,7 +165,7 @@ module _ {le : ℤ → ℤ → Bool} (O : Total le) {line : List ℤ} {len : ℕ
         }
 
     -- the back comes before v: the cell i goes behind it, at place at
-    pub ring-pushed : v ≡ getD line i (pos 0) → le v last ≡ false → {at : ℕ} → at ≡ placeOf (start + count)
+    pub ring-pushed : v ≡ getD line i (pos 0) → le v last ≡ false → {at : ℕ} → at ≡ ringPlace (start + count)
         → Ring le line len (i + 1) lo (set ps at (pair v (i + len))) start (count + 1) front death
     ring-pushed is t {at} q =
         let r = g .ring in

@@ -10,12 +10,12 @@ use lib.IntN.{ℤ, pos}
 use lib.ListN.{length, getD, set}
 use mir.Syntax.{w64}
 use mir.Val.{Fits}
-use Rattle.numbers.specs.Order.{Total, least}
+use Rattle.numbers.specs.Order.{Total, extreme}
 use Rattle.numbers.specs.Windows.{windowOf}
 use Rattle.numbers.proofs.Stored.{Stored, front-none, front-more, front-all}
 use Rattle.min_max_ring.specs.declared.Pair.{Pair}
-use Rattle.min_max_ring.specs.Firsts.{Served, firsts}
-use Rattle.min_max_ring.specs.Ring.{placeOf, noPair}
+use Rattle.min_max_ring.specs.Extremes.{RingNeeds, extremes}
+use Rattle.min_max_ring.specs.Ring.{ringPlace, noPair}
 use Rattle.min_max_ring.proofs.Items.{place-mod}
 use Rattle.min_max_ring.proofs.Ring.{Ring, Trimming, pair, ring-begun, ring-answer, ring-pushed, trim-begun, trim-two, trim-more}
 
@@ -26,22 +26,22 @@ pub record Filling (le : ℤ → ℤ → Bool) (line : List ℤ) (len : ℕ) (ps
 
 -- The loop has passed the cells up to i, and written the first of each window that ends before i.
 pub record Sweeping (le : ℤ → ℤ → Bool) (line : List ℤ) (len : ℕ) (out₀ out : List ℤ) (ps : List Pair) (start count : ℕ) (front : ℤ) (death i : ℕ) : Type 0 where
-  pub served : Served (length line) len (length out₀)
+  pub served : RingNeeds (length line) len (length out₀)
   pub reached : len ≤ i + 1
   pub inside : i ≤ length line
   pub ring : Ring le line len i (i - len) ps start count front death
-  pub stored : Stored (pos 0) (λ k. ltb k (i + 1 - len)) (λ k. least le (pos 0) (windowOf line k len)) out₀ out
+  pub stored : Stored (pos 0) (λ k. ltb k (i + 1 - len)) (λ k. extreme le (pos 0) (windowOf line k len)) out₀ out
 
 -- ---- places that a turn reads and stores at
 pub slot-fits : {k : ℕ} → k < 65 → Fits w64 (k * 16)
 slot-fits h = record { fits = omega arith }
 
-place-in : (k : ℕ) → k < 130 → {r : ℕ} → r ≡ placeOf k → r < 65
+place-in : (k : ℕ) → k < 130 → {r : ℕ} → r ≡ ringPlace k → r < 65
 place-in k h e = omega (arith, e ∙ place-mod k h)
 
 -- the place after the start
 pub next-in : {le : ℤ → ℤ → Bool} {line : List ℤ} {len i lo : ℕ} {ps : List Pair} {start count : ℕ} {front : ℤ} {death : ℕ} → Ring le line len i lo ps start count front death
-    → {s : ℕ} → s ≡ placeOf (start + 1) → s < 65
+    → {s : ℕ} → s ≡ ringPlace (start + 1) → s < 65
 next-in {start = start} r e = place-in (start + 1) (omega arith) e
 
 module _ {le : ℤ → ℤ → Bool} {line : List ℤ} {len : ℕ} {v : ℤ} {i lo : ℕ} {ps : List Pair} {start count₀ count : ℕ} {front : ℤ} {death : ℕ} {last : ℤ}
@@ -50,14 +50,14 @@ module _ {le : ℤ → ℤ → Bool} {line : List ℤ} {len : ℕ} {v : ℤ} {i 
   pub back-sum : Fits w64 (start + (count - 1))
   back-sum = record { fits = omega arith }
 
-  pub back-in : {b : ℕ} → b ≡ placeOf (start + (count - 1) - 1) → b < 65
+  pub back-in : {b : ℕ} → b ≡ ringPlace (start + (count - 1) - 1) → b < 65
   back-in e = place-in (start + (count - 1) - 1) (omega arith) e
 
   -- the place behind the last pair
   pub behind-sum : Fits w64 (start + count)
   behind-sum = record { fits = omega arith }
 
-  pub behind-in : {b : ℕ} → b ≡ placeOf (start + count) → b < 65
+  pub behind-in : {b : ℕ} → b ≡ ringPlace (start + count) → b < 65
   behind-in e = place-in (start + count) (omega arith) e
 
 module _ {le : ℤ → ℤ → Bool} (O : Total le) {line : List ℤ} {len : ℕ} where
@@ -83,7 +83,7 @@ module _ {le : ℤ → ℤ → Bool} (O : Total le) {line : List ℤ} {len : ℕ
 
   -- ---- every further window
   -- the first window lacks one cell
-  pub sweep-begun : {ps : List Pair} {count : ℕ} {front : ℤ} {death i : ℕ} (out : List ℤ) → Filling le line len ps count front death i → len ≤ i + 1 → Served (length line) len (length out)
+  pub sweep-begun : {ps : List Pair} {count : ℕ} {front : ℤ} {death i : ℕ} (out : List ℤ) → Filling le line len ps count front death i → len ≤ i + 1 → RingNeeds (length line) len (length out)
       → Sweeping le line len out out ps 0 count front death i
   sweep-begun {i = i} out f h s =
       let z : i - len ≡ 0 = omega arith in
@@ -93,7 +93,7 @@ module _ {le : ℤ → ℤ → Bool} (O : Total le) {line : List ℤ} {len : ℕ
         reached = h;
         inside = omega arith;
         ring = rw z (f .ring);
-        stored = rw y (front-none (pos 0) (λ k. least le (pos 0) (windowOf line k len)) out);
+        stored = rw y (front-none (pos 0) (λ k. extreme le (pos 0) (windowOf line k len)) out);
       }
 
   module _ {out₀ out : List ℤ} {ps : List Pair} {start count : ℕ} {front : ℤ} {death i : ℕ} (s : Sweeping le line len out₀ out ps start count front death i) where
@@ -111,10 +111,10 @@ module _ {le : ℤ → ℤ → Bool} (O : Total le) {line : List ℤ} {len : ℕ
           reached = omega arith;
           inside = omega arith;
           ring = r;
-          stored = rw z (front-more (pos 0) (λ k. least le (pos 0) (windowOf line k len)) front′ (omega arith) (s .stored) (ring-answer O r (omega arith) (omega arith)));
+          stored = rw z (front-more (pos 0) (λ k. extreme le (pos 0) (windowOf line k len)) front′ (omega arith) (s .stored) (ring-answer O r (omega arith) (omega arith)));
         }
 
     -- every window is written
-    pub sweep-ended : length line ≤ i → out ≡ firsts le line len (length out₀)
-    unfolding firsts
-    sweep-ended b = front-all (pos 0) (λ k. least le (pos 0) (windowOf line k len)) (omega arith) (s .stored)
+    pub sweep-ended : length line ≤ i → out ≡ extremes le line len (length out₀)
+    unfolding extremes
+    sweep-ended b = front-all (pos 0) (λ k. extreme le (pos 0) (windowOf line k len)) (omega arith) (s .stored)

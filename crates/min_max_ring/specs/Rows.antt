@@ -3,7 +3,7 @@
 --   leasts len n      the least of each of n windows of len cells of it
 --   greatests len n   the greatest of each
 --   full              an array of 65 pairs, the pair at place k with death k
---   MinlistRows       the rows
+--   MinMaxRingRows       the rows
 use Prim.Native.Nat.{ℕ}
 use mathlib.Core.Path.{_≡_}
 use mathlib.Core.Bool.{true, false}
@@ -15,24 +15,24 @@ use Rattle.numbers.specs.Lists.{tabulate}
 use Rattle.numbers.specs.Order.{atLeast}
 use Rattle.numbers.specs.Rows.{wholes}
 use Rattle.min_max_ring.specs.declared.Pair.{Pair}
-use Rattle.min_max_ring.specs.Firsts.{orderOf, firsts, serving, sweptBy}
-use Rattle.min_max_ring.specs.Ring.{placeOf, itemsFrom}
+use Rattle.min_max_ring.specs.Extremes.{orderBy, extremes, serving, sweptBy}
+use Rattle.min_max_ring.specs.Ring.{ringPlace, itemsFrom}
 
 abbrev pub padded : List ℤ
 padded = wholes (4 ∷ 4 ∷ 2 ∷ 7 ∷ 1 ∷ 1 ∷ [])
 
 abbrev pub leasts : ℕ → ℕ → List ℤ
-leasts len n = firsts leZ padded len n
+leasts len n = extremes leZ padded len n
 
 abbrev pub greatests : ℕ → ℕ → List ℤ
-greatests len n = firsts atLeast padded len n
+greatests len n = extremes atLeast padded len n
 
 abbrev pub full : List Pair
 full = tabulate (λ k. record { val = pos 0; death = k }) 0 65
 
-pub record MinlistRows : Type 0 where
+pub record MinMaxRingRows : Type 0 where
   -- 3 comes before 2 in the order of the greatest, not in that of the least
-  pub orders : orderOf true (pos 3) (pos 2) ∷ orderOf false (pos 3) (pos 2) ∷ [] ≡ true ∷ false ∷ []
+  pub orders : orderBy true (pos 3) (pos 2) ∷ orderBy false (pos 3) (pos 2) ∷ [] ≡ true ∷ false ∷ []
   -- T4: windows of 3, then windows of 2 and one of the whole line
   pub least-three : leasts 3 4 ≡ wholes (2 ∷ 2 ∷ 1 ∷ 1 ∷ [])
   pub greatest-three : greatests 3 4 ≡ wholes (4 ∷ 7 ∷ 7 ∷ 7 ∷ [])
@@ -48,5 +48,5 @@ pub record MinlistRows : Type 0 where
   pub not-swept : sweptBy leZ padded 3 (wholes (9 ∷ 9 ∷ 9 ∷ [])) ≡ wholes (9 ∷ 9 ∷ 9 ∷ [])
   pub single : sweptBy leZ padded 1 (replicate 6 (pos 9)) ≡ replicate 6 (pos 9)
   -- the ring's last place, its first again, and pairs read round its end
-  pub places : map placeOf (0 ∷ 64 ∷ 65 ∷ 129 ∷ []) ≡ 0 ∷ 64 ∷ 0 ∷ 64 ∷ []
+  pub places : map ringPlace (0 ∷ 64 ∷ 65 ∷ 129 ∷ []) ≡ 0 ∷ 64 ∷ 0 ∷ 64 ∷ []
   pub round : map (λ p. p .death) (itemsFrom full 63 4) ≡ 63 ∷ 64 ∷ 0 ∷ 1 ∷ []

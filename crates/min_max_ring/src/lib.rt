@@ -4,9 +4,9 @@
 // MINLIST: Richard Harter, "The minimum on a sliding window algorithm". The ring holds levels of the window, each with the cell
 // at which it dies, from the front, the least of the window, to the back, the cell read last.
 ghost use mathlib.Core.Path.{_≡_};
-ghost use Rattle.min_max_ring.specs.Firsts.{serving};
-ghost use Rattle.min_max_ring.specs.Ring.{placeOf};
-ghost use Rattle.min_max_ring.specs.Rows.{MinlistRows};
+ghost use Rattle.min_max_ring.specs.Extremes.{serving};
+ghost use Rattle.min_max_ring.specs.Ring.{ringPlace};
+ghost use Rattle.min_max_ring.specs.Rows.{MinMaxRingRows};
 
 // A level of the window, and the cell at whose reading it leaves the window: one window's length after its own.
 pub struct Pair {
@@ -17,12 +17,12 @@ pub struct Pair {
 // The place of the ring that is k places from its array's start, at most once round the end: 64 is place 64, 65 is place 0.
 // Refuses nothing.
 pub fn place(k: usize) -> usize
-    ensures { λ r. ⌜ r ≡ placeOf k ⌝ }
+    ensures { λ r. ⌜ r ≡ ringPlace k ⌝ }
 {
-    if k < 65 {
+    if k < numbers::LONGEST_WINDOW {
         return k;
     }
-    k - 65
+    k - numbers::LONGEST_WINDOW
 }
 
 // Whether the ring serves a line: windows of 2 to 65 cells, at most 1,088 cells, and a cell of output for each window.
@@ -38,10 +38,10 @@ pub fn serves(n: usize, len: usize, m: usize) -> bool
     if len < 2 {
         return false;
     }
-    if 65 < len {
+    if numbers::LONGEST_WINDOW < len {
         return false;
     }
-    if 1088 < n {
+    if numbers::LONGEST_LINE < n {
         return false;
     }
     if n + 1 < len {
@@ -52,5 +52,5 @@ pub fn serves(n: usize, len: usize, m: usize) -> bool
 
 // Worked rows of this crate's definitions. Refuses nothing.
 pub fn rows()
-    ensures { λ _. ⌜ MinlistRows ⌝ }
+    ensures { λ _. ⌜ MinMaxRingRows ⌝ }
 {}

@@ -11,8 +11,8 @@ use lib.Dec.{T, ltb, eqb}
 use lib.IntN.{ℤ, pos, natAbs}
 use lib.ListN.{length, getD, length-map}
 use Rattle.numbers.specs.Lists.{Every}
-use Rattle.numbers.specs.Order.{Total, least}
-use Rattle.numbers.proofs.Least.{least-bound, least-occurs}
+use Rattle.numbers.specs.Order.{Total, extreme}
+use Rattle.numbers.proofs.Extreme.{extreme-bound, extreme-occurs}
 use Rattle.numbers.proofs.Range.{length-up}
 use Rattle.numbers.proofs.Tabulate.{getD-tabulate}
 use Rattle.numbers.proofs.Tests.{or-false}
@@ -24,21 +24,21 @@ use Rattle.array_spec.proofs.Shapes.{shape-accepted}
 use Rattle.border.specs.Border.{Border, constant, along, cellFor, extendedLane, extendedGrid}
 use Rattle.min_max_spec.specs.Call.{Call, InWindow, window, firstIn, gridNumber}
 use Rattle.min_max_spec.specs.Run.{laneLevel, answerOf, run, accepted}
-use Rattle.min_max_spec.specs.Order.{Point, cellAt, timesSwept, Sweeps, InBox, Least}
+use Rattle.min_max_spec.specs.Order.{Point, cellAt, timesSwept, Sweeps, InBox, Extremum}
 use Rattle.min_max_spec.proofs.Passed.{Passed, length-answer, kept, fill, accepted-kept, run-fill, kept-passed}
 use Rattle.min_max_spec.proofs.Windows.{Lands, in-list, in-window, cell-inside, lands-inside, lands}
 use Rattle.min_max_spec.proofs.Sweep.{moved-same, moved-other, all-intro, Swept, sweep-extends}
 
 -- what the induction needs of an accepted call
-pub record Good (ns : List ℕ) (border : Border ℤ) (c : Call) : Type 0 where
+pub record OnGrid (ns : List ℕ) (border : Border ℤ) (c : Call) : Type 0 where
   pub named : c .shape ≡ ns
   pub shared : c .border ≡ border
   pub on : c .axis < length ns
   pub some : 0 < c .size
   pub reads : (i : ℕ) → i < lengthOf ns (c .axis) → (z : ℤ) → InWindow c (pos i) z → Lands border (lengthOf ns (c .axis)) z
 
-pub good : (ns : List ℕ) (border : Border ℤ) (cells : List ℤ) (c : Call) → Passed cells c → c .shape ≡ ns → c .border ≡ border → Good ns border c
-good ns border cells c P e f = record {
+pub on-grid : (ns : List ℕ) (border : Border ℤ) (cells : List ℤ) (c : Call) → Passed cells c → c .shape ≡ ns → c .border ≡ border → OnGrid ns border c
+on-grid ns border cells c P e f = record {
   named = e;
   shared = f;
   on = subst (λ s. c .axis < length s) e (ltb-true (c .axis) (length (c .shape)) (not-false (ltb (c .axis) (length (c .shape))) (P .axis)));
@@ -46,10 +46,10 @@ good ns border cells c P e f = record {
   reads = subst₂ (λ s b. (i : ℕ) → i < lengthOf s (c .axis) → (z : ℤ) → InWindow c (pos i) z → Lands b (lengthOf s (c .axis)) z) e f (lands cells c P);
 }
 
-pub goods : (ns : List ℕ) (border : Border ℤ) (cells : List ℤ) (calls : List Call) → Every (Passed cells) calls → Every (λ c. c .shape ≡ ns) calls → Every (λ c. c .border ≡ border) calls
-    → Every (Good ns border) calls
-goods ns border cells [] P e f = tt
-goods ns border cells (c ∷ cs) P e f = (good ns border cells c (P .0) (e .0) (f .0), goods ns border cells cs (P .1) (e .1) (f .1))
+pub all-on-grid : (ns : List ℕ) (border : Border ℤ) (cells : List ℤ) (calls : List Call) → Every (Passed cells) calls → Every (λ c. c .shape ≡ ns) calls → Every (λ c. c .border ≡ border) calls
+    → Every (OnGrid ns border) calls
+all-on-grid ns border cells [] P e f = tt
+all-on-grid ns border cells (c ∷ cs) P e f = (on-grid ns border cells c (P .0) (e .0) (f .0), all-on-grid ns border cells cs (P .1) (e .1) (f .1))
 
 -- ---- how often an axis is swept
 swept-here : (c : Call) (cs : List Call) → timesSwept (c .axis) (c ∷ cs) ≡ suc (timesSwept (c .axis) cs)
@@ -85,7 +85,7 @@ box-moved (c ∷ cs) a z p q e h = go (eqb (c .axis) a) refl e (λ f. box-moved 
     go false t f ih = (subst (InWindow c (p (c .axis))) (sym (moved-other a (c .axis) z q t)) (h .0), ih f)
 
 module _ (ns : List ℕ) (border : Border ℤ) (p : ℕ → ℕ) (W : Within ns p) where
-  found : (calls : List Call) → Every (Good ns border) calls → (q : Point) → InBox calls (λ b. pos (p b)) q → (b : ℕ) → (timesSwept b calls ≡ 0) ⊎ Lands border (lengthOf ns b) (q b)
+  found : (calls : List Call) → Every (OnGrid ns border) calls → (q : Point) → InBox calls (λ b. pos (p b)) q → (b : ℕ) → (timesSwept b calls ≡ 0) ⊎ Lands border (lengthOf ns b) (q b)
   found [] G q h b = inl refl
   found (c ∷ cs) G q h b = go (eqb (c .axis) b) refl (found cs (G .1) q (h .1) b)
     where
@@ -94,7 +94,7 @@ module _ (ns : List ℕ) (border : Border ℤ) (p : ℕ → ℕ) (W : Within ns 
       go true t r = inr (subst (λ x. Lands border (lengthOf ns x) (q x)) (eqb-true (c .axis) b t) (G .0 .reads (p (c .axis)) (W (c .axis) (G .0 .on)) (q (c .axis)) (h .0)))
       go false t r = r
 
-  reach-lands : (calls : List Call) → Every (Good ns border) calls → (q : Point) → Reach ns calls (λ b. pos (p b)) q → (b : ℕ) → b < length ns → Lands border (lengthOf ns b) (q b)
+  reach-lands : (calls : List Call) → Every (OnGrid ns border) calls → (q : Point) → Reach ns calls (λ b. pos (p b)) q → (b : ℕ) → b < length ns → Lands border (lengthOf ns b) (q b)
   reach-lands calls G q r b l = go (found calls G q (r .box) b)
     where
       go : (timesSwept b calls ≡ 0) ⊎ Lands border (lengthOf ns b) (q b) → Lands border (lengthOf ns b) (q b)
@@ -102,12 +102,12 @@ module _ (ns : List ℕ) (border : Border ℤ) (p : ℕ → ℕ) (W : Within ns 
       go (inr h) = h
 
 -- ---- what an accepted call fills is a swept grid
-answer-at : (le : ℤ → ℤ → Bool) (ns : List ℕ) (border : Border ℤ) (c : Call) (cells : List ℤ) → length cells ≡ cellCount ns → (G : Good ns border c)
+answer-at : (le : ℤ → ℤ → Bool) (ns : List ℕ) (border : Border ℤ) (c : Call) (cells : List ℤ) → length cells ≡ cellCount ns → (G : OnGrid ns border c)
     → Swept le ns (c .axis) (G .on) (window c) (λ z. subst (λ n. 0 < n) (sym (length-up (firstIn c z) (c .size))) (G .some)) cells (answerOf le cells c) border
 unfolding answerOf
 answer-at le ns border c cells e G k h =
-    getD-tabulate (λ k. least le (pos 0) (map (laneLevel cells c k) (window c (pos (coordinate (c .shape) k (c .axis)))))) (length cells) k (pos 0) (omega arith)
-    ∙ (λ j. least le (pos 0) (map (extendedLane (G .shared j) (lengthOf (G .named j) (c .axis)) (λ i. levelAt (pos 0) (G .named j) cells (moved (c .axis) i (coordinate (G .named j) k)))) (window c (pos (coordinate (G .named j) k (c .axis))))))
+    getD-tabulate (λ k. extreme le (pos 0) (map (laneLevel cells c k) (window c (pos (coordinate (c .shape) k (c .axis)))))) (length cells) k (pos 0) (omega arith)
+    ∙ (λ j. extreme le (pos 0) (map (extendedLane (G .shared j) (lengthOf (G .named j) (c .axis)) (λ i. levelAt (pos 0) (G .named j) cells (moved (c .axis) i (coordinate (G .named j) k)))) (window c (pos (coordinate (G .named j) k (c .axis))))))
 
 -- ---- the extended grid at a cell of the grid
 at-cell : (ns : List ℕ) (border : Border ℤ) (cells : List ℤ) (p : ℕ → ℕ) → Within ns p → (q : Point) → ((b : ℕ) → b < length ns → q b ≡ pos (p b)) → extendedGrid (pos 0) border ns cells q ≡ levelAt (pos 0) ns cells p
@@ -119,13 +119,13 @@ at-cell ns (along m) cells p W q h =
     ap (λ x. getD cells x (pos 0)) (place-ext ns (λ b. cellFor m (lengthOf ns b) (q b)) p (λ b l. ap (cellFor m (lengthOf ns b)) (h b l) ∙ cell-inside m (lengthOf ns b) (p b) (W b l)))
 
 module _ (le : ℤ → ℤ → Bool) (O : Total le) (ns : List ℕ) (border : Border ℤ) where
-  module _ (c : Call) (cs : List Call) (cells : List ℤ) (e : length cells ≡ cellCount ns) (G : Good ns border c) (Gs : Every (Good ns border) cs)
+  module _ (c : Call) (cs : List Call) (cells : List ℤ) (e : length cells ≡ cellCount ns) (G : OnGrid ns border c) (Gs : Every (OnGrid ns border) cs)
       (most : timesSwept (c .axis) (c ∷ cs) ≤ 1) (p : ℕ → ℕ) (W : Within ns p) where
     none : timesSwept (c .axis) cs ≡ 0
     none = omega (arith, swept-here c cs)
 
     sweeps : (q : Point) → Reach ns cs (λ b. pos (p b)) q
-        → extendedGrid (pos 0) border ns (answerOf le cells c) q ≡ least le (pos 0) (map (λ z. extendedGrid (pos 0) border ns cells (moved (c .axis) z q)) (window c (q (c .axis))))
+        → extendedGrid (pos 0) border ns (answerOf le cells c) q ≡ extreme le (pos 0) (map (λ z. extendedGrid (pos 0) border ns cells (moved (c .axis) z q)) (window c (q (c .axis))))
     sweeps q r =
         sweep-extends le ns (c .axis) (G .on) (window c) (λ z. subst (λ n. 0 < n) (sym (length-up (firstIn c z) (c .size))) (G .some)) cells (answerOf le cells c) q (p (c .axis))
         (r .fixed (c .axis) (G .on) none) (W (c .axis) (G .on)) border (answer-at le ns border c cells e G) (reach-lands ns border p W cs Gs q r)
@@ -159,8 +159,8 @@ module _ (le : ℤ → ℤ → Bool) (O : Total le) (ns : List ℕ) (border : Bo
         go b true t = ap q (sym (eqb-true b (c .axis) t))
         go b false t = refl
 
-    one-more : (v : ℤ) → Least le (extendedGrid (pos 0) border ns (answerOf le cells c)) (Reach ns cs (λ b. pos (p b))) v
-        → Least le (extendedGrid (pos 0) border ns cells) (Reach ns (c ∷ cs) (λ b. pos (p b))) v
+    one-more : (v : ℤ) → Extremum le (extendedGrid (pos 0) border ns (answerOf le cells c)) (Reach ns cs (λ b. pos (p b))) v
+        → Extremum le (extendedGrid (pos 0) border ns cells) (Reach ns (c ∷ cs) (λ b. pos (p b))) v
     one-more v L = record { bound = low; occurs = there }
       where
         low : (q : Point) → Reach ns (c ∷ cs) (λ b. pos (p b)) q → T (le v (extendedGrid (pos 0) border ns cells q))
@@ -170,7 +170,7 @@ module _ (le : ℤ → ℤ → Bool) (O : Total le) (ns : List ℕ) (border : Bo
             let g : ℤ → ℤ = λ z. extendedGrid (pos 0) border ns cells (moved (c .axis) z y) in
             let w : InWindow c (y (c .axis)) (q (c .axis)) = subst (λ i. InWindow c i (q (c .axis))) (sym (moved-same (c .axis) (pos (p (c .axis))) q)) (r .box .0) in
             let m : List·Memᴰ (g (q (c .axis))) (map g (window c (y (c .axis)))) = Memᴰ·map g (in-list c (y (c .axis)) (q (c .axis)) (G .some) w) in
-            let k : T (le (least le (pos 0) (map g (window c (y (c .axis))))) (g (q (c .axis)))) = least-bound le O (pos 0) (g (q (c .axis))) (map g (window c (y (c .axis)))) m in
+            let k : T (le (extreme le (pos 0) (map g (window c (y (c .axis))))) (g (q (c .axis)))) = extreme-bound le O (pos 0) (g (q (c .axis))) (map g (window c (y (c .axis)))) m in
             O .chain v (extendedGrid (pos 0) border ns (answerOf le cells c) y) (extendedGrid (pos 0) border ns cells q) (L .bound y s)
             (subst₂ (λ (x u : ℤ). T (le x u)) (sym (sweeps y s)) (ap (extendedGrid (pos 0) border ns cells) (restored q (pos (p (c .axis))))) k)
 
@@ -180,12 +180,12 @@ module _ (le : ℤ → ℤ → Bool) (O : Total le) (ns : List ℕ) (border : Bo
             let r = L .occurs .1 in
             let g : ℤ → ℤ = λ z. extendedGrid (pos 0) border ns cells (moved (c .axis) z q) in
             let n : 0 < length (map g (window c (q (c .axis)))) = omega (arith, length-map (window c (q (c .axis))) g, length-up (firstIn c (q (c .axis))) (c .size), G .some) in
-            let m = Memᴰ·of-map g (window c (q (c .axis))) (least-occurs le O (pos 0) (map g (window c (q (c .axis)))) n) in
+            let m = Memᴰ·of-map g (window c (q (c .axis))) (extreme-occurs le O (pos 0) (map g (window c (q (c .axis)))) n) in
             (moved (c .axis) (m .0) q, forth q (m .0) r (in-window c (q (c .axis)) (m .0) (m .1)), L .occurs .2 ∙ sweeps q r ∙ sym (m .2))
 
   -- the core: every list of calls, at most one to an axis
-  pub core : (calls : List Call) (cells : List ℤ) → length cells ≡ cellCount ns → Every (Good ns border) calls → ((b : ℕ) → b < length ns → timesSwept b calls ≤ 1) → (p : ℕ → ℕ) → Within ns p
-      → Least le (extendedGrid (pos 0) border ns cells) (Reach ns calls (λ b. pos (p b))) (levelAt (pos 0) ns (fill le cells calls) p)
+  pub core : (calls : List Call) (cells : List ℤ) → length cells ≡ cellCount ns → Every (OnGrid ns border) calls → ((b : ℕ) → b < length ns → timesSwept b calls ≤ 1) → (p : ℕ → ℕ) → Within ns p
+      → Extremum le (extendedGrid (pos 0) border ns cells) (Reach ns calls (λ b. pos (p b))) (levelAt (pos 0) ns (fill le cells calls) p)
   core [] cells e G most p W = record {
     bound = λ q r. subst (λ x. T (le (levelAt (pos 0) ns cells p) x)) (sym (at-cell ns border cells p W q (λ b l. r .fixed b l refl))) (O .itself (levelAt (pos 0) ns cells p));
     occurs = ((λ b. pos (p b)), record { box = tt; fixed = λ b l h. refl }, sym (at-cell ns border cells p W (λ b. pos (p b)) (λ b l. refl)));
@@ -194,11 +194,11 @@ module _ (le : ℤ → ℤ → Bool) (O : Total le) (ns : List ℕ) (border : Bo
       one-more c cs cells e (G .0) (G .1) (most (c .axis) (G .0 .on)) p W (levelAt (pos 0) ns (fill le (answerOf le cells c) cs) p)
       (core cs (answerOf le cells c) (length-answer le cells c ∙ e) (G .1) (λ b l. swept-rest c cs b (most b l)) p W)
 
-  widen : {level : Point → ℤ} {Part Part′ : Point → Type 0} {v : ℤ} → ((q : Point) → Part′ q → Part q) → ((q : Point) → Part q → Part′ q) → Least le level Part v → Least le level Part′ v
+  widen : {level : Point → ℤ} {Part Part′ : Point → Type 0} {v : ℤ} → ((q : Point) → Part′ q → Part q) → ((q : Point) → Part q → Part′ q) → Extremum le level Part v → Extremum le level Part′ v
   widen f g L = record { bound = λ q h. L .bound q (f q h); occurs = (L .occurs .0, g (L .occurs .0) (L .occurs .1), L .occurs .2) }
 
   pub box-unique : (level : Point → ℤ) (Part Part′ : Point → Type 0) (v v′ : ℤ) → ((q : Point) → Part q → Part′ q) → ((q : Point) → Part′ q → Part q)
-      → Least le level Part v → Least le level Part′ v′ → v ≡ v′
+      → Extremum le level Part v → Extremum le level Part′ v′ → v ≡ v′
   box-unique level Part Part′ v v′ f g L L′ =
       O .same v v′
       (subst (λ x. T (le v x)) (sym (L′ .occurs .2)) (L .bound (L′ .occurs .0) (g (L′ .occurs .0) (L′ .occurs .1))))
@@ -206,7 +206,7 @@ module _ (le : ℤ → ℤ → Bool) (O : Total le) (ns : List ℕ) (border : Bo
 
   -- ---- the statement's box
   pub box : (cells : List ℤ) (calls : List Call) → Sweeps le ns border cells calls → (k : ℕ) → k < length cells
-      → Least le (extendedGrid (pos 0) border ns cells) (InBox (accepted le cells calls) (cellAt ns k)) (getD (run le cells calls) k (pos 0))
+      → Extremum le (extendedGrid (pos 0) border ns cells) (InBox (accepted le cells calls) (cellAt ns k)) (getD (run le cells calls) k (pos 0))
   unfolding gridNumber
   box cells calls S k l =
       let g = grid-passed badLevel ns cells [] [] tt (S .grid) .0 in
@@ -214,9 +214,9 @@ module _ (le : ℤ → ℤ → Bool) (O : Total le) (ns : List ℕ) (border : Bo
       let pn = shape-accepted ns (g .shape) .full in
       let b : k < cellCount ns = omega arith in
       let ek : accepted le cells calls ≡ kept cells calls = accepted-kept le cells calls in
-      let gs = goods ns border cells (kept cells calls) (kept-passed cells calls) (subst (Every (λ c. c .shape ≡ ns)) ek (S .named)) (subst (Every (λ c. c .border ≡ border)) ek (S .shared)) in
+      let gs = all-on-grid ns border cells (kept cells calls) (kept-passed cells calls) (subst (Every (λ c. c .shape ≡ ns)) ek (S .named)) (subst (Every (λ c. c .border ≡ border)) ek (S .shared)) in
       let once : (x : ℕ) → x < length ns → timesSwept x (kept cells calls) ≡ 1 = λ x h. ap (timesSwept x) (sym ek) ∙ S .once x h in
       let main = core (kept cells calls) cells e gs (λ x h. omega (arith, once x h)) (coordinate ns k) (coordinate-within ns k pn b) in
       let v-is : levelAt (pos 0) ns (fill le cells (kept cells calls)) (coordinate ns k) ≡ getD (run le cells calls) k (pos 0) = (λ j. getD (sym (run-fill le cells calls) j) (place-coordinate ns k pn b j) (pos 0)) in
-      subst₂ (λ (cs : List Call) (v : ℤ). Least le (extendedGrid (pos 0) border ns cells) (InBox cs (cellAt ns k)) v) (sym ek) v-is
+      subst₂ (λ (cs : List Call) (v : ℤ). Extremum le (extendedGrid (pos 0) border ns cells) (InBox cs (cellAt ns k)) v) (sym ek) v-is
       (widen (λ q h. record { box = h; fixed = λ x m z. absurd (no-one (sym (once x m) ∙ z)) }) (λ q r. r .box) main)

@@ -10,7 +10,7 @@ use lib.Dec.{eqb}
 use lib.IntN.{ℤ, pos, natAbs}
 use lib.ListN.{length, getD}
 use Rattle.numbers.specs.Lists.{tabulate, Every, anyOf}
-use Rattle.numbers.specs.Order.{leastFrom, least}
+use Rattle.numbers.specs.Order.{extremeFrom, extreme}
 use Rattle.numbers.specs.Ranges.{outside}
 use Rattle.numbers.proofs.Tabulate.{length-tabulate}
 use Rattle.numbers.proofs.Tests.{or-false}
@@ -26,9 +26,9 @@ use Rattle.window.specs.Window.{leftPad, rightPad}
 use Rattle.min_max_spec.specs.Run.{laneLevel, answerOf, after, run, numbers, accepted}
 
 -- ---- tests
-pub two : (t : Bool) → (t ≡ true) ⊎ (t ≡ false)
-two true = inl refl
-two false = inr refl
+pub true-or-false : (t : Bool) → (t ≡ true) ⊎ (t ≡ false)
+true-or-false true = inl refl
+true-or-false false = inr refl
 
 -- an accepted call has passed each test
 pub record Passed (cells : List ℤ) (c : Call) : Type 0 where
@@ -64,13 +64,13 @@ cond-in : {A : Type 0} (t : A → Bool) (b : Bool) (x y : A) → t x ≡ false �
 cond-in t true x y h k = h
 cond-in t false x y h k = k
 
-from-in : (t : ℤ → Bool) (le : ℤ → ℤ → Bool) (m : ℤ) (zs : List ℤ) (f : ℤ → ℤ) → t m ≡ false → ((z : ℤ) → t (f z) ≡ false) → t (leastFrom le m (map f zs)) ≡ false
+from-in : (t : ℤ → Bool) (le : ℤ → ℤ → Bool) (m : ℤ) (zs : List ℤ) (f : ℤ → ℤ) → t m ≡ false → ((z : ℤ) → t (f z) ≡ false) → t (extremeFrom le m (map f zs)) ≡ false
 from-in t le m [] f h k = h
 from-in t le m (z ∷ zs) f h k = from-in t le (cond (le m (f z)) m (f z)) zs f (cond-in t (le m (f z)) m (f z) h (k z)) k
 
-least-in : (t : ℤ → Bool) (le : ℤ → ℤ → Bool) (zs : List ℤ) (f : ℤ → ℤ) → t (pos 0) ≡ false → ((z : ℤ) → t (f z) ≡ false) → t (least le (pos 0) (map f zs)) ≡ false
-least-in t le [] f h k = h
-least-in t le (z ∷ zs) f h k = from-in t le (f z) zs f (k z) k
+extreme-in : (t : ℤ → Bool) (le : ℤ → ℤ → Bool) (zs : List ℤ) (f : ℤ → ℤ) → t (pos 0) ≡ false → ((z : ℤ) → t (f z) ≡ false) → t (extreme le (pos 0) (map f zs)) ≡ false
+extreme-in t le [] f h k = h
+extreme-in t le (z ∷ zs) f h k = from-in t le (f z) zs f (k z) k
 
 lane-in : (b : Border ℤ) (n : ℕ) (h : ℕ → ℤ) (z : ℤ) → badConstantBy badLevel b ≡ false → ((i : ℕ) → badLevel (h i) ≡ false) → badLevel (extendedLane b n h z) ≡ false
 unfolding extendedLane
@@ -85,7 +85,7 @@ pub answer-in : (le : ℤ → ℤ → Bool) (cells : List ℤ) (c : Call) → ba
 unfolding answerOf
 answer-in le cells c e h =
     any-tabulate badLevel _ 0 (length cells)
-    (λ k. least-in badLevel le (window c (pos (coordinate (c .shape) k (c .axis)))) (laneLevel cells c k) zero-in
+    (λ k. extreme-in badLevel le (window c (pos (coordinate (c .shape) k (c .axis)))) (laneLevel cells c k) zero-in
     (λ z. lane-in (c .border) (axisLength c) _ z e (λ i. any-getD badLevel cells _ (pos 0) zero-in h)))
 
 -- ---- the number depends on how many cells there are and on whether a level is out of range
@@ -110,7 +110,7 @@ pub alike-number : {l l′ : List ℤ} → Alike l l′ → (c : Call) → numbe
 alike-number {l} {l′} r c = number-same l l′ c (r .size) (r .range)
 
 pub alike-after : (le : ℤ → ℤ → Bool) (cells : List ℤ) (c : Call) → Alike (after le cells c) cells
-alike-after le cells c = go (two (eqb (numberOf cells c) 0))
+alike-after le cells c = go (true-or-false (eqb (numberOf cells c) 0))
   where
     go : (eqb (numberOf cells c) 0 ≡ true) ⊎ (eqb (numberOf cells c) 0 ≡ false) → Alike (after le cells c) cells
     go (inl t) =

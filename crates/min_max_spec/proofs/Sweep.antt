@@ -10,14 +10,14 @@ use borrow.Author.Tests.{ltb-true, eqb-true, eq-eqb, lt-ltb}
 use lib.Dec.{eqb}
 use lib.IntN.{ℤ, pos, negsuc, natAbs}
 use lib.ListN.{length, getD}
-use Rattle.numbers.specs.Order.{leastFrom, least}
+use Rattle.numbers.specs.Order.{extremeFrom, extreme}
 use Rattle.numbers.proofs.Tests.{and-true}
 use Rattle.array_spec.specs.Grid.{cellCount, lengthOf, placeOf, coordinate, moved, levelAt}
 use Rattle.array_spec.proofs.Places.{Within, place-lt, coordinate-place, place-ext}
 use Rattle.border.specs.Border.{Border, constant, along, cellFor, inside, allInside, extendedLane, extendedGrid}
-use Rattle.border.specs.declared.Along.{Along}
+use Rattle.border.specs.declared.CellBorder.{CellBorder}
 use Rattle.min_max_spec.specs.Order.{Point}
-use Rattle.min_max_spec.proofs.Passed.{two}
+use Rattle.min_max_spec.proofs.Passed.{true-or-false}
 use Rattle.min_max_spec.proofs.Windows.{Lands, cell-inside}
 
 -- ---- the coordinates with one of them moved
@@ -50,7 +50,7 @@ refute false f = refl
 module _ (ns : List ℕ) (a : ℕ) (on : a < length ns) (q : Point) (z : ℤ) where
   -- all of the others are inside
   others : allInside ns q ≡ true → allInside ns (moved a z q) ≡ inside (lengthOf ns a) z
-  others e = go (two (inside (lengthOf ns a) z))
+  others e = go (true-or-false (inside (lengthOf ns a) z))
     where
       point : inside (lengthOf ns a) z ≡ true → (b : ℕ) → b < length ns → (t : Bool) → eqb b a ≡ t → inside (lengthOf ns b) (cond t z (q b)) ≡ true
       point f b l true t = ap (λ x. inside (lengthOf ns x) z) (eqb-true b a t) ∙ f
@@ -74,27 +74,27 @@ cond-same true v = refl
 cond-same false v = refl
 
 module _ (le : ℤ → ℤ → Bool) where
-  from-const : (v : ℤ) (f : ℤ → ℤ) (zs : List ℤ) → ((z : ℤ) → f z ≡ v) → leastFrom le v (map f zs) ≡ v
+  from-const : (v : ℤ) (f : ℤ → ℤ) (zs : List ℤ) → ((z : ℤ) → f z ≡ v) → extremeFrom le v (map f zs) ≡ v
   from-const v f [] h = refl
   from-const v f (z ∷ zs) h =
-      ap (λ x. leastFrom le (cond (le v x) v x) (map f zs)) (h z) ∙ ap (λ x. leastFrom le x (map f zs)) (cond-same (le v v) v) ∙ from-const v f zs h
+      ap (λ x. extremeFrom le (cond (le v x) v x) (map f zs)) (h z) ∙ ap (λ x. extremeFrom le x (map f zs)) (cond-same (le v v) v) ∙ from-const v f zs h
 
-  pub least-const : (v : ℤ) (f : ℤ → ℤ) (zs : List ℤ) → 0 < length zs → ((z : ℤ) → f z ≡ v) → least le (pos 0) (map f zs) ≡ v
-  least-const v f [] l h = absurd (not-suc-le-zero l)
-  least-const v f (z ∷ zs) l h = ap (λ x. leastFrom le x (map f zs)) (h z) ∙ from-const v f zs h
+  pub extreme-const : (v : ℤ) (f : ℤ → ℤ) (zs : List ℤ) → 0 < length zs → ((z : ℤ) → f z ≡ v) → extreme le (pos 0) (map f zs) ≡ v
+  extreme-const v f [] l h = absurd (not-suc-le-zero l)
+  extreme-const v f (z ∷ zs) l h = ap (λ x. extremeFrom le x (map f zs)) (h z) ∙ from-const v f zs h
 
   -- A grid new that was swept along axis a from the grid old: each level is the least of the window of its extended lane.
   module _ (ns : List ℕ) (a : ℕ) (on : a < length ns) (win : ℤ → List ℤ) (some : (z : ℤ) → 0 < length (win z)) (old new : List ℤ) where
     abbrev pub Swept : Border ℤ → Type 0
     Swept b = (k : ℕ) → k < cellCount ns
-        → getD new k (pos 0) ≡ least le (pos 0) (map (extendedLane b (lengthOf ns a) (λ i. levelAt (pos 0) ns old (moved a i (coordinate ns k)))) (win (pos (coordinate ns k a))))
+        → getD new k (pos 0) ≡ extreme le (pos 0) (map (extendedLane b (lengthOf ns a) (λ i. levelAt (pos 0) ns old (moved a i (coordinate ns k)))) (win (pos (coordinate ns k a))))
 
     module _ (q : Point) (i : ℕ) (at : q a ≡ pos i) (l : i < lengthOf ns a) where
-      under-mode : (m : Along) → Swept (along m) → ((b : ℕ) → b < length ns → cellFor m (lengthOf ns b) (q b) < lengthOf ns b)
-          → extendedGrid (pos 0) (along m) ns new q ≡ least le (pos 0) (map (λ z. extendedGrid (pos 0) (along m) ns old (moved a z q)) (win (q a)))
+      under-mode : (m : CellBorder) → Swept (along m) → ((b : ℕ) → b < length ns → cellFor m (lengthOf ns b) (q b) < lengthOf ns b)
+          → extendedGrid (pos 0) (along m) ns new q ≡ extreme le (pos 0) (map (λ z. extendedGrid (pos 0) (along m) ns old (moved a z q)) (win (q a)))
       unfolding extendedGrid extendedLane
       under-mode m sw within =
-          sw k (place-lt ns κ within) ∙ (λ j. least le (pos 0) (map (λ z. E z j) (win (W j))))
+          sw k (place-lt ns κ within) ∙ (λ j. extreme le (pos 0) (map (λ z. E z j) (win (W j))))
         where
           κ : ℕ → ℕ
           κ b = cellFor m (lengthOf ns b) (q b)
@@ -113,9 +113,9 @@ module _ (le : ℤ → ℤ → Bool) where
           E : (z : ℤ) → levelAt (pos 0) ns old (moved a (cellFor m (lengthOf ns a) z) (coordinate ns k)) ≡ levelAt (pos 0) ns old (λ b. cellFor m (lengthOf ns b) (moved a z q b))
           E z = ap (λ x. getD old x (pos 0)) (place-ext ns _ _ (λ b h. point z b h (eqb b a) refl))
 
-      under-constant : (v : ℤ) → Swept (constant v) → extendedGrid (pos 0) (constant v) ns new q ≡ least le (pos 0) (map (λ z. extendedGrid (pos 0) (constant v) ns old (moved a z q)) (win (q a)))
+      under-constant : (v : ℤ) → Swept (constant v) → extendedGrid (pos 0) (constant v) ns new q ≡ extreme le (pos 0) (map (λ z. extendedGrid (pos 0) (constant v) ns old (moved a z q)) (win (q a)))
       unfolding extendedGrid extendedLane
-      under-constant v sw = go (two (allInside ns q))
+      under-constant v sw = go (true-or-false (allInside ns q))
         where
           κ : ℕ → ℕ
           κ b = natAbs (q b)
@@ -141,14 +141,14 @@ module _ (le : ℤ → ℤ → Bool) where
           E e z = (λ j. cond (sym (others ns a on q z e) j) (getD old (place-ext ns (moved a (natAbs z) (coordinate ns k)) (λ b. natAbs (moved a z q b)) (λ b h. point e z b h (eqb b a)) j) (pos 0)) v)
 
           go : (allInside ns q ≡ true) ⊎ (allInside ns q ≡ false)
-              → cond (allInside ns q) (levelAt (pos 0) ns new κ) v ≡ least le (pos 0) (map (λ z. cond (allInside ns (moved a z q)) (levelAt (pos 0) ns old (λ b. natAbs (moved a z q b))) v) (win (q a)))
-          go (inl e) = ap (λ t. cond t (levelAt (pos 0) ns new κ) v) e ∙ sw k (place-lt ns κ (within e)) ∙ (λ j. least le (pos 0) (map (λ z. E e z j) (win (W e j))))
+              → cond (allInside ns q) (levelAt (pos 0) ns new κ) v ≡ extreme le (pos 0) (map (λ z. cond (allInside ns (moved a z q)) (levelAt (pos 0) ns old (λ b. natAbs (moved a z q b))) v) (win (q a)))
+          go (inl e) = ap (λ t. cond t (levelAt (pos 0) ns new κ) v) e ∙ sw k (place-lt ns κ (within e)) ∙ (λ j. extreme le (pos 0) (map (λ z. E e z j) (win (W e j))))
           go (inr e) =
               ap (λ t. cond t (levelAt (pos 0) ns new κ) v) e
-              ∙ sym (least-const v (λ z. cond (allInside ns (moved a z q)) (levelAt (pos 0) ns old (λ b. natAbs (moved a z q b))) v) (win (q a)) (some (q a))
+              ∙ sym (extreme-const v (λ z. cond (allInside ns (moved a z q)) (levelAt (pos 0) ns old (λ b. natAbs (moved a z q b))) v) (win (q a)) (some (q a))
               (λ z. ap (λ t. cond t (levelAt (pos 0) ns old (λ b. natAbs (moved a z q b))) v) (still-out ns a on q z in-a e)))
 
       pub sweep-extends : (b : Border ℤ) → Swept b → ((x : ℕ) → x < length ns → Lands b (lengthOf ns x) (q x))
-          → extendedGrid (pos 0) b ns new q ≡ least le (pos 0) (map (λ z. extendedGrid (pos 0) b ns old (moved a z q)) (win (q a)))
+          → extendedGrid (pos 0) b ns new q ≡ extreme le (pos 0) (map (λ z. extendedGrid (pos 0) b ns old (moved a z q)) (win (q a)))
       sweep-extends (constant v) sw h = under-constant v sw
       sweep-extends (along m) sw h = under-mode m sw h

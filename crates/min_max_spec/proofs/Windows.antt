@@ -14,8 +14,8 @@ use Rattle.numbers.proofs.IntSum.{above, +ℤ-cancel-left, +ℤ-mono-right}
 use Rattle.numbers.proofs.Range.{up-mem, mem-up}
 use Rattle.numbers.proofs.Tests.{or-false}
 use Rattle.border.specs.Border.{Border, constant, along, cellFor, cellAfter}
-use Rattle.border.specs.declared.Along.{Along}
-use Rattle.border.specs.declared.Along.the-variants.{Nearest, Mirror, Reflect, Wrap}
+use Rattle.border.specs.declared.CellBorder.{CellBorder}
+use Rattle.border.specs.declared.CellBorder.the-variants.{Nearest, Mirror, Reflect, Wrap}
 use Rattle.window.specs.Origin.{badOrigin}
 use Rattle.window.proofs.Origins.{axis-accepted}
 use Rattle.border.specs.Reach.{badPad}
@@ -61,7 +61,7 @@ abbrev pub Lands : {A : Type 0} → Border A → ℕ → ℤ → Type 0
 Lands (constant v) n z = Unit {0}
 Lands (along m) n z = cellFor m n z < n
 
-pub cell-inside : (m : Along) (n i : ℕ) → i < n → cellFor m n (pos i) ≡ i
+pub cell-inside : (m : CellBorder) (n i : ℕ) → i < n → cellFor m n (pos i) ≡ i
 unfolding cellFor
 cell-inside m n i h = go (ltb i n) refl
   where
@@ -91,7 +91,7 @@ module _ (n i : ℕ) (h : i < n) (l r o : ℤ) (p q : ℕ) (ep : pos p ≡ l +�
   after : (x : ℕ) → pos x ≤ℤ (pos i +ℤ r -ℤ o) → x ≤ i + q
   after x f = ≤-pos (reach-right (pos i) r o (pos x) (pos q) f (subst (λ (y : ℤ). y ≤ℤ pos q) eq (≤ℤ-refl (pos q))))
 
-  by-mode : (A : Type 0) (m : Along) (z : ℤ) → badPad {A = A} (along m) n p ≡ false → badPad {A = A} (along m) n q ≡ false → (pos i -ℤ l -ℤ o) ≤ℤ z → z ≤ℤ (pos i +ℤ r -ℤ o) → cellFor m n z < n
+  by-mode : (A : Type 0) (m : CellBorder) (z : ℤ) → badPad {A = A} (along m) n p ≡ false → badPad {A = A} (along m) n q ≡ false → (pos i -ℤ l -ℤ o) ≤ℤ z → z ≤ℤ (pos i +ℤ r -ℤ o) → cellFor m n z < n
   unfolding cellFor
   by-mode A Nearest (pos x) e f a b = cond-lt x n (n - 1) (λ k. omega arith)
   by-mode A Nearest (negsuc j) e f a b = omega arith

@@ -18,7 +18,6 @@ use lib.IntN.{ℤ, pos, natAbs, _+ℤ_, _-ℤ_}
 use lib.Signed.{_≤ℤ_}
 use lib.ListN.{length}
 use Rattle.numbers.specs.Lists.{upFrom}
-use Rattle.numbers.specs.Ranges.{outside}
 use Rattle.numbers.specs.Refusal.{Judged, refusalOf}
 use Rattle.array_spec.specs.Conditions.{badLevel, badAxis, gridJudged}
 use Rattle.array_spec.specs.Grid.{lengthOf}

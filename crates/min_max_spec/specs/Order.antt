@@ -4,7 +4,7 @@
 --   timesSwept a calls    how many of the calls sweep axis a
 --   Sweeps                what the demand supposes of a grid and a list of calls
 --   InBox calls p q       the point q lies in the box of the cell p
---   Least                 a level comes before every level of a part of the extended grid, and occurs in it
+--   Extremum                 a level comes before every level of a part of the extended grid, and occurs in it
 --   OrderFor le           the rule for one order
 --   OrderOfAxes           the rule, for minimum and for maximum
 use Prim.Native.Nat.{ℕ, suc, _<_}
@@ -46,7 +46,7 @@ abbrev pub InBox : List Call → Point → Point → Type 0
 InBox calls p q = Every (λ c. InWindow c (p (c .axis)) (q (c .axis))) calls
 
 -- v is the least (or greatest) level of a part of the extended grid: it comes before every level of the part, and occurs in it.
-pub record Least (le : ℤ → ℤ → Bool) (level : Point → ℤ) (Part : Point → Type 0) (v : ℤ) : Type 0 where
+pub record Extremum (le : ℤ → ℤ → Bool) (level : Point → ℤ) (Part : Point → Type 0) (v : ℤ) : Type 0 where
   pub bound : (q : Point) → Part q → T (le v (level q))
   pub occurs : (q : Point) × Part q × (v ≡ level q)
 
@@ -57,7 +57,7 @@ pub record OrderFor (le : ℤ → ℤ → Bool) : Type 0 where
   pub same-length : (cells : List ℤ) (calls : List Call) → length (run le cells calls) ≡ length cells
   pub box : (shape : List ℕ) (border : Border ℤ) (cells : List ℤ) (calls : List Call) → Sweeps le shape border cells calls
       → (k : ℕ) → k < length cells
-      → Least le (extendedGrid (pos 0) border shape cells) (InBox (accepted le cells calls) (cellAt shape k)) (getD (run le cells calls) k (pos 0))
+      → Extremum le (extendedGrid (pos 0) border shape cells) (InBox (accepted le cells calls) (cellAt shape k)) (getD (run le cells calls) k (pos 0))
   -- Two lists that differ only in order leave the same grid, and give each call the same number.
   pub same-grid : (shape : List ℕ) (border : Border ℤ) (cells : List ℤ) (calls calls′ : List Call) → Perm calls calls′
       → Sweeps le shape border cells calls → run le cells calls ≡ run le cells calls′

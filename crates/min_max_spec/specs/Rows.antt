@@ -1,6 +1,6 @@
 -- Worked rows of this crate's definitions: T4, T5, refused calls, windows and boxes. Each holds by computing.
 --   call .. , up, across, mixed, ..   the calls that the rows speak of
---   SweepsRows                        the rows
+--   MinMaxSpecRows                        the rows
 use Prim.Native.Nat.{ℕ}
 use mathlib.Core.Path.{_≡_}
 use mathlib.Core.List.{List, [], _∷_}
@@ -8,7 +8,7 @@ use lib.IntN.{ℤ, pos, negsuc}
 use lib.Signed.{leZ}
 use Rattle.numbers.specs.Order.{atLeast}
 use Rattle.border.specs.Border.{Border, constant, along}
-use Rattle.border.specs.declared.Along.the-variants.{Nearest, Mirror, Reflect, Wrap}
+use Rattle.border.specs.declared.CellBorder.the-variants.{Nearest, Mirror, Reflect, Wrap}
 use Rattle.min_max_spec.specs.Call.{Call, firstIn, lastIn}
 use Rattle.min_max_spec.specs.Run.{run, numbers}
 use Rattle.min_max_spec.specs.Order.{Sweeps}
@@ -59,7 +59,7 @@ mixed =
     call square 2 2 (constant (pos 0)) (pos 0) rows ∷ up ∷ call square 2 1 (constant (pos 0)) (pos 1) rows ∷ call square 2 1 (constant (pos 2147483648)) (pos 0) rows ∷ across
     ∷ call square 7 0 (along Mirror) (pos 0) rows ∷ []
 
-pub record SweepsRows : Type 0 where
+pub record MinMaxSpecRows : Type 0 where
   pub t5-up-across : run leZ rows (up ∷ across ∷ []) ≡ t5
   pub t5-across-up : run leZ rows (across ∷ up ∷ []) ≡ t5
   pub t4-minimum : run leZ lane (alongLane ∷ []) ≡ pos 2 ∷ pos 2 ∷ pos 1 ∷ pos 1 ∷ []

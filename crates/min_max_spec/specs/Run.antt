@@ -12,7 +12,7 @@ use lib.Dec.{eqb}
 use lib.IntN.{ℤ, pos}
 use lib.ListN.{length}
 use Rattle.numbers.specs.Lists.{tabulate}
-use Rattle.numbers.specs.Order.{least}
+use Rattle.numbers.specs.Order.{extreme}
 use Rattle.array_spec.specs.Grid.{coordinate, moved, levelAt}
 use Rattle.border.specs.Border.{extendedLane}
 use Rattle.min_max_spec.specs.Call.{Call, window, numberOf, axisLength}
@@ -21,7 +21,7 @@ abbrev pub laneLevel : List ℤ → Call → ℕ → ℤ → ℤ
 laneLevel cells c k z = extendedLane (c .border) (axisLength c) (λ i. levelAt (pos 0) (c .shape) cells (moved (c .axis) i (coordinate (c .shape) k))) z
 
 unfoldable pub answerOf : (ℤ → ℤ → Bool) → List ℤ → Call → List ℤ
-answerOf le cells c = tabulate (λ k. least le (pos 0) (map (laneLevel cells c k) (window c (pos (coordinate (c .shape) k (c .axis)))))) 0 (length cells)
+answerOf le cells c = tabulate (λ k. extreme le (pos 0) (map (laneLevel cells c k) (window c (pos (coordinate (c .shape) k (c .axis)))))) 0 (length cells)
 
 unfoldable pub after : (ℤ → ℤ → Bool) → List ℤ → Call → List ℤ
 after le cells c = cond (eqb (numberOf cells c) 0) (answerOf le cells c) cells

@@ -1,6 +1,6 @@
 // One-axis minimum and maximum calls as definitions, and the rule on the order of axes.
 ghost use Rattle.min_max_spec.specs.Order.{OrderOfAxes};
-ghost use Rattle.min_max_spec.specs.Rows.{SweepsRows};
+ghost use Rattle.min_max_spec.specs.Rows.{MinMaxSpecRows};
 
 // The rule on the order of axes: one-axis minimum calls, or maximum calls, that sweep each axis once leave each cell the least,
 // or greatest, level of its box in the grid that the list starts with, in any order, and each call gets the same number anywhere.
@@ -10,5 +10,5 @@ pub fn order_of_axes()
 
 // Worked rows of this crate's definitions. Refuses nothing.
 pub fn rows()
-    ensures { λ _. ⌜ SweepsRows ⌝ }
+    ensures { λ _. ⌜ MinMaxSpecRows ⌝ }
 {}

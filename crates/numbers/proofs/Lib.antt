@@ -10,7 +10,7 @@ pub mod Quotient
 pub mod Index
 pub mod Seen
 pub mod Lesser
-pub mod Least
+pub mod Extreme
 pub mod Tabulate
 pub mod Range
 pub mod Stored

@@ -82,5 +82,5 @@ leb-ltb a b c d f g = go (ltb c d) refl
             past n = omega arith
 
 -- what a call answered and what was then tested, together: the condition's own value
-pub told : {r b t : Bool} → r ≡ b → r ≡ t → b ≡ t
-told e f = sym e ∙ f
+pub condition-is : {r b t : Bool} → r ≡ b → r ≡ t → b ≡ t
+condition-is e f = sym e ∙ f

@@ -1,4 +1,5 @@
 -- What the kit lacks and every crate above shares.
+pub mod Limits
 pub mod Lists
 pub mod Order
 pub mod Ranges

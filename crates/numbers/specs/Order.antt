@@ -1,8 +1,8 @@
--- An order given by its test, and the first member of a list in that order: the least under ≤, the greatest under ≥.
+-- An order given by its test, and the extreme of a list in that order: the least under ≤, the greatest under ≥.
 --   Total le           le is the test of a total order
 --   atLeast            the test of ≥ on whole numbers; the test of ≤ is the kit's leZ
---   leastFrom le m l   the first, in the order, of m and the members of l
---   least le d l       the first, in the order, of the members of l; d where l has none
+--   extremeFrom le m l the first, in the order, of m and the members of l
+--   extreme le d l     the first, in the order, of the members of l; d where l has none
 use mathlib.Core.Path.{_≡_}
 use mathlib.Core.Bool.{Bool, not, cond}
 use mathlib.Core.List.{List, [], _∷_}
@@ -19,10 +19,10 @@ pub record Total {A : Type 0} (le : A → A → Bool) : Type 0 where
 abbrev pub atLeast : ℤ → ℤ → Bool
 atLeast a b = leZ b a
 
-abbrev pub leastFrom : {A : Type 0} → (A → A → Bool) → A → List A → A
-leastFrom le m [] = m
-leastFrom le m (x ∷ xs) = leastFrom le (cond (le m x) m x) xs
+abbrev pub extremeFrom : {A : Type 0} → (A → A → Bool) → A → List A → A
+extremeFrom le m [] = m
+extremeFrom le m (x ∷ xs) = extremeFrom le (cond (le m x) m x) xs
 
-abbrev pub least : {A : Type 0} → (A → A → Bool) → A → List A → A
-least le d [] = d
-least le d (x ∷ xs) = leastFrom le x xs
+abbrev pub extreme : {A : Type 0} → (A → A → Bool) → A → List A → A
+extreme le d [] = d
+extreme le d (x ∷ xs) = extremeFrom le x xs

@@ -10,7 +10,7 @@ use lib.Dec.{eqb}
 use lib.IntN.{ℤ, pos, negsuc, negℤ}
 use lib.Signed.{leZ, quotZ}
 use Rattle.numbers.specs.Lists.{tabulate, upFrom, anyOf}
-use Rattle.numbers.specs.Order.{atLeast, least}
+use Rattle.numbers.specs.Order.{atLeast, extreme}
 use Rattle.numbers.specs.Ranges.{outside, outsideZ, beyond}
 use Rattle.numbers.specs.Refusal.{refusalOf, leftIn, ScratchAnswers}
 use Rattle.numbers.specs.Sums.{sumOf}
@@ -35,10 +35,10 @@ pub record NumbersRows : Type 0 where
   pub scratch-kept : ScratchAnswers (pos 0) ((true, 3) ∷ []) (wholes (1 ∷ 2 ∷ [])) (wholes (8 ∷ 9 ∷ [])) (wholes (3 ∷ 4 ∷ []) ∷ wholes (5 ∷ []) ∷ [])
       3 (wholes (8 ∷ 9 ∷ [])) (wholes (3 ∷ 4 ∷ []) ∷ wholes (5 ∷ []) ∷ [])
   -- the least and the greatest, wherever they stand; the given level where there is none
-  pub least-first : least leZ (pos 0) (minus 7 ∷ pos 3 ∷ pos 3 ∷ []) ≡ minus 7
-  pub least-last : least leZ (pos 0) (pos 4 ∷ pos 2 ∷ pos 7 ∷ pos 1 ∷ []) ≡ pos 1
-  pub greatest-inside : least atLeast (pos 0) (pos 4 ∷ pos 2 ∷ pos 7 ∷ pos 1 ∷ []) ≡ pos 7
-  pub least-none : least leZ (pos 5) [] ≡ pos 5
+  pub extreme-first : extreme leZ (pos 0) (minus 7 ∷ pos 3 ∷ pos 3 ∷ []) ≡ minus 7
+  pub extreme-last : extreme leZ (pos 0) (pos 4 ∷ pos 2 ∷ pos 7 ∷ pos 1 ∷ []) ≡ pos 1
+  pub greatest-inside : extreme atLeast (pos 0) (pos 4 ∷ pos 2 ∷ pos 7 ∷ pos 1 ∷ []) ≡ pos 7
+  pub extreme-none : extreme leZ (pos 5) [] ≡ pos 5
   -- tables and ranges
   pub table : tabulate (λ k. 10 * k) 2 3 ≡ 20 ∷ 30 ∷ 40 ∷ []
   pub range : upFrom (minus 2) 4 ≡ minus 2 ∷ minus 1 ∷ pos 0 ∷ pos 1 ∷ []

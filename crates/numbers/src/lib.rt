@@ -1,4 +1,5 @@
-// The refusal numbers by name, and the size of a whole number. All else of this crate is definitions (specs/) and laws (proofs/).
+// The refusal numbers and the limits of document 01 by name, and the size of a whole number. All else of this crate is
+// definitions (specs/) and laws (proofs/).
 ghost use mathlib.Core.Path.{_≡_};
 ghost use lib.IntN.{natAbs};
 ghost use Rattle.numbers.specs.Rows.{NumbersRows};
@@ -37,6 +38,32 @@ pub const REACH: u8 = 11;
 // Caused by the arithmetic.
 // A whole-number sum outside signed 64 bits.
 pub const SUM: u8 = 12;
+
+// The limits of document 01.
+// Cells on an axis, and of a grid.
+pub const LONGEST_AXIS: usize = 1024;
+
+pub const MOST_CELLS: usize = 8192;
+// The least and the largest input level or constant.
+pub const LEAST_LEVEL: i64 = -2147483647;
+
+pub const LARGEST_LEVEL: i64 = 2147483647;
+// Cells of a window, and weights along an axis.
+pub const LONGEST_WINDOW: usize = 65;
+// Cells on the side of a grid kernel.
+pub const LONGEST_SIDE: usize = 7;
+// The least and the largest whole weight.
+pub const LEAST_WEIGHT: i64 = -65535;
+
+pub const LARGEST_WEIGHT: i64 = 65535;
+// Places padded on one side.
+pub const LONGEST_PAD: usize = 64;
+// Cells of a filter's padded line: an axis and the pads of a window.
+pub const LONGEST_LINE: usize = 1088;
+// Cells on an axis of a padded grid, and of a padded grid.
+pub const LONGEST_PADDED_AXIS: usize = 1152;
+
+pub const MOST_PADDED_CELLS: usize = 32768;
 
 // The size of z, its sign left out. Refuses nothing: of -2^63, which has no negation, it is 2^63.
 pub fn magnitude(z: i64) -> u64

@@ -17,12 +17,12 @@ use Rattle.numbers.proofs.Tests.{or-false}
 use Rattle.array_spec.specs.Conditions.{badLevel}
 use Rattle.array_spec.specs.Grid.{cellCount, lengthOf}
 use Rattle.array_spec.proofs.Judged.{PassedGrid, grid-passed}
-use Rattle.border.specs.declared.Along.{Along}
+use Rattle.border.specs.declared.CellBorder.{CellBorder}
 use Rattle.border.specs.declared.PadMode.{PadMode}
 use Rattle.border.specs.Reach.{badAlong, badPad}
 use Rattle.pad_spec.specs.Fill.{fillerOf, borderBy, rimOf}
 use Rattle.pad_spec.specs.declared.rim.Filler.the-variants.{Cells}
-use Rattle.pad_spec.specs.Conditions.{badCount, overPad, paddedCount, badPads, badReachOn, badReach, padsJudged, padJudged}
+use Rattle.pad_spec.specs.Conditions.{badCount, overPad, paddedCount, badPads, badPadReachOn, badPadReach, padsJudged, padJudged}
 use Rattle.pad_spec.specs.Pads.{pairOf, leftsOf, rightsOf, paddedShape}
 use Rattle.pad_spec.specs.declared.pairs.Pair.{Pair}
 use Rattle.pad_spec.proofs.PairOf.{axis-at, padded-length, padded-short}
@@ -35,10 +35,10 @@ pub record Passed (mode : PadMode) (ns : List ℕ) (pads : List Pair) (count : �
   pub limits : anyOf overPad (take count pads) ≡ false
   pub small : paddedCount ns pads count ≤ 32768
   pub lent : out ≡ paddedCount ns pads count
-  pub reach : (a : ℕ) → a < length ns → badReachOn mode ns pads count a ≡ false
+  pub reach : (a : ℕ) → a < length ns → badPadReachOn mode ns pads count a ≡ false
 
 pub passed : (mode : PadMode) (ns : List ℕ) (pads : List Pair) (count : ℕ) (cells : List ℤ) (out : ℕ) → refusalOf (padJudged mode ns pads count cells out) ≡ 0 → Passed mode ns pads count cells out
-unfolding badPads badReach
+unfolding badPads badPadReach
 passed mode ns pads count cells out z =
     let J = grid-passed badLevel ns cells [] (padsJudged mode ns pads count cells out) (tt, (tt, (tt, (tt, tt)))) z in
     let p = or-false (badCount ns count) _ (J .1 .1 .0) in
@@ -49,8 +49,8 @@ passed mode ns pads count cells out z =
       limits = q .0;
       small = ltb-false 32768 (paddedCount ns pads count) (r .0);
       lent = eqb-true out (paddedCount ns pads count) (not-false (eqb out (paddedCount ns pads count)) (r .1));
-      reach = λ a h. ap (badReachOn mode ns pads count) (sym (axis-at (length ns) a h))
-          ∙ every-at (λ x. badReachOn mode ns pads count x ≡ false) (tabulate (λ k. k) 0 (length ns)) 0 (any-none (badReachOn mode ns pads count) (tabulate (λ k. k) 0 (length ns)) (J .1 .1 .1 .0)) a
+      reach = λ a h. ap (badPadReachOn mode ns pads count) (sym (axis-at (length ns) a h))
+          ∙ every-at (λ x. badPadReachOn mode ns pads count x ≡ false) (tabulate (λ k. k) 0 (length ns)) 0 (any-none (badPadReachOn mode ns pads count) (tabulate (λ k. k) 0 (length ns)) (J .1 .1 .1 .0)) a
           (in-axes a h);
     }
   where
@@ -78,7 +78,7 @@ module _ {mode : PadMode} {ns : List ℕ} {pads : List Pair} {count : ℕ} {cell
       → (badPad (rimOf mode []) (lengthOf ns a) (pairOf pads count a .left) ≡ false) × (badPad (rimOf mode []) (lengthOf ns a) (pairOf pads count a .right) ≡ false)
   reach-both a h = or-false (badPad (rimOf mode []) (lengthOf ns a) (pairOf pads count a .left)) (badPad (rimOf mode []) (lengthOf ns a) (pairOf pads count a .right)) (P .reach a h)
 
-  pub filling : {m : Along} → fillerOf mode ≡ Cells m → Filling m ns (leftsOf ns pads count) (paddedShape ns (leftsOf ns pads count) (rightsOf ns pads count))
+  pub filling : {m : CellBorder} → fillerOf mode ≡ Cells m → Filling m ns (leftsOf ns pads count) (paddedShape ns (leftsOf ns pads count) (rightsOf ns pads count))
   filling {m} e = record {
     framed = framed;
     fills-left = λ a h. ap (badAlong m (lengthOf ns a)) (left-is a h) ∙ sym (judged a (pairOf pads count a .left)) ∙ reach-both a h .0;
@@ -96,7 +96,7 @@ module _ {mode : PadMode} {ns : List ℕ} {pads : List Pair} {count : ℕ} {cell
   pub framed-set : {l p : List ℕ} → l ≡ leftsOf ns pads count → p ≡ paddedShape ns (leftsOf ns pads count) (rightsOf ns pads count) → Framed ns l p
   framed-set {l} {p} e f = subst (λ (x : List ℕ). Framed ns x p) (sym e) (subst (Framed ns (leftsOf ns pads count)) (sym f) framed)
 
-  pub filling-set : {m : Along} {l p : List ℕ} → fillerOf mode ≡ Cells m → l ≡ leftsOf ns pads count → p ≡ paddedShape ns (leftsOf ns pads count) (rightsOf ns pads count) → Filling m ns l p
+  pub filling-set : {m : CellBorder} {l p : List ℕ} → fillerOf mode ≡ Cells m → l ≡ leftsOf ns pads count → p ≡ paddedShape ns (leftsOf ns pads count) (rightsOf ns pads count) → Filling m ns l p
   filling-set {m} {l} {p} c e f = subst (λ (x : List ℕ). Filling m ns x p) (sym e) (subst (Filling m ns (leftsOf ns pads count)) (sym f) (filling c))
 
   pub lent-set : {p : List ℕ} → p ≡ paddedShape ns (leftsOf ns pads count) (rightsOf ns pads count) → out ≡ cellCount p

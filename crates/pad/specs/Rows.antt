@@ -1,6 +1,6 @@
 -- Worked rows of this crate's definitions. Each holds by computing.
 --   laidIn mode      1 2 in a padded grid of four, one cell from its start
---   PaddedRows       the rows
+--   PadRows       the rows
 use mathlib.Core.Path.{_≡_}
 use mathlib.Core.Bool.{true, false}
 use mathlib.Core.List.{List, [], _∷_}
@@ -13,7 +13,7 @@ use Rattle.pad.specs.Laid.{laid, Started}
 abbrev pub laidIn : PadMode → List ℤ
 laidIn mode = laid mode (2 ∷ []) (1 ∷ []) (4 ∷ []) (wholes (1 ∷ 2 ∷ []))
 
-pub record PaddedRows : Type 0 where
+pub record PadRows : Type 0 where
   pub laid-constant : laidIn (Constant (pos 7)) ≡ wholes (7 ∷ 1 ∷ 2 ∷ 7 ∷ [])
   pub laid-edge : laidIn Edge ≡ wholes (1 ∷ 1 ∷ 2 ∷ 2 ∷ [])
   pub laid-maximum : laidIn Maximum ≡ wholes (2 ∷ 1 ∷ 2 ∷ 2 ∷ [])

@@ -14,7 +14,7 @@ ghost use Rattle.pad_spec.specs.Pads.{leftsOf, rightsOf};
 ghost use Rattle.pad_spec.specs.Frame.{Framed, Filling, middleSet};
 ghost use Rattle.pad.specs.Laid.{laid, Started};
 use crate::middle::copy_middle;
-use border::Along;
+use border::CellBorder;
 use border::PadMode;
 use pad_spec::Filler;
 use pad_spec::Pair;
@@ -64,7 +64,7 @@ fn lay_cells(
     shape: &[usize],
     lefts: &[usize],
     padded: &[usize],
-    along: Along,
+    along: CellBorder,
     out: &mut [i64],
 )
     requires { ⌜ Filling along (now shape) (now lefts) (now padded) × (anyOf badLevel (now «data») ≡ false) × (length (now «data») ≡ cellCount (now shape)) × (length (now out) ≡ cellCount (now padded)) ⌝ }

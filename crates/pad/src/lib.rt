@@ -1,5 +1,5 @@
 // Padding of grids: `pad` fills the rim, `pad_to` under Constant keeps what was lent there. The workers on padded grids stand in `pad_frame`, `pad_middle` and `pad_grid`.
-ghost use Rattle.pad.specs.Rows.{PaddedRows};
+ghost use Rattle.pad.specs.Rows.{PadRows};
 
 mod around;
 mod calls;
@@ -11,5 +11,5 @@ pub use calls::pad_to;
 
 // Worked rows of this crate's definitions. Refuses nothing.
 pub fn rows()
-    ensures { λ _. ⌜ PaddedRows ⌝ }
+    ensures { λ _. ⌜ PadRows ⌝ }
 {}

@@ -2,13 +2,14 @@
 ghost use mathlib.Core.Path.{_≡_};
 ghost use Prim.Native.Nat.{_+_, _*_, _≤_, _<_};
 ghost use lib.ListN.{length};
+ghost use Rattle.numbers.specs.Limits.{mostPaddedCells};
 ghost use Rattle.array_spec.specs.Grid.{cellCount};
 ghost use Rattle.pad_spec.specs.Frame.{Framed, rowLength, rowSet, middleSet};
 ghost use Rattle.pad.specs.RowStarts.{RowStarts};
 
 // Stores n cells of data, those from place `from` on, from place `at` of out on.
 fn copy_row(data: &[i64], from: usize, n: usize, at: usize, out: &mut [i64])
-    requires { ⌜ (from + n ≤ length (now «data»)) × (at + n ≤ length (now out)) × (length (now out) ≤ 32768) ⌝ }
+    requires { ⌜ (from + n ≤ length (now «data»)) × (at + n ≤ length (now out)) × (length (now out) ≤ mostPaddedCells) ⌝ }
     ensures { λ _. ⌜ now (out .exit) ≡ rowSet (now («data» .entry)) from n at (now (out .entry)) ⌝ }
 {
     let mut j = 0;

@@ -1,6 +1,7 @@
 // The rims of a padded grid filled with a statistic of each lane, axis by axis in rising order.
 ghost use mathlib.Core.Path.{_≡_};
 ghost use lib.ListN.{length};
+ghost use Rattle.numbers.specs.Limits.{longestPaddedAxis};
 ghost use Rattle.array_spec.specs.Grid.{cellCount};
 ghost use Rattle.pad_spec.specs.Fill.{modeTaking};
 ghost use Rattle.pad_spec.specs.Filled.{Fills};
@@ -17,7 +18,7 @@ fn fill_in(
     line: &mut [i64],
     out: &mut [i64],
 )
-    requires { ⌜ Framed (now shape) (now lefts) (now padded) × (length (now line) ≡ 1152) × (length (now out) ≡ cellCount (now padded)) ⌝ }
+    requires { ⌜ Framed (now shape) (now lefts) (now padded) × (length (now line) ≡ longestPaddedAxis) × (length (now out) ≡ cellCount (now padded)) ⌝ }
     ensures { λ _. ⌜ Fills (modeTaking statistic) (now (shape .entry)) (now (lefts .entry)) (now (padded .entry)) 0 (length (now (shape .entry))) (now (out .entry)) (now (out .exit)) ⌝ }
 {
     let mut axis = 0;
@@ -38,7 +39,7 @@ fn fill_by_line(
     requires { ⌜ Framed (now shape) (now lefts) (now padded) × (length (now out) ≡ cellCount (now padded)) ⌝ }
     ensures { λ _. ⌜ Fills (modeTaking statistic) (now (shape .entry)) (now (lefts .entry)) (now (padded .entry)) 0 (length (now (shape .entry))) (now (out .entry)) (now (out .exit)) ⌝ }
 {
-    let mut line = [0; 1152];
+    let mut line = [0; numbers::LONGEST_PADDED_AXIS];
     fill_in(statistic, shape, lefts, padded, &mut line, out);
 }
 

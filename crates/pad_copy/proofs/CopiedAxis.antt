@@ -13,7 +13,7 @@ use Rattle.array_spec.specs.Grid.{cellCount, lengthOf, strideOf}
 use Rattle.array_spec.proofs.Places.{length-pos}
 use Rattle.array_spec.proofs.Strides.{outerOf, outer-pos, count-split}
 use Rattle.lanes.specs.Lanes.{laneOf}
-use Rattle.border.specs.declared.Along.{Along}
+use Rattle.border.specs.declared.CellBorder.{CellBorder}
 use Rattle.pad_line.specs.Line.{paddedAt}
 use Rattle.border.specs.Reach.{badAlong}
 use Rattle.pad_spec.specs.Fill.{rimOf, modeAlong}
@@ -25,7 +25,7 @@ use Rattle.pad_spec.specs.Filled.{Fills}
 use Rattle.pad_spec.specs.Runs.{Runs, extendedAt, axisSet}
 use Rattle.pad_spec.proofs.Room.{grid-accepted, padded-full, frame, axis-length, axis-stride}
 
-module _ (m : Along) {ns lefts ps : List ℕ} (G : Filling m ns lefts ps) {a p n s len : ℕ} (h : a < length ns) (e : p ≡ lengthOf ps a) (f : n ≡ lengthOf ns a) (g : s ≡ strideOf ps a)
+module _ (m : CellBorder) {ns lefts ps : List ℕ} (G : Filling m ns lefts ps) {a p n s len : ℕ} (h : a < length ns) (e : p ≡ lengthOf ps a) (f : n ≡ lengthOf ns a) (g : s ≡ strideOf ps a)
     (k : len ≡ cellCount ps) where
   F : Framed ns lefts ps
   F = G .framed

@@ -20,8 +20,8 @@ use Rattle.lanes.specs.Lanes.{laneOf, laneBase}
 use Rattle.lanes.proofs.Cells.{lane-of-cell, place-of-cell, cell-of-lane, base-of, step-le}
 use Rattle.lanes.proofs.Part.{onRow, row-yes, row-no, row-empty, row-longer}
 use Rattle.border.specs.Border.{along, cellBefore, cellAfter}
-use Rattle.border.specs.declared.Along.{Along}
-use Rattle.border.specs.declared.Along.the-variants.{Nearest, Mirror, Reflect, Wrap}
+use Rattle.border.specs.declared.CellBorder.{CellBorder}
+use Rattle.border.specs.declared.CellBorder.the-variants.{Nearest, Mirror, Reflect, Wrap}
 use Rattle.pad_line.specs.Line.{paddedAt}
 use Rattle.pad_line.proofs.Padded.{padded-inside, padded-before, padded-after}
 use Rattle.pad_line.proofs.Reach.{cell-before-in, cell-after-in}
@@ -57,31 +57,31 @@ module _ (left n p : ℕ) where
   rim-beyond k lo hi = inr (lo, omega arith)
 
 -- ---- the coordinate that it reads is small
-pub before-small : (m : Along) (n k : ℕ) → cellBefore m n k ≤ n + k
+pub before-small : (m : CellBorder) (n k : ℕ) → cellBefore m n k ≤ n + k
 before-small Nearest n k = omega arith
 before-small Mirror n k = omega arith
 before-small Reflect n k = omega arith
 before-small Wrap n k = omega arith
 
-pub after-small : (m : Along) (n k : ℕ) → cellAfter m n k ≤ n + k
+pub after-small : (m : CellBorder) (n k : ℕ) → cellAfter m n k ≤ n + k
 after-small Nearest n k = omega arith
 after-small Mirror n k = omega arith
 after-small Reflect n k = omega arith
 after-small Wrap n k = omega arith
 
 -- ---- out is g with the first j coordinates from a on filled
-pub record RimStored (m : Along) (p s left n a : ℕ) (g₀ g : List ℤ) (j : ℕ) : Type 0 where
+pub record RimStored (m : CellBorder) (p s left n a : ℕ) (g₀ g : List ℤ) (j : ℕ) : Type 0 where
   pub stored : Stored (pos 0) (λ k. onRow a j (k / s % p)) (extendedAt m p s left n g₀) g₀ g
 
-pub rim-none : (m : Along) (p s left n a : ℕ) (g : List ℤ) → RimStored m p s left n a g g 0
+pub rim-none : (m : CellBorder) (p s left n a : ℕ) (g : List ℤ) → RimStored m p s left n a g g 0
 rim-none m p s left n a g = record { stored = stored-none (pos 0) (extendedAt m p s left n g) (λ k. onRow a 0 (k / s % p)) g (λ k. row-empty a (k / s % p)) }
 
-pub rim-all : {m : Along} {p s left n a : ℕ} {g₀ g : List ℤ} {j : ℕ} (count : ℕ) → j ≡ count → RimStored m p s left n a g₀ g j → g ≡ rimSet m p s left n a count g₀
+pub rim-all : {m : CellBorder} {p s left n a : ℕ} {g₀ g : List ℤ} {j : ℕ} (count : ℕ) → j ≡ count → RimStored m p s left n a g₀ g j → g ≡ rimSet m p s left n a count g₀
 unfolding rimSet
 rim-all {m} {p} {s} {left} {n} {a} {g₀} {g} {j} count e S =
     stored-table (pos 0) (extendedAt m p s left n g₀) (λ k. onRow a count (k / s % p)) (subst (RimStored m p s left n a g₀ g) e S .stored)
 
-module _ {m : Along} {p s blocks left n len : ℕ} (R : Runs m p s blocks left n len) where
+module _ {m : CellBorder} {p s blocks left n len : ℕ} (R : Runs m p s blocks left n len) where
   pub some-cells : 0 < p
   some-cells = omega (arith, R .room, R .some)
 

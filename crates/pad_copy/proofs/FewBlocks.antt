@@ -19,7 +19,7 @@ use Rattle.lanes.specs.Lanes.{laneOf, laneBase}
 use Rattle.lanes.proofs.Cells.{base-of}
 use Rattle.lanes.proofs.Part.{onRow, row-yes, row-in, part-put}
 use Rattle.border.specs.Border.{along}
-use Rattle.border.specs.declared.Along.{Along}
+use Rattle.border.specs.declared.CellBorder.{CellBorder}
 use Rattle.pad_line.specs.Line.{paddedAt}
 use Rattle.pad_spec.proofs.Rims.{ownOf, length-own, getD-own}
 use Rattle.pad_spec.specs.Runs.{Runs, extendedAt, axisSet}
@@ -54,13 +54,13 @@ module _ (p s : ℕ) (pp : 0 < p) (ps : 0 < s) (i r : ℕ) where
       rest = ap (λ x. x % s) again ∙ add-mul-mod-self-right r (i * p) s
 
 -- ---- g is g₀ with the first i blocks filled
-pub record BlocksFilled (m : Along) (p s left n : ℕ) (g₀ g : List ℤ) (i : ℕ) : Type 0 where
+pub record BlocksFilled (m : CellBorder) (p s left n : ℕ) (g₀ g : List ℤ) (i : ℕ) : Type 0 where
   pub stored : Stored (pos 0) (λ k. ltb k (i * (p * s))) (extendedAt m p s left n g₀) g₀ g
 
-pub filled-none : (m : Along) (p s left n : ℕ) (g : List ℤ) → BlocksFilled m p s left n g g 0
+pub filled-none : (m : CellBorder) (p s left n : ℕ) (g : List ℤ) → BlocksFilled m p s left n g g 0
 filled-none m p s left n g = record { stored = stored-none (pos 0) (extendedAt m p s left n g) (λ k. ltb k (0 * (p * s))) g (λ k. le-ltb k (0 * (p * s)) (omega arith)) }
 
-module _ {m : Along} {p s blocks left n : ℕ} {g₀ g : List ℤ} {i : ℕ} (R : Runs m p s blocks left n (length g₀)) (S : BlocksFilled m p s left n g₀ g i) where
+module _ {m : CellBorder} {p s blocks left n : ℕ} {g₀ g : List ℤ} {i : ℕ} (R : Runs m p s blocks left n (length g₀)) (S : BlocksFilled m p s left n g₀ g i) where
   pub filled-all : blocks ≤ i → g ≡ axisSet m p s left n g₀
   unfolding axisSet
   filled-all h =

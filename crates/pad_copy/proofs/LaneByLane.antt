@@ -15,10 +15,10 @@ use Rattle.numbers.proofs.Tabulate.{tabulate-agree}
 use Rattle.numbers.proofs.Tests.{cond-no}
 use Rattle.lanes.specs.Lanes.{laneOf, laneBase}
 use Rattle.lanes.proofs.Cells.{lane-of-cell, place-of-cell, base-neighbours, step-le}
-use Rattle.border.specs.declared.Along.{Along}
+use Rattle.border.specs.declared.CellBorder.{CellBorder}
 use Rattle.pad_spec.specs.Runs.{Runs, InRim, readFrom, extendedAt, rimSet}
 use Rattle.lanes.proofs.Part.{onRow, row-yes, row-in, row-no}
-use Rattle.pad_line.specs.Steps.{Stepped, stepSet}
+use Rattle.pad_line.specs.Steps.{StepNeeds, stepSet}
 use Rattle.pad_line.proofs.StepByStep.{steppedCell, set-stored}
 use Rattle.pad_copy.specs.Steps.{StepsOf}
 use Rattle.pad_copy.proofs.CopiedRims.{some-cells, rim-off, extended-read}
@@ -29,10 +29,10 @@ abbrev inLanes : ℕ → ℕ → ℕ → ℕ → ℕ → Bool
 inLanes p a count i k = ltb k (i * p) && onRow a count (k / 1 % p)
 
 -- ---- g is g₀ with the first i lanes filled there
-pub record LanesStored (m : Along) (p left n a count : ℕ) (g₀ g : List ℤ) (i : ℕ) : Type 0 where
+pub record LanesStored (m : CellBorder) (p left n a count : ℕ) (g₀ g : List ℤ) (i : ℕ) : Type 0 where
   pub stored : Stored (pos 0) (inLanes p a count i) (extendedAt m p 1 left n g₀) g₀ g
 
-pub lanes-none : (m : Along) (p left n a count : ℕ) (g : List ℤ) → LanesStored m p left n a count g g 0
+pub lanes-none : (m : CellBorder) (p left n a count : ℕ) (g : List ℤ) → LanesStored m p left n a count g g 0
 lanes-none m p left n a count g = record {
   stored = stored-none (pos 0) (extendedAt m p 1 left n g) (inLanes p a count 0) g (λ k. ap (λ t. t && onRow a count (k / 1 % p)) (le-ltb k (0 * p) (omega arith)));
 }
@@ -54,7 +54,7 @@ module _ (p i c : ℕ) (h : c < p) where
   cell-base : {k : ℕ} → k ≡ i * p + c → laneBase p 1 (laneOf p 1 k) ≡ i * p
   cell-base e = ap (laneBase p 1) (ap (laneOf p 1) (is-cell e) ∙ lane-of-cell p 1 some one i c h) ∙ base-neighbours p i
 
-module _ {m : Along} {p blocks left n a : ℕ} (count : ℕ) (g₀ : List ℤ) (R : Runs m p 1 blocks left n (length g₀)) (rims : (k : ℕ) → a ≤ k → k < a + count → InRim left n p k) where
+module _ {m : CellBorder} {p blocks left n a : ℕ} (count : ℕ) (g₀ : List ℤ) (R : Runs m p 1 blocks left n (length g₀)) (rims : (k : ℕ) → a ≤ k → k < a + count → InRim left n p k) where
   pub lanes-all : {g : List ℤ} {i : ℕ} → blocks ≤ i → LanesStored m p left n a count g₀ g i → g ≡ rimSet m p 1 left n a count g₀
   unfolding rimSet
   lanes-all {g} {i} h S =
@@ -72,7 +72,7 @@ module _ {m : Along} {p blocks left n a : ℕ} (count : ℕ) (g₀ : List ℤ) (
     read-place : (j : ℕ) → j < count → i * p + from + up * j - down * j ≡ i * p + readFrom m left n (a + j)
     read-place j l = omega (arith, step-at W R rims j l)
 
-    pub lane-stepped : {g : List ℤ} → LanesStored m p left n a count g₀ g i → Stepped up down (i * p + from) (i * p + a) count (length g)
+    pub lane-stepped : {g : List ℤ} → LanesStored m p left n a count g₀ g i → StepNeeds up down (i * p + from) (i * p + a) count (length g)
     lane-stepped S = record {
       ahead = λ j l. omega (arith, step-ahead W R rims j l, R .room, lane-in, S .stored .kept);
       behind = λ j l. omega (arith, step-at W R rims j l);

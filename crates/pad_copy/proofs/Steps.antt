@@ -10,8 +10,8 @@ use borrow.Author.Tests.{lt-ltb, le-ltb, ltb-false}
 use lib.Dec.{ltb}
 use Rattle.numbers.proofs.Tests.{cond-yes, cond-no}
 use Rattle.border.specs.Border.{cellBefore, cellAfter}
-use Rattle.border.specs.declared.Along.{Along}
-use Rattle.border.specs.declared.Along.the-variants.{Nearest, Mirror, Reflect, Wrap}
+use Rattle.border.specs.declared.CellBorder.{CellBorder}
+use Rattle.border.specs.declared.CellBorder.the-variants.{Nearest, Mirror, Reflect, Wrap}
 use Rattle.border.specs.Reach.{badAlong}
 use Rattle.pad_spec.specs.Runs.{Runs, InRim, readFrom}
 use Rattle.pad_line.specs.Steps.{stepUp, stepDown}
@@ -19,7 +19,7 @@ use Rattle.pad_line.proofs.RimSteps.{before-steps, after-steps, one-way}
 use Rattle.pad_copy.specs.Steps.{StepsOf}
 use Rattle.pad_copy.proofs.CopiedRims.{rim-below, rim-off, read-middle}
 
-module _ {m : Along} {p s blocks left n len : ℕ} (R : Runs m p s blocks left n len) where
+module _ {m : CellBorder} {p s blocks left n len : ℕ} (R : Runs m p s blocks left n len) where
   at-before : {k : ℕ} → k < left → readFrom m left n k ≡ left + cellBefore m n (left - k)
   at-before {k} h = cond-yes (ltb k left) _ _ (lt-ltb k left h)
 
@@ -39,7 +39,7 @@ module _ {m : Along} {p s blocks left n len : ℕ} (R : Runs m p s blocks left n
           ∙ sym (ap (λ r. r + stepDown m * j) (at-after (y .0)))
 
 -- ---- the place that is read is up and down steps from the first one
-module _ {m : Along} {left n a from up down : ℕ} (S : StepsOf m left n a from up down) where
+module _ {m : CellBorder} {left n a from up down : ℕ} (S : StepsOf m left n a from up down) where
   module _ {p s blocks len count : ℕ} (R : Runs m p s blocks left n len) (rims : (k : ℕ) → a ≤ k → k < a + count → InRim left n p k) (j : ℕ) (h : j < count) where
     pub step-at : from + up * j ≡ readFrom m left n (a + j) + down * j
     step-at = (λ i. S .first i + S .on i * j) ∙ read-steps R a j (λ k lo hi. rims k lo (omega arith)) ∙ (λ i. readFrom m left n (a + j) + sym (S .back) i * j)

@@ -8,7 +8,7 @@ ghost use Rattle.pad_spec.specs.Runs.{Runs, InRim, rimSet, axisSet};
 use crate::coordinate::copy_coordinate;
 use crate::side::copy_side;
 use crate::side::read_from;
-use border::Along;
+use border::CellBorder;
 
 // From so many cells on a rim is copied lane by lane sooner than coordinate by coordinate.
 const LONG_RIM: usize = 4;
@@ -28,7 +28,7 @@ fn lane_by_lane(s: usize, blocks: usize, count: usize) -> bool
 
 // Fills `count` coordinates of the axis, those from `a` on, which are in one rim.
 fn copy_rim(
-    mode: Along,
+    mode: CellBorder,
     p: usize,
     s: usize,
     blocks: usize,
@@ -64,7 +64,7 @@ fn copy_rim(
 //
 // Supposes `Runs`, and refuses nothing. Of 9 9 1 2 3 4 9 9, a block of p = 4 and s = 2 with 2 own cells from 1 on, under Wrap: 3 4 1 2 3 4 1 2.
 pub(crate) fn copy_rims(
-    mode: Along,
+    mode: CellBorder,
     p: usize,
     s: usize,
     blocks: usize,

@@ -10,7 +10,7 @@ ghost use Rattle.pad_spec.specs.Filled.{Fills};
 ghost use Rattle.pad_spec.specs.Frame.{Filling};
 ghost use Rattle.pad_spec.specs.Runs.{Runs, axisSet};
 use crate::rims::copy_rims;
-use border::Along;
+use border::CellBorder;
 
 // About how many cells of the grid are filled together: 32 kB.
 const NEAR_CELLS: usize = 4096;
@@ -35,7 +35,7 @@ fn least(a: usize, b: usize) -> usize
 
 // Fills both rims of the axis, `few` blocks at a time.
 fn copy_blocks(
-    mode: Along,
+    mode: CellBorder,
     p: usize,
     s: usize,
     blocks: usize,
@@ -60,7 +60,7 @@ fn copy_blocks(
 // Fills an axis: the places that are in the middle on every later axis then hold their levels, where those in the
 // middle on this one too held them.
 fn copy_axis(
-    mode: Along,
+    mode: CellBorder,
     shape: &[usize],
     lefts: &[usize],
     padded: &[usize],
@@ -87,7 +87,13 @@ fn copy_axis(
 // * `out` - the padded grid.
 //
 // Supposes `Filling`, and refuses nothing. Of 9 1 2 8 with 1 2 in the middle, under Wrap: 2 1 2 1.
-pub fn copy_axes(mode: Along, shape: &[usize], lefts: &[usize], padded: &[usize], out: &mut [i64])
+pub fn copy_axes(
+    mode: CellBorder,
+    shape: &[usize],
+    lefts: &[usize],
+    padded: &[usize],
+    out: &mut [i64],
+)
     requires { ⌜ Filling mode (now shape) (now lefts) (now padded) × (length (now out) ≡ cellCount (now padded)) ⌝ }
     ensures { λ _. ⌜ Fills (modeAlong mode) (now (shape .entry)) (now (lefts .entry)) (now (padded .entry)) 0 (length (now (shape .entry))) (now (out .entry)) (now (out .exit)) ⌝ }
 {

@@ -3,9 +3,10 @@
 ghost use mathlib.Core.Path.{_≡_};
 ghost use Prim.Native.Nat.{ℕ, _+_, _≤_, _<_};
 ghost use lib.ListN.{length};
+ghost use Rattle.numbers.specs.Limits.{longestPaddedAxis};
 ghost use Rattle.pad_spec.specs.Runs.{Runs, InRim, readFrom, rimSet};
 ghost use Rattle.pad_copy.specs.Steps.{StepsOf};
-use border::Along;
+use border::CellBorder;
 use pad_line::copy_steps;
 
 // The coordinate that a coordinate in a rim reads.
@@ -16,8 +17,8 @@ use pad_line::copy_steps;
 // * `k` - a coordinate in a rim.
 //
 // Supposes what it is handed, and refuses nothing. Of 7 cells with 3 own ones from 2 on, 0 under Wrap reads 3.
-pub(crate) fn read_from(mode: Along, left: usize, n: usize, p: usize, k: usize) -> usize
-    requires { ⌜ (left + n ≤ p) × (p ≤ 1152) × InRim left n p k ⌝ }
+pub(crate) fn read_from(mode: CellBorder, left: usize, n: usize, p: usize, k: usize) -> usize
+    requires { ⌜ (left + n ≤ p) × (p ≤ longestPaddedAxis) × InRim left n p k ⌝ }
     ensures { λ r. ⌜ r ≡ readFrom mode left n k ⌝ }
 {
     if k < left {
@@ -28,7 +29,7 @@ pub(crate) fn read_from(mode: Along, left: usize, n: usize, p: usize, k: usize) 
 
 // Fills `count` cells of each lane, those from `a` on, by the steps of a mode. It is called with constants for these, of which the compiler makes a loop for each mode.
 fn copy_lanes(
-    mode: Along,
+    mode: CellBorder,
     up: usize,
     down: usize,
     from: usize,
@@ -61,7 +62,7 @@ fn copy_lanes(
 //
 // Supposes `Runs`, and refuses nothing. Of 9 1 2 3 9 with 3 own cells from 1 on, 1 cell from 4 on under Wrap: 9 1 2 3 1.
 pub(crate) fn copy_side(
-    mode: Along,
+    mode: CellBorder,
     p: usize,
     blocks: usize,
     left: usize,
@@ -78,9 +79,9 @@ pub(crate) fn copy_side(
     }
     let from = read_from(mode, left, n, p, a);
     match mode {
-        Along::Nearest => copy_lanes(mode, 0, 0, from, p, blocks, left, n, a, count, out),
-        Along::Mirror => copy_lanes(mode, 0, 1, from, p, blocks, left, n, a, count, out),
-        Along::Reflect => copy_lanes(mode, 0, 1, from, p, blocks, left, n, a, count, out),
-        Along::Wrap => copy_lanes(mode, 1, 0, from, p, blocks, left, n, a, count, out),
+        CellBorder::Nearest => copy_lanes(mode, 0, 0, from, p, blocks, left, n, a, count, out),
+        CellBorder::Mirror => copy_lanes(mode, 0, 1, from, p, blocks, left, n, a, count, out),
+        CellBorder::Reflect => copy_lanes(mode, 0, 1, from, p, blocks, left, n, a, count, out),
+        CellBorder::Wrap => copy_lanes(mode, 1, 0, from, p, blocks, left, n, a, count, out),
     }
 }

@@ -3,6 +3,7 @@ ghost use mathlib.Core.Path.{_≡_};
 ghost use mathlib.Core.Bool.{false};
 ghost use Prim.Native.Nat.{_*_, _≤_, _<_};
 ghost use lib.ListN.{length, take};
+ghost use Rattle.numbers.specs.Limits.{longestAxis, longestPaddedAxis};
 ghost use Rattle.numbers.specs.Lists.{anyOf};
 ghost use Rattle.array_spec.specs.Conditions.{badShape};
 ghost use Rattle.array_spec.specs.Grid.{lengthOf};
@@ -25,10 +26,10 @@ fn bad_count(shape: &[usize], count: usize) -> bool
 fn over_pad(p: Pair) -> bool
     ensures { λ r. ⌜ r ≡ overPad p ⌝ }
 {
-    if 64 < p.left {
+    if numbers::LONGEST_PAD < p.left {
         return true;
     }
-    64 < p.right
+    numbers::LONGEST_PAD < p.right
 }
 
 // Condition 10 of the pairs that count: a pad over 64.
@@ -55,7 +56,7 @@ fn over_pads(pads: [Pair; 3], count: usize) -> bool
 
 // The padded length of an axis whose pads are at most 64; a missing axis has length 1.
 fn padded_len(shape: &[usize], pads: [Pair; 3], count: usize, axis: usize) -> usize
-    requires { ⌜ (lengthOf (now shape) axis ≤ 1024) × (axis < length (now shape) → overPad (pairOf pads count axis) ≡ false) ⌝ }
+    requires { ⌜ (lengthOf (now shape) axis ≤ longestAxis) × (axis < length (now shape) → overPad (pairOf pads count axis) ≡ false) ⌝ }
     ensures { λ r. ⌜ r ≡ lengthOf (paddedShape (now (shape .entry)) (leftsOf (now (shape .entry)) pads count) (rightsOf (now (shape .entry)) pads count)) axis ⌝ }
 {
     if shape.len() <= axis {
@@ -67,7 +68,7 @@ fn padded_len(shape: &[usize], pads: [Pair; 3], count: usize, axis: usize) -> us
 
 // The number of padded cells of three padded lengths.
 fn count_of_three(a: usize, b: usize, c: usize) -> usize
-    requires { ⌜ (a ≤ 1152) × (b ≤ 1152) × (c ≤ 1152) ⌝ }
+    requires { ⌜ (a ≤ longestPaddedAxis) × (b ≤ longestPaddedAxis) × (c ≤ longestPaddedAxis) ⌝ }
     ensures { λ r. ⌜ r ≡ a * (b * c) ⌝ }
 {
     a * (b * c)
@@ -102,7 +103,7 @@ pub(crate) fn bad_pads(shape: &[usize], pads: [Pair; 3], count: usize, out: usiz
         return true;
     }
     let cells = padded_cells(shape, pads, count);
-    if 32768 < cells {
+    if numbers::MOST_PADDED_CELLS < cells {
         return true;
     }
     out != cells

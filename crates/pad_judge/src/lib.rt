@@ -2,7 +2,7 @@
 // is stored. Condition 10 is `padded_count`'s.
 ghost use mathlib.Core.Path.{_≡_};
 ghost use Rattle.numbers.specs.Refusal.{refusalOf};
-ghost use Rattle.pad_spec.specs.Conditions.{badConstant, badReachOn, badReach, padJudged};
+ghost use Rattle.pad_spec.specs.Conditions.{badConstant, badPadReachOn, badPadReach, padJudged};
 use pad_spec::Filler;
 use pad_spec::Pair;
 use pad_spec::pair_of;
@@ -29,7 +29,7 @@ fn bad_reach_on(
     count: usize,
     axis: usize,
 ) -> bool
-    ensures { λ r. ⌜ r ≡ badReachOn mode (now (shape .entry)) pads count axis ⌝ }
+    ensures { λ r. ⌜ r ≡ badPadReachOn mode (now (shape .entry)) pads count axis ⌝ }
 {
     let n = array::len_of(shape, axis);
     let p = pair_of(pads, count, axis);
@@ -41,7 +41,7 @@ fn bad_reach_on(
 
 // Condition 11: on some axis a pad that the mode cannot fill.
 fn bad_reach(mode: border::PadMode, shape: &[usize], pads: [Pair; 3], count: usize) -> bool
-    ensures { λ r. ⌜ r ≡ badReach mode (now (shape .entry)) pads count ⌝ }
+    ensures { λ r. ⌜ r ≡ badPadReach mode (now (shape .entry)) pads count ⌝ }
 {
     let mut a = 0;
     while a < shape.len() {

@@ -10,9 +10,9 @@ use lib.Seq.{length-take-le, take-at, drop-at, drop-drop}
 use Rattle.lanes.specs.Lanes.{laneAt}
 use Rattle.lanes.proofs.Cells.{length-laneAt}
 use Rattle.border.specs.Border.{Border}
-use Rattle.pad_line.specs.Line.{paddedLine, padMiddle, Padding}
+use Rattle.pad_line.specs.Line.{paddedLine, padMiddle, PadNeeds}
 
-module _ {A : Type 0} (d : A) {b : Border A} {n s base left right : ℕ} {g held : List A} (P : Padding b n s base left right g held) where
+module _ {A : Type 0} (d : A) {b : Border A} {n s base left right : ℕ} {g held : List A} (P : PadNeeds b n s base left right g held) where
   cells : length (midOf left (left + n - left) held) ≡ n
   cells = mid-len left (left + n) held (omega (arith, P .fits)) ∙ omega arith
 

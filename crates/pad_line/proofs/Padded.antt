@@ -15,7 +15,7 @@ use Rattle.numbers.proofs.IntSum.{minus-pos, minus-neg}
 use Rattle.numbers.proofs.Tabulate.{length-tabulate, getD-tabulate}
 use Rattle.numbers.proofs.Window.{getD-window}
 use Rattle.border.specs.Border.{Border, constant, along, cellBefore, cellAfter, cellFor, extendedLane}
-use Rattle.border.specs.declared.Along.{Along}
+use Rattle.border.specs.declared.CellBorder.{CellBorder}
 use Rattle.pad_line.specs.Line.{paddedAt, paddedLine}
 
 -- ---- the coordinate of a place
@@ -33,13 +33,13 @@ module _ {A : Type 0} (d : A) (left : ℕ) (s : List A) where
   unfolding paddedAt
   padded-inside b i h = ap (extendedLane b (length s) (λ j. getD s j d)) (coordinate-from left i) ∙ inside-lane b i h
 
-  pub padded-before : (m : Along) (k : ℕ) → k < left → paddedAt d (along m) left s k ≡ getD s (cellBefore m (length s) (left - k)) d
+  pub padded-before : (m : CellBorder) (k : ℕ) → k < left → paddedAt d (along m) left s k ≡ getD s (cellBefore m (length s) (left - k)) d
   unfolding paddedAt extendedLane cellFor
   padded-before m k h =
       let e : left - suc k + 1 ≡ left - k = omega arith in
       ap (extendedLane (along m) (length s) (λ j. getD s j d)) (minus-neg k left h) ∙ ap (λ (j : ℕ). getD s (cellBefore m (length s) j) d) e
 
-  pub padded-after : (m : Along) (k : ℕ) → left + length s ≤ k → paddedAt d (along m) left s k ≡ getD s (cellAfter m (length s) (k + 1 - (left + length s))) d
+  pub padded-after : (m : CellBorder) (k : ℕ) → left + length s ≤ k → paddedAt d (along m) left s k ≡ getD s (cellAfter m (length s) (k + 1 - (left + length s))) d
   unfolding paddedAt extendedLane cellFor
   padded-after m k h =
       let e : k - left + 1 - length s ≡ k + 1 - (left + length s) = omega arith in

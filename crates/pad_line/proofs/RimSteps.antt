@@ -12,24 +12,24 @@ use lib.ListN.{length, getD}
 use Rattle.numbers.proofs.Stored.{stored-over}
 use Rattle.lanes.proofs.Part.{onRow, row-in, row-yes}
 use Rattle.border.specs.Border.{along, cellBefore, cellAfter}
-use Rattle.border.specs.declared.Along.{Along}
-use Rattle.border.specs.declared.Along.the-variants.{Nearest, Mirror, Reflect, Wrap}
-use Rattle.pad_line.specs.Steps.{stepUp, stepDown, Stepped, stepSet}
+use Rattle.border.specs.declared.CellBorder.{CellBorder}
+use Rattle.border.specs.declared.CellBorder.the-variants.{Nearest, Mirror, Reflect, Wrap}
+use Rattle.pad_line.specs.Steps.{stepUp, stepDown, StepNeeds, stepSet}
 use Rattle.pad_line.proofs.StepByStep.{steppedCell, set-stored}
 use Rattle.pad_line.specs.Line.{padMiddle}
 use Rattle.border.specs.Reach.{badAlong}
-use Rattle.pad_line.specs.Rims.{Rimmed}
+use Rattle.pad_line.specs.Rims.{RimNeeds}
 use Rattle.pad_line.proofs.Reach.{cell-before-in, cell-after-in}
 use Rattle.pad_line.proofs.Rims.{Filled, levelAt, level-before, level-after, filled-none, filled-middle, filled-all}
 
 -- ---- j places on, in the same rim
-pub before-steps : (m : Along) (left n a j : ℕ) → a + j < left → badAlong m n left ≡ false → left + cellBefore m n (left - a) + stepUp m * j ≡ left + cellBefore m n (left - (a + j)) + stepDown m * j
+pub before-steps : (m : CellBorder) (left n a j : ℕ) → a + j < left → badAlong m n left ≡ false → left + cellBefore m n (left - a) + stepUp m * j ≡ left + cellBefore m n (left - (a + j)) + stepDown m * j
 before-steps Nearest left n a j h b = omega arith
 before-steps Mirror left n a j h b = omega arith
 before-steps Reflect left n a j h b = omega arith
 before-steps Wrap left n a j h b = omega (arith, ltb-false n left b)
 
-pub after-steps : (m : Along) (left n right a j : ℕ) → 0 < n → left + n ≤ a → a + j + 1 - (left + n) ≤ right → badAlong m n right ≡ false
+pub after-steps : (m : CellBorder) (left n right a j : ℕ) → 0 < n → left + n ≤ a → a + j + 1 - (left + n) ≤ right → badAlong m n right ≡ false
     → left + cellAfter m n (a + 1 - (left + n)) + stepUp m * j ≡ left + cellAfter m n (a + j + 1 - (left + n)) + stepDown m * j
 after-steps Nearest left n right a j z h l b = omega arith
 after-steps Mirror left n right a j z h l b = omega (arith, ltb-false (n - 1) right b)
@@ -37,30 +37,30 @@ after-steps Reflect left n right a j z h l b = omega (arith, ltb-false n right b
 after-steps Wrap left n right a j z h l b = omega arith
 
 -- ---- no border steps both ways, so a step on ends where a cell is read, or starts there
-pub one-way : (m : Along) (from to j last : ℕ) → from + stepUp m * j ≡ to + stepDown m * j → from < last → to < last → from + stepUp m * j < last
+pub one-way : (m : CellBorder) (from to j last : ℕ) → from + stepUp m * j ≡ to + stepDown m * j → from < last → to < last → from + stepUp m * j < last
 one-way Nearest from to j last e f t = omega arith
 one-way Mirror from to j last e f t = omega arith
 one-way Reflect from to j last e f t = omega arith
 one-way Wrap from to j last e f t = omega arith
 
 -- ---- the cell that the first place of a rim reads is no further than the end of the lane, even where the rim has no place
-pub before-first : (m : Along) (n left : ℕ) → badAlong m n left ≡ false → cellBefore m n left ≤ n
+pub before-first : (m : CellBorder) (n left : ℕ) → badAlong m n left ≡ false → cellBefore m n left ≤ n
 before-first Nearest n left b = omega arith
 before-first Mirror n left b = omega (arith, ltb-false (n - 1) left b)
 before-first Reflect n left b = omega (arith, ltb-false n left b)
 before-first Wrap n left b = omega arith
 
-pub after-first : (m : Along) (n : ℕ) → cellAfter m n 1 ≤ n
+pub after-first : (m : CellBorder) (n : ℕ) → cellAfter m n 1 ≤ n
 after-first Nearest n = omega arith
 after-first Mirror n = omega arith
 after-first Reflect n = omega arith
 after-first Wrap n = omega arith
 
 -- ---- a lane that stands in the middle of a line, with room for both rims
-pub rimmed : (m : Along) {left n right len : ℕ} → (0 < n) × (left + n + right ≤ len) × (badAlong m n left ≡ false) × (badAlong m n right ≡ false) → Rimmed m (stepUp m) (stepDown m) left n right len
+pub rimmed : (m : CellBorder) {left n right len : ℕ} → (0 < n) × (left + n + right ≤ len) × (badAlong m n left ≡ false) × (badAlong m n right ≡ false) → RimNeeds m (stepUp m) (stepDown m) left n right len
 rimmed m h = record { some = h .0; room = h .1; fills-left = h .2; fills-right = h .3; on = refl; back = refl }
 
-module _ {m : Along} {up down left n right len : ℕ} (R : Rimmed m up down left n right len) where
+module _ {m : CellBorder} {up down left n right len : ℕ} (R : RimNeeds m up down left n right len) where
   -- the rim before it
   module _ {from : ℕ} (first : from ≡ left + cellBefore m n left) (j : ℕ) (h : j < left) where
     pub before-place : from + up * j ≡ left + cellBefore m n (left - j) + down * j
@@ -82,7 +82,7 @@ module _ {m : Along} {up down left n right len : ℕ} (R : Rimmed m up down left
         let e = cell-before-in m n left left (R .some) (omega arith) (omega arith) (R .fills-left) refl in
         omega (arith, ap (λ x. x * j) (R .on), one-way m from (left + cellBefore m n (left - j)) j (left + n) (ap (λ x. from + x * j) (sym (R .on)) ∙ before-place ∙ ap (λ x. left + cellBefore m n (left - j) + x * j) (R .back)) (omega (arith, first, e)) (omega (arith, before-in)))
 
-  pub before-stepped : {from : ℕ} → from ≡ left + cellBefore m n left → Stepped up down from 0 left len
+  pub before-stepped : {from : ℕ} → from ≡ left + cellBefore m n left → StepNeeds up down from 0 left len
   before-stepped first = record {
     ahead = λ j h. omega (arith, before-ahead first j h, R .room);
     behind = λ j h. omega (arith, before-place first j h);
@@ -108,7 +108,7 @@ module _ {m : Along} {up down left n right len : ℕ} (R : Rimmed m up down left
         let e = cell-after-in m n right 1 (R .some) (omega arith) (omega arith) (R .fills-right) refl in
         omega (arith, ap (λ x. x * j) (R .on), one-way m from (left + cellAfter m n (left + n + j + 1 - (left + n))) j (left + n) (ap (λ x. from + x * j) (sym (R .on)) ∙ after-place ∙ ap (λ x. left + cellAfter m n (left + n + j + 1 - (left + n)) + x * j) (R .back)) (omega (arith, first, e)) (omega (arith, after-in)))
 
-  pub after-stepped : {from len′ : ℕ} → len′ ≡ len → from ≡ left + cellAfter m n 1 → Stepped up down from (left + n) right len′
+  pub after-stepped : {from len′ : ℕ} → len′ ≡ len → from ≡ left + cellAfter m n 1 → StepNeeds up down from (left + n) right len′
   after-stepped long first = record {
     ahead = λ j h. omega (arith, after-ahead first j h, R .room, long);
     behind = λ j h. omega (arith, after-place first j h);

@@ -13,7 +13,7 @@ use Rattle.numbers.specs.Lists.{tabulate}
 use Rattle.numbers.proofs.Stored.{Stored, front-none, front-more, front-part, front-held}
 use Rattle.numbers.proofs.Tabulate.{length-tabulate}
 use Rattle.border.specs.Border.{Border, constant, along, cellBefore, cellAfter}
-use Rattle.border.specs.declared.Along.{Along}
+use Rattle.border.specs.declared.CellBorder.{CellBorder}
 use Rattle.pad_line.specs.Line.{paddedAt, paddedLine, padMiddle}
 use Rattle.pad_line.proofs.Padded.{padded-inside, padded-before, padded-after, constant-before, constant-after}
 
@@ -43,7 +43,7 @@ filled-more : {A : Type 0} {d : A} {b : Border A} {left n : ℕ} {l₀ l : List 
 filled-more {d = d} {b} {left} {n} {l₀} v h F e = record { stored = front-more d (levelAt d b left n l₀) v h (F .stored) e }
 
 -- ---- the cell of the lane that belongs at a place of either rim
-module _ {A : Type 0} (d : A) (m : Along) (left n : ℕ) (l : List A) (room : left + n ≤ length l) (k : ℕ) where
+module _ {A : Type 0} (d : A) (m : CellBorder) (left n : ℕ) (l : List A) (room : left + n ≤ length l) (k : ℕ) where
   pub level-before : k < left → cellBefore m n (left - k) < n → getD l (left + cellBefore m n (left - k)) d ≡ levelAt d (along m) left n l k
   level-before b h =
       getD-middle d left n l (cellBefore m n (left - k)) h

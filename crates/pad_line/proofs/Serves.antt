@@ -9,13 +9,13 @@ use borrow.Author.Tests.{le-leb, lt-leb, leb-true}
 use lib.Dec.{leb}
 use lib.ListN.{length, drop}
 use Rattle.numbers.specs.Windows.{windowOf}
-use Rattle.numbers.proofs.Tests.{and-true, cond-yes, cond-no, told}
+use Rattle.numbers.proofs.Tests.{and-true, cond-yes, cond-no, condition-is}
 use Rattle.numbers.proofs.Window.{window-append}
 use Rattle.lanes.specs.Lanes.{laneBase, laneInside, laneAt, lane}
 use Rattle.lanes.proofs.Cells.{lane-inside, inside-whole, length-laneAt}
 use Rattle.lanes.proofs.FirstPlace.{place-none, place-some}
 use Rattle.border.specs.Border.{Border}
-use Rattle.pad_line.specs.Line.{paddedLine, padServes, paddedLane, Padding}
+use Rattle.pad_line.specs.Line.{paddedLine, padServes, paddedLane, PadNeeds}
 use Rattle.border.specs.Reach.{badPad}
 use Rattle.pad_line.proofs.Padded.{length-padded}
 
@@ -44,15 +44,15 @@ module _ {A : Type 0} (d : A) (b : Border A) (n s l left right : ℕ) (g held : 
 
   pub bad-right-stays : {r : Bool} → r ≡ badPad b n right → r ≡ true → held ≡ paddedLane d b n s l left right g held
   unfolding padServes fit
-  bad-right-stays e t = stays (ap (λ x. fit && not (badPad b n left) && not x) (told e t) ∙ and-false (fit && not (badPad b n left)))
+  bad-right-stays e t = stays (ap (λ x. fit && not (badPad b n left) && not x) (condition-is e t) ∙ and-false (fit && not (badPad b n left)))
 
   pub bad-left-stays : {r : Bool} → r ≡ badPad b n left → r ≡ true → held ≡ paddedLane d b n s l left right g held
   unfolding padServes fit
-  bad-left-stays e t = stays (ap (λ x. fit && not x && not (badPad b n right)) (told e t) ∙ no-left fit (badPad b n right))
+  bad-left-stays e t = stays (ap (λ x. fit && not x && not (badPad b n right)) (condition-is e t) ∙ no-left fit (badPad b n right))
 
   pub lane-stays : {r : Bool} → r ≡ laneInside n s l (length g) && leb (left + n + right) (length held) → r ≡ false → held ≡ paddedLane d b n s l left right g held
   unfolding padServes
-  lane-stays e t = stays (ap (λ x. x && not (badPad b n left) && not (badPad b n right)) (told e t))
+  lane-stays e t = stays (ap (λ x. x && not (badPad b n left) && not (badPad b n right)) (condition-is e t))
 
 -- ---- the lane is padded
 -- what the tests have told where the lane is padded
@@ -89,7 +89,7 @@ module _ {A : Type 0} (d : A) {b : Border A} {n s l left right : ℕ} {g held : 
     base-is : base ≡ laneBase n s l
     base-is = e ∙ cond-yes (laneInside n s l (length g)) (laneBase n s l) (length g) inside
 
-    pub served-from : Padding b n s base left right g held
+    pub served-from : PadNeeds b n s base left right g held
     served-from = record {
       some = some-cells;
       inside = subst (λ (k : ℕ). k + n * s < length g + s) (sym base-is) (inside-whole (lane-inside n s l (length g) inside));

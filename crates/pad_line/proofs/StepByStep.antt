@@ -9,7 +9,7 @@ use lib.ListN.{length, getD, set}
 use Rattle.numbers.proofs.Stored.{Stored, stored-none, stored-one, stored-then, stored-table, table-stored}
 use Rattle.numbers.proofs.Tests.{cond-no}
 use Rattle.lanes.proofs.Part.{onRow, row-no, row-empty, row-longer}
-use Rattle.pad_line.specs.Steps.{Stepped, stepSet}
+use Rattle.pad_line.specs.Steps.{StepNeeds, stepSet}
 
 module _ {A : Type 0} (d : A) where
   -- the cell that place k gets
@@ -34,7 +34,7 @@ module _ {A : Type 0} (d : A) where
   set-stored up down from at count g₀ g e = table-stored d (steppedCell up down from at g₀) (onRow at count) g₀ g e
 
   -- ---- one cell more: the one that is read was not stored
-  pub step-more : {up down from at count len j : ℕ} {g₀ g : List A} (v : A) → Stepped up down from at count len → j < count → length g₀ ≡ len → v ≡ getD g (from + up * j - down * j) d
+  pub step-more : {up down from at count len j : ℕ} {g₀ g : List A} (v : A) → StepNeeds up down from at count len → j < count → length g₀ ≡ len → v ≡ getD g (from + up * j - down * j) d
       → StepStored up down from at g₀ g j → StepStored up down from at g₀ (set g (at + j) v) (j + 1)
   step-more {up} {down} {from} {at} {count} {len} {j} {g₀} {g} v W h w e S = record {
     stored =

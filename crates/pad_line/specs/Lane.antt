@@ -10,19 +10,20 @@ use mathlib.Core.Path.{_≡_}
 use mathlib.Core.Bool.{false}
 use mathlib.Core.List.{List}
 use lib.ListN.{length}
+use Rattle.numbers.specs.Limits.{longestLine, longestPad}
 use Rattle.array_spec.specs.Conditions.{badShape}
 use Rattle.array_spec.specs.Grid.{cellCount, lengthOf}
 use Rattle.border.specs.Border.{Border}
-use Rattle.pad_line.specs.Line.{paddedLine, Padding}
+use Rattle.pad_line.specs.Line.{paddedLine, PadNeeds}
 use Rattle.border.specs.Reach.{badPad}
 
 abbrev pub filteredLane : {A : Type 0} → A → (List A → ℕ → List A) → Border A → ℕ → ℕ → List A → List A
 filteredLane d f b left right s = f (paddedLine d b left right s) (length s)
 
 pub record LineNeeds {A : Type 0} (b : Border A) (n s base left right : ℕ) (cells line : List A) : Type 0 where
-  pub padding : Padding b n s base left right cells line
-  pub buffer : length line ≡ 1088
-  pub narrow : left + right ≤ 64
+  pub padding : PadNeeds b n s base left right cells line
+  pub buffer : length line ≡ longestLine
+  pub narrow : left + right ≤ longestPad
 
 pub record AxisNeeds {A : Type 0} (b : Border A) (ns : List ℕ) (a left right : ℕ) (cells out : List A) : Type 0 where
   pub shape : badShape ns ≡ false
@@ -31,4 +32,4 @@ pub record AxisNeeds {A : Type 0} (b : Border A) (ns : List ℕ) (a left right :
   pub same : length out ≡ length cells
   pub fills-left : badPad b (lengthOf ns a) left ≡ false
   pub fills-right : badPad b (lengthOf ns a) right ≡ false
-  pub narrow : left + right ≤ 64
+  pub narrow : left + right ≤ longestPad

@@ -8,7 +8,7 @@
 --   paddedLane d b n s l left right g held
 --                                         what padding lane l of the grid g leaves in a lent line that held `held`: the padded line, and
 --                                         past it what was held; nothing changes where padServes does not hold
---   Padding b n s base left right g held
+--   PadNeeds b n s base left right g held
 --                                         what padding supposes of the n cells of the grid g from place base on, s apart: they are some and inside,
 --                                         the border fills both pads, and the padded line is no longer than the lent one
 use Prim.Native.Nat.{ℕ, _+_, _-_, _*_, _≤_, _<_}
@@ -41,7 +41,7 @@ paddedLane d b n s l left right g held =
     (paddedLine d b left right (lane d n s l g) ++ drop (left + n + right) held)
     held
 
-pub record Padding {A : Type 0} (b : Border A) (n s base left right : ℕ) (g held : List A) : Type 0 where
+pub record PadNeeds {A : Type 0} (b : Border A) (n s base left right : ℕ) (g held : List A) : Type 0 where
   pub some : 0 < n
   pub inside : base + n * s < length g + s
   pub fits : left + n + right ≤ length held

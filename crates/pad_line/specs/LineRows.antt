@@ -1,5 +1,4 @@
 -- Worked rows of this crate's definitions. Each holds by computing.
---   wholes ns             the natural numbers ns as whole levels
 --   padded m left right   the cells 1 2 3 padded under the border m
 --   bad m n pads          condition 11 of each of the pads, of a lane of n cells under the border m
 --   filtered f m left right
@@ -15,15 +14,13 @@ use mathlib.Core.List.{List, [], _∷_, map}
 use lib.IntN.{ℤ, pos}
 use lib.ListN.{replicate, take}
 use Rattle.numbers.specs.Windows.{windowOf}
+use Rattle.numbers.specs.Rows.{wholes}
 use Rattle.border.specs.Modes.{borderOf}
 use Rattle.border.specs.declared.BorderMode.{BorderMode}
 use Rattle.border.specs.declared.BorderMode.the-variants as Whole
 use Rattle.pad_line.specs.Line.{paddedLine, paddedLane}
 use Rattle.border.specs.Reach.{badPad}
 use Rattle.pad_line.specs.Lane.{filteredLane}
-
-abbrev pub wholes : List ℕ → List ℤ
-wholes ns = map pos ns
 
 abbrev pub padded : BorderMode → ℕ → ℕ → List ℤ
 padded m left right = paddedLine (pos 0) (borderOf m) left right (wholes (1 ∷ 2 ∷ 3 ∷ []))

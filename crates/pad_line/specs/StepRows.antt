@@ -4,11 +4,11 @@
 use Prim.Native.Nat.{ℕ}
 use mathlib.Core.Path.{_≡_}
 use mathlib.Core.List.{List, [], _∷_}
-use Rattle.border.specs.declared.Along.{Along}
-use Rattle.border.specs.declared.Along.the-variants.{Nearest, Mirror, Reflect, Wrap}
+use Rattle.border.specs.declared.CellBorder.{CellBorder}
+use Rattle.border.specs.declared.CellBorder.the-variants.{Nearest, Mirror, Reflect, Wrap}
 use Rattle.pad_line.specs.Steps.{stepUp, stepDown, stepSet}
 
-abbrev pub before : Along → ℕ → List ℕ
+abbrev pub before : CellBorder → ℕ → List ℕ
 before m from = stepSet 0 (stepUp m) (stepDown m) from 0 2 (9 ∷ 9 ∷ 1 ∷ 2 ∷ 3 ∷ [])
 
 pub record StepRows : Type 0 where

@@ -8,10 +8,10 @@ ghost use Rattle.border.specs.Border.{constant, along};
 ghost use Rattle.border.specs.Modes.{borderOf};
 ghost use Rattle.pad_line.specs.Line.{padMiddle};
 ghost use Rattle.border.specs.Reach.{badPad};
-ghost use Rattle.pad_line.specs.Rims.{Rimmed};
+ghost use Rattle.pad_line.specs.Rims.{RimNeeds};
 use crate::steps::copy_steps;
-use border::Along;
 use border::BorderMode;
+use border::CellBorder;
 
 // Extends the n cells of the line from place left on by a constant level.
 fn extend_constant(c: i64, left: usize, n: usize, right: usize, line: &mut [i64])
@@ -34,7 +34,7 @@ fn extend_constant(c: i64, left: usize, n: usize, right: usize, line: &mut [i64]
 // Extends the n cells of the line from place left on by cells among them: each rim is copied by the steps of the border. It is called with constants for these, of which
 // the compiler makes a loop for each border.
 fn extend_along(
-    mode: Along,
+    mode: CellBorder,
     up: usize,
     down: usize,
     left: usize,
@@ -42,7 +42,7 @@ fn extend_along(
     right: usize,
     line: &mut [i64],
 )
-    requires { ⌜ Rimmed mode up down left n right (length (now line)) ⌝ }
+    requires { ⌜ RimNeeds mode up down left n right (length (now line)) ⌝ }
     ensures { λ _. ⌜ now (line .exit) ≡ padMiddle (pos 0) (along mode) left n right (now (line .entry)) ⌝ }
 {
     let before = left + border::cell_before(mode, n, left);
@@ -58,9 +58,9 @@ pub(crate) fn extend(mode: BorderMode, left: usize, n: usize, right: usize, line
 {
     match mode {
         BorderMode::Constant(c) => extend_constant(c, left, n, right, line),
-        BorderMode::Mirror => extend_along(Along::Mirror, 0, 1, left, n, right, line),
-        BorderMode::Nearest => extend_along(Along::Nearest, 0, 0, left, n, right, line),
-        BorderMode::Reflect => extend_along(Along::Reflect, 0, 1, left, n, right, line),
-        BorderMode::Wrap => extend_along(Along::Wrap, 1, 0, left, n, right, line),
+        BorderMode::Mirror => extend_along(CellBorder::Mirror, 0, 1, left, n, right, line),
+        BorderMode::Nearest => extend_along(CellBorder::Nearest, 0, 0, left, n, right, line),
+        BorderMode::Reflect => extend_along(CellBorder::Reflect, 0, 1, left, n, right, line),
+        BorderMode::Wrap => extend_along(CellBorder::Wrap, 1, 0, left, n, right, line),
     }
 }

@@ -11,7 +11,7 @@ ghost use lib.ListN.{drop};
 ghost use mathlib.Core.List.{_++_};
 ghost use Rattle.lanes.specs.Lanes.{laneInside, laneAt};
 ghost use Rattle.border.specs.Modes.{borderOf};
-ghost use Rattle.pad_line.specs.Line.{paddedLine, paddedLane, Padding};
+ghost use Rattle.pad_line.specs.Line.{paddedLine, paddedLane, PadNeeds};
 use border::BorderMode;
 
 mod extension;
@@ -68,7 +68,7 @@ pub fn pad_from(
     right: usize,
     line: &mut [i64],
 )
-    requires { ⌜ Padding (borderOf mode) n stride base left right (now grid) (now line) ⌝ }
+    requires { ⌜ PadNeeds (borderOf mode) n stride base left right (now grid) (now line) ⌝ }
     ensures { λ _. ⌜ now (line .exit) ≡ paddedLine (pos 0) (borderOf mode) left right (laneAt (pos 0) (now (grid .entry)) base stride n) ++ drop (left + n + right) (now (line .entry)) ⌝ }
 {
     let e = left + n;

@@ -8,9 +8,9 @@ ghost use Rattle.border.specs.Border.{constant, along};
 ghost use Rattle.border.specs.Modes.{borderOfF64};
 ghost use Rattle.pad_line.specs.Line.{padMiddle};
 ghost use Rattle.border.specs.Reach.{badPad};
-ghost use Rattle.pad_line.specs.Rims.{Rimmed};
-use border::Along;
+ghost use Rattle.pad_line.specs.Rims.{RimNeeds};
 use border::BorderModeF64;
+use border::CellBorder;
 use pad_line::copy_steps_f64;
 
 fn extend_constant_f64(c: f64, left: usize, n: usize, right: usize, line: &mut [f64])
@@ -31,7 +31,7 @@ fn extend_constant_f64(c: f64, left: usize, n: usize, right: usize, line: &mut [
 }
 
 fn extend_along_f64(
-    mode: Along,
+    mode: CellBorder,
     up: usize,
     down: usize,
     left: usize,
@@ -39,7 +39,7 @@ fn extend_along_f64(
     right: usize,
     line: &mut [f64],
 )
-    requires { ⌜ Rimmed mode up down left n right (length (now line)) ⌝ }
+    requires { ⌜ RimNeeds mode up down left n right (length (now line)) ⌝ }
     ensures { λ _. ⌜ now (line .exit) ≡ padMiddle nan (along mode) left n right (now (line .entry)) ⌝ }
 {
     let before = left + border::cell_before(mode, n, left);
@@ -54,9 +54,9 @@ pub(crate) fn extend_f64(mode: BorderModeF64, left: usize, n: usize, right: usiz
 {
     match mode {
         BorderModeF64::Constant(c) => extend_constant_f64(c, left, n, right, line),
-        BorderModeF64::Mirror => extend_along_f64(Along::Mirror, 0, 1, left, n, right, line),
-        BorderModeF64::Nearest => extend_along_f64(Along::Nearest, 0, 0, left, n, right, line),
-        BorderModeF64::Reflect => extend_along_f64(Along::Reflect, 0, 1, left, n, right, line),
-        BorderModeF64::Wrap => extend_along_f64(Along::Wrap, 1, 0, left, n, right, line),
+        BorderModeF64::Mirror => extend_along_f64(CellBorder::Mirror, 0, 1, left, n, right, line),
+        BorderModeF64::Nearest => extend_along_f64(CellBorder::Nearest, 0, 0, left, n, right, line),
+        BorderModeF64::Reflect => extend_along_f64(CellBorder::Reflect, 0, 1, left, n, right, line),
+        BorderModeF64::Wrap => extend_along_f64(CellBorder::Wrap, 1, 0, left, n, right, line),
     }
 }

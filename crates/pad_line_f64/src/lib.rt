@@ -6,7 +6,7 @@ ghost use lib.Ieee.{nan};
 ghost use lib.ListN.{drop};
 ghost use Rattle.lanes.specs.Lanes.{laneAt};
 ghost use Rattle.border.specs.Modes.{borderOfF64};
-ghost use Rattle.pad_line.specs.Line.{paddedLine, Padding};
+ghost use Rattle.pad_line.specs.Line.{paddedLine, PadNeeds};
 ghost use Rattle.pad_line_f64.specs.Rows.{PadLineF64Rows};
 use border::BorderModeF64;
 
@@ -23,7 +23,7 @@ pub fn pad_from_f64(
     right: usize,
     line: &mut [f64],
 )
-    requires { ⌜ Padding (borderOfF64 mode) n stride base left right (now grid) (now line) ⌝ }
+    requires { ⌜ PadNeeds (borderOfF64 mode) n stride base left right (now grid) (now line) ⌝ }
     ensures { λ _. ⌜ now (line .exit) ≡ paddedLine nan (borderOfF64 mode) left right (laneAt nan (now (grid .entry)) base stride n) ++ drop (left + n + right) (now (line .entry)) ⌝ }
 {
     let e = left + n;

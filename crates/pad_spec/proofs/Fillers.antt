@@ -4,8 +4,8 @@ use mathlib.Core.Path.{_≡_, refl, sym, ap, _∙_}
 use mathlib.Core.List.{List}
 use lib.IntN.{ℤ}
 use Rattle.border.specs.Border.{constant, along}
-use Rattle.border.specs.declared.Along.{Along}
-use Rattle.border.specs.declared.Along.the-variants as Along
+use Rattle.border.specs.declared.CellBorder.{CellBorder}
+use Rattle.border.specs.declared.CellBorder.the-variants as CellBorder
 use Rattle.border.specs.declared.PadMode.{PadMode}
 use Rattle.border.specs.declared.PadMode.the-variants.{Constant, Edge, Maximum, Mean, Median, Minimum, Reflect, Symmetric, Wrap}
 use Rattle.pad_spec.specs.Fill.{fillerOf, levelOf, borderBy, rimOf, modeAlong, modeTaking}
@@ -15,11 +15,11 @@ use Rattle.pad_spec.specs.declared.rim.Statistic.{Statistic}
 use Rattle.pad_spec.specs.declared.rim.Statistic.the-variants as Statistic
 
 -- ---- from the filler to the mode and back
-pub filler-along : (m : Along) → fillerOf (modeAlong m) ≡ Filler.Cells m
-filler-along Along.Nearest = refl
-filler-along Along.Mirror = refl
-filler-along Along.Reflect = refl
-filler-along Along.Wrap = refl
+pub filler-along : (m : CellBorder) → fillerOf (modeAlong m) ≡ Filler.Cells m
+filler-along CellBorder.Nearest = refl
+filler-along CellBorder.Mirror = refl
+filler-along CellBorder.Reflect = refl
+filler-along CellBorder.Wrap = refl
 
 pub filler-taking : (which : Statistic) → fillerOf (modeTaking which) ≡ Filler.Statistic which
 filler-taking Statistic.Maximum = refl
@@ -27,7 +27,7 @@ filler-taking Statistic.Mean = refl
 filler-taking Statistic.Median = refl
 filler-taking Statistic.Minimum = refl
 
-pub rim-along : (m : Along) (s : List ℤ) → rimOf (modeAlong m) s ≡ along m
+pub rim-along : (m : CellBorder) (s : List ℤ) → rimOf (modeAlong m) s ≡ along m
 rim-along m s = ap (λ f. borderBy f s) (filler-along m)
 
 pub rim-taking : (which : Statistic) (s : List ℤ) → rimOf (modeTaking which) s ≡ constant (levelOf which s)
@@ -54,7 +54,7 @@ module _ (mode : PadMode) where
   pub mode-level : {c : ℤ} → fillerOf mode ≡ Filler.Level c → mode ≡ Constant c
   mode-level e = sym (mode-filler mode) ∙ ap modeOf e
 
-  pub mode-cells : {m : Along} → fillerOf mode ≡ Filler.Cells m → mode ≡ modeAlong m
+  pub mode-cells : {m : CellBorder} → fillerOf mode ≡ Filler.Cells m → mode ≡ modeAlong m
   mode-cells e = sym (mode-filler mode) ∙ ap modeOf e
 
   pub mode-statistic : {which : Statistic} → fillerOf mode ≡ Filler.Statistic which → mode ≡ modeTaking which

@@ -8,12 +8,12 @@ use Rattle.border.specs.Border.{cellFor, extendedLane}
 use Rattle.pad_line.specs.Line.{paddedAt}
 use Rattle.statistics_spec.specs.Sorting.{inserted, sorted}
 use Rattle.statistics_spec.specs.Statistics.{meanOf, medianOf}
-use Rattle.pad_spec.specs.Conditions.{badPads, badReach, badSums}
+use Rattle.pad_spec.specs.Conditions.{badPads, badPadReach, badPadSums}
 use Rattle.pad_spec.specs.Levels.{levelTo, paddedGrid, paddedOver}
 use Rattle.pad_spec.specs.LevelRows.{LevelRows}
 
 pub level-rows : LevelRows
-unfolding tabulate badShape gridCount badLevel placeOf coordinate cellFor extendedLane paddedAt inserted sorted meanOf medianOf badPads badReach badSums levelTo paddedGrid paddedOver
+unfolding tabulate badShape gridCount badLevel placeOf coordinate cellFor extendedLane paddedAt inserted sorted meanOf medianOf badPads badPadReach badPadSums levelTo paddedGrid paddedOver
 level-rows = record {
   three-edge = refl;
   three-reflect = refl;

@@ -20,7 +20,7 @@ use Rattle.array_spec.proofs.Shapes.{shape-accepted, count-three}
 use Rattle.border.specs.declared.PadMode.{PadMode}
 use Rattle.border.specs.Reach.{badPad}
 use Rattle.pad_spec.specs.Fill.{rimOf}
-use Rattle.pad_spec.specs.Conditions.{badCount, overPad, paddedCount, badReachOn}
+use Rattle.pad_spec.specs.Conditions.{badCount, overPad, paddedCount, badPadReachOn}
 use Rattle.pad_spec.specs.Pads.{pairOf, leftsOf, rightsOf, paddedShape}
 use Rattle.pad_spec.specs.declared.pairs.Pair.{Pair}
 
@@ -68,10 +68,10 @@ module _ (mode : PadMode) (ns : List ℕ) (pads : List Pair) (count a : ℕ) {n 
   left-read : badPad (rimOf mode []) (lengthOf ns a) (pairOf pads count a .left) ≡ r
   left-read = (λ j. badPad (rimOf mode []) (sym e j) (sym f j .left)) ∙ sym g
 
-  pub reach-left : r ≡ true → true ≡ badReachOn mode ns pads count a
+  pub reach-left : r ≡ true → true ≡ badPadReachOn mode ns pads count a
   reach-left h = sym (ap (λ t. t || badPad (rimOf mode []) (lengthOf ns a) (pairOf pads count a .right)) (left-read ∙ h))
 
-  pub reach-right : {q : Bool} → r ≡ false → q ≡ badPad (rimOf mode []) n (p .right) → q ≡ badReachOn mode ns pads count a
+  pub reach-right : {q : Bool} → r ≡ false → q ≡ badPad (rimOf mode []) n (p .right) → q ≡ badPadReachOn mode ns pads count a
   reach-right h k =
       k ∙ (λ j. badPad (rimOf mode []) (e j) (f j .right))
       ∙ sym (ap (λ t. t || badPad (rimOf mode []) (lengthOf ns a) (pairOf pads count a .right)) (left-read ∙ h))

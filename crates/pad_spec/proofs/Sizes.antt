@@ -29,7 +29,7 @@ use Rattle.pad_spec.specs.declared.rim.Filler.{Filler}
 use Rattle.pad_spec.specs.declared.rim.Filler.the-variants as Filler
 use Rattle.pad_spec.specs.declared.rim.Statistic.{Statistic}
 use Rattle.pad_spec.specs.declared.rim.Statistic.the-variants as Statistic
-use Rattle.pad_spec.specs.Conditions.{badConstant, badSum, badSums}
+use Rattle.pad_spec.specs.Conditions.{badConstant, badSum, badPadSums}
 use Rattle.pad_spec.specs.Levels.{levelTo, ownCells}
 use Rattle.pad_spec.specs.Pads.{leftsOf, rightsOf, paddedShape, middleFrom}
 use Rattle.pad_spec.specs.declared.pairs.Pair.{Pair}
@@ -83,8 +83,8 @@ sum-fits Wrap s n h = refl
 
 -- condition 12 never holds
 pub no-bad-sums : (mode : PadMode) (ns : List ℕ) (pads : List Pair) (count : ℕ) (cells : List ℤ) → badShape ns ≡ false → anyOf badLevel cells ≡ false → badConstant mode ≡ false
-    → badSums mode ns pads count cells ≡ false
-unfolding badSums
+    → badPadSums mode ns pads count cells ≡ false
+unfolding badPadSums
 no-bad-sums mode ns pads count cells s l c =
     any-never _ (tabulate (λ a. a) 0 (length ns)) (λ d. any-never _ (tabulate (λ k. k) 0 (cellCount ps)) (λ k. at d k))
   where

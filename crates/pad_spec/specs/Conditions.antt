@@ -4,10 +4,10 @@
 --   overPad p                     10: a pad over 64
 --   paddedCount ns pads count     the number of cells of the padded grid
 --   badPads ns pads count out     10: a bad count, a pad over 64 among the pairs that count, over 32,768 padded cells, or an output of another length
---   badReachOn mode ns pads count a   11 of axis a
---   badReach mode ns pads count   11: on some axis a pad over n − 1 under Reflect, over n under Symmetric and Wrap
+--   badPadReachOn mode ns pads count a   11 of axis a
+--   badPadReach mode ns pads count   11: on some axis a pad over n − 1 under Reflect, over n under Symmetric and Wrap
 --   badSum mode s                 a sum outside signed 64 bits: under Mean of the cells of s, under Median of an even number the two middle levels'
---   badSums mode ns pads count cells    12: such a sum of a lane that is summed, one whose coordinates on all later axes are in the middle
+--   badPadSums mode ns pads count cells    12: such a sum of a lane that is summed, one whose coordinates on all later axes are in the middle
 --   padsJudged mode ns pads count cells out   conditions 9 to 12, in rising order; out is the output's length
 --   padJudged mode ns pads count cells out    what both calls refuse, in rising order
 use Prim.Native.Nat.{ℕ, suc, _-_, _/_, _%_}
@@ -16,6 +16,7 @@ use mathlib.Core.List.{List, [], _∷_, _++_}
 use lib.Dec.{ltb, eqb}
 use lib.IntN.{ℤ, _+ℤ_}
 use lib.ListN.{length, take}
+use Rattle.numbers.specs.Limits.{longestPad, mostPaddedCells}
 use Rattle.numbers.specs.Lists.{tabulate, anyOf}
 use Rattle.numbers.specs.Ranges.{beyond}
 use Rattle.numbers.specs.Refusal.{Judged}
@@ -38,21 +39,21 @@ abbrev pub badCount : List ℕ → ℕ → Bool
 badCount ns count = not (eqb count 1 || eqb count (length ns))
 
 abbrev pub overPad : Pair → Bool
-overPad p = ltb 64 (p .left) || ltb 64 (p .right)
+overPad p = ltb longestPad (p .left) || ltb longestPad (p .right)
 
 abbrev pub paddedCount : List ℕ → List Pair → ℕ → ℕ
 paddedCount ns pads count = cellCount (paddedShape ns (leftsOf ns pads count) (rightsOf ns pads count))
 
 unfoldable pub badPads : List ℕ → List Pair → ℕ → ℕ → Bool
 badPads ns pads count out =
-    badCount ns count || (anyOf overPad (take count pads) || (ltb 32768 (paddedCount ns pads count) || not (eqb out (paddedCount ns pads count))))
+    badCount ns count || (anyOf overPad (take count pads) || (ltb mostPaddedCells (paddedCount ns pads count) || not (eqb out (paddedCount ns pads count))))
 
 -- the cells of a lane do not tell which pads its border fills
-abbrev pub badReachOn : PadMode → List ℕ → List Pair → ℕ → ℕ → Bool
-badReachOn mode ns pads count a = badPad (rimOf mode []) (lengthOf ns a) (pairOf pads count a .left) || badPad (rimOf mode []) (lengthOf ns a) (pairOf pads count a .right)
+abbrev pub badPadReachOn : PadMode → List ℕ → List Pair → ℕ → ℕ → Bool
+badPadReachOn mode ns pads count a = badPad (rimOf mode []) (lengthOf ns a) (pairOf pads count a .left) || badPad (rimOf mode []) (lengthOf ns a) (pairOf pads count a .right)
 
-unfoldable pub badReach : PadMode → List ℕ → List Pair → ℕ → Bool
-badReach mode ns pads count = anyOf (badReachOn mode ns pads count) (tabulate (λ a. a) 0 (length ns))
+unfoldable pub badPadReach : PadMode → List ℕ → List Pair → ℕ → Bool
+badPadReach mode ns pads count = anyOf (badPadReachOn mode ns pads count) (tabulate (λ a. a) 0 (length ns))
 
 abbrev pub badSum : PadMode → List ℤ → Bool
 badSum (Constant c) s = false
@@ -65,8 +66,8 @@ badSum Reflect s = false
 badSum Symmetric s = false
 badSum Wrap s = false
 
-unfoldable pub badSums : PadMode → List ℕ → List Pair → ℕ → List ℤ → Bool
-badSums mode ns pads count cells =
+unfoldable pub badPadSums : PadMode → List ℕ → List Pair → ℕ → List ℤ → Bool
+badPadSums mode ns pads count cells =
     let lefts = leftsOf ns pads count in
     let ps = paddedShape ns lefts (rightsOf ns pads count) in
     anyOf (λ d. anyOf (λ k. middleFrom ns lefts (suc d) (coordinate ps k) && badSum mode (ownCells mode ns lefts cells d (coordinate ps k)))
@@ -75,7 +76,7 @@ badSums mode ns pads count cells =
 
 abbrev pub padsJudged : PadMode → List ℕ → List Pair → ℕ → List ℤ → ℕ → Judged
 padsJudged mode ns pads count cells out =
-    (badConstant mode, 9) ∷ (badPads ns pads count out, 10) ∷ (badReach mode ns pads count, 11) ∷ (badSums mode ns pads count cells, 12) ∷ []
+    (badConstant mode, 9) ∷ (badPads ns pads count out, 10) ∷ (badPadReach mode ns pads count, 11) ∷ (badPadSums mode ns pads count cells, 12) ∷ []
 
 abbrev pub padJudged : PadMode → List ℕ → List Pair → ℕ → List ℤ → ℕ → Judged
 padJudged mode ns pads count cells out = gridJudged ns cells [] ++ padsJudged mode ns pads count cells out

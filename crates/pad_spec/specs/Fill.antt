@@ -21,10 +21,11 @@ use mathlib.Core.List.{List}
 use lib.Dec.{leb}
 use lib.IntN.{ℤ, pos}
 use lib.ListN.{length, take, drop}
+use Rattle.numbers.specs.Limits.{longestPaddedAxis}
 use Rattle.lanes.specs.Lanes.{lane, withLane, laneInside}
 use Rattle.border.specs.Border.{Border, constant, along}
-use Rattle.border.specs.declared.Along.{Along}
-use Rattle.border.specs.declared.Along.the-variants as Along
+use Rattle.border.specs.declared.CellBorder.{CellBorder}
+use Rattle.border.specs.declared.CellBorder.the-variants as CellBorder
 use Rattle.border.specs.declared.PadMode.{PadMode}
 use Rattle.border.specs.declared.PadMode.the-variants.{Constant, Edge, Maximum, Mean, Median, Minimum, Reflect, Symmetric, Wrap}
 use Rattle.pad_line.specs.Line.{paddedLine}
@@ -36,14 +37,14 @@ use Rattle.pad_spec.specs.declared.rim.Statistic.the-variants as Statist
 
 abbrev pub fillerOf : PadMode → Filler
 fillerOf (Constant c) = Filler.Level c
-fillerOf Edge = Filler.Cells Along.Nearest
+fillerOf Edge = Filler.Cells CellBorder.Nearest
 fillerOf Maximum = Filler.Statistic Statistic.Maximum
 fillerOf Mean = Filler.Statistic Statistic.Mean
 fillerOf Median = Filler.Statistic Statistic.Median
 fillerOf Minimum = Filler.Statistic Statistic.Minimum
-fillerOf Reflect = Filler.Cells Along.Mirror
-fillerOf Symmetric = Filler.Cells Along.Reflect
-fillerOf Wrap = Filler.Cells Along.Wrap
+fillerOf Reflect = Filler.Cells CellBorder.Mirror
+fillerOf Symmetric = Filler.Cells CellBorder.Reflect
+fillerOf Wrap = Filler.Cells CellBorder.Wrap
 
 abbrev pub levelOf : Statistic → List ℤ → ℤ
 levelOf Statistic.Maximum s = maximumOf s
@@ -64,11 +65,11 @@ carries t (Filler.Level c) = t c
 carries t (Filler.Cells m) = false
 carries t (Filler.Statistic which) = false
 
-abbrev pub modeAlong : Along → PadMode
-modeAlong Along.Nearest = Edge
-modeAlong Along.Mirror = Reflect
-modeAlong Along.Reflect = Symmetric
-modeAlong Along.Wrap = Wrap
+abbrev pub modeAlong : CellBorder → PadMode
+modeAlong CellBorder.Nearest = Edge
+modeAlong CellBorder.Mirror = Reflect
+modeAlong CellBorder.Reflect = Symmetric
+modeAlong CellBorder.Wrap = Wrap
 
 abbrev pub modeTaking : Statistic → PadMode
 modeTaking Statistic.Maximum = Maximum
@@ -83,7 +84,7 @@ statisticOf Statistic.Median s = answered medianOf s
 statisticOf Statistic.Minimum s = minimumOf s
 
 unfoldable pub laneServes : ℕ → ℕ → ℕ → ℕ → ℕ → ℕ → Bool
-laneServes p s l count left n = laneInside p s l count && leb p 1152 && leb 1 n && leb (left + n) p
+laneServes p s l count left n = laneInside p s l count && leb p longestPaddedAxis && leb 1 n && leb (left + n) p
 
 unfoldable pub filledLane : Statistic → ℕ → ℕ → ℕ → ℕ → ℕ → List ℤ → List ℤ
 filledLane which p s l left n g =

@@ -12,10 +12,11 @@ use mathlib.Core.List.{List}
 use lib.Dec.{leb, ltb}
 use lib.IntN.{ℤ, pos}
 use lib.ListN.{length, getD}
+use Rattle.numbers.specs.Limits.{longestPaddedAxis, mostPaddedCells}
 use Rattle.numbers.specs.Lists.{tabulate}
 use Rattle.array_spec.specs.Conditions.{badShape}
 use Rattle.array_spec.specs.Grid.{cellCount, lengthOf, placeOf, coordinate, levelAt}
-use Rattle.border.specs.declared.Along.{Along}
+use Rattle.border.specs.declared.CellBorder.{CellBorder}
 use Rattle.border.specs.Reach.{badAlong}
 use Rattle.pad_spec.specs.Pads.{middleFrom}
 
@@ -24,10 +25,10 @@ pub record Framed (ns lefts ps : List ℕ) : Type 0 where
   pub starts : length lefts ≡ length ns
   pub axes : length ps ≡ length ns
   pub room : (a : ℕ) → a < length ns → getD lefts a 0 + lengthOf ns a ≤ lengthOf ps a
-  pub short : (a : ℕ) → lengthOf ps a ≤ 1152
-  pub small : cellCount ps ≤ 32768
+  pub short : (a : ℕ) → lengthOf ps a ≤ longestPaddedAxis
+  pub small : cellCount ps ≤ mostPaddedCells
 
-pub record Filling (m : Along) (ns lefts ps : List ℕ) : Type 0 where
+pub record Filling (m : CellBorder) (ns lefts ps : List ℕ) : Type 0 where
   pub framed : Framed ns lefts ps
   pub fills-left : (a : ℕ) → a < length ns → badAlong m (lengthOf ns a) (getD lefts a 0) ≡ false
   pub fills-right : (a : ℕ) → a < length ns

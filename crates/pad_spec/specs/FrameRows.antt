@@ -3,7 +3,7 @@
 use mathlib.Core.Path.{_≡_}
 use mathlib.Core.List.{[], _∷_, map}
 use Rattle.numbers.specs.Rows.{wholes}
-use Rattle.border.specs.declared.Along.the-variants.{Nearest, Mirror, Reflect, Wrap}
+use Rattle.border.specs.declared.CellBorder.the-variants.{Nearest, Mirror, Reflect, Wrap}
 use Rattle.pad_spec.specs.Frame.{targetOf, rowLength, rowSet, middleSet}
 use Rattle.pad_spec.specs.Runs.{readFrom, coordinateSet, rimSet, axisSet}
 

@@ -11,7 +11,7 @@ use lib.Signed.{ltZ}
 use Rattle.numbers.specs.Rows.{wholes, minus}
 use Rattle.border.specs.Border.{constant}
 use Rattle.border.specs.Modes.{borderOf, padModeOf}
-use Rattle.border.specs.declared.Along.{Along}
+use Rattle.border.specs.declared.CellBorder.{CellBorder}
 use Rattle.border.specs.declared.BorderMode.{BorderMode}
 use Rattle.border.specs.declared.PadMode.the-variants.{Constant, Edge, Maximum, Mean, Median, Minimum}
 use Rattle.pad_spec.specs.Fill.{fillerOf, rimOf, carries, modeAlong, modeTaking, statisticOf, filledLane}
@@ -32,7 +32,7 @@ pub record RimRows : Type 0 where
   pub maximum : rimOf Maximum (wholes (2 ∷ 4 ∷ 1 ∷ [])) ≡ constant (pos 4)
   pub minimum : rimOf Minimum (wholes (2 ∷ 4 ∷ 1 ∷ [])) ≡ constant (pos 1)
   -- the mode of a filler
-  pub along-mode : (m : Along) → fillerOf (modeAlong m) ≡ Filler.Cells m
+  pub along-mode : (m : CellBorder) → fillerOf (modeAlong m) ≡ Filler.Cells m
   pub taking-mode : (which : Statistic) → fillerOf (modeTaking which) ≡ Filler.Statistic which
   -- a level over 5 is carried, one of 5 is not; the other modes carry none
   pub carried : map (λ m. carries (ltZ (pos 5)) (fillerOf m)) (Constant (pos 7) ∷ Constant (pos 5) ∷ Edge ∷ Mean ∷ [])

@@ -4,7 +4,7 @@ ghost use mathlib.Core.Path.{_≡_};
 ghost use mathlib.Core.List.{[]};
 ghost use Rattle.border.specs.Reach.{badPad};
 ghost use Rattle.pad_spec.specs.Fill.{fillerOf, rimOf};
-use border::Along;
+use border::CellBorder;
 use border::PadMode;
 
 // Which level of a lane's own cells fills its rims.
@@ -20,7 +20,7 @@ pub enum Filler {
     // A level that the mode carries.
     Level(i64),
     // Cells of the lane.
-    Cells(Along),
+    Cells(CellBorder),
     // A level of the lane's own cells.
     Statistic(Statistic),
 }
@@ -29,21 +29,21 @@ pub enum Filler {
 //
 // * `mode` - the padding mode.
 //
-// Refuses nothing. PadMode::Constant(7) gives Filler::Level(7), PadMode::Symmetric Filler::Cells(Along::Reflect),
+// Refuses nothing. PadMode::Constant(7) gives Filler::Level(7), PadMode::Symmetric Filler::Cells(CellBorder::Reflect),
 // PadMode::Mean Filler::Statistic(Statistic::Mean).
 pub fn filler_of(mode: PadMode) -> Filler
     ensures { λ r. ⌜ r ≡ fillerOf mode ⌝ }
 {
     match mode {
         PadMode::Constant(c) => Filler::Level(c),
-        PadMode::Edge => Filler::Cells(Along::Nearest),
+        PadMode::Edge => Filler::Cells(CellBorder::Nearest),
         PadMode::Maximum => Filler::Statistic(Statistic::Maximum),
         PadMode::Mean => Filler::Statistic(Statistic::Mean),
         PadMode::Median => Filler::Statistic(Statistic::Median),
         PadMode::Minimum => Filler::Statistic(Statistic::Minimum),
-        PadMode::Reflect => Filler::Cells(Along::Mirror),
-        PadMode::Symmetric => Filler::Cells(Along::Reflect),
-        PadMode::Wrap => Filler::Cells(Along::Wrap),
+        PadMode::Reflect => Filler::Cells(CellBorder::Mirror),
+        PadMode::Symmetric => Filler::Cells(CellBorder::Reflect),
+        PadMode::Wrap => Filler::Cells(CellBorder::Wrap),
     }
 }
 

@@ -217,21 +217,21 @@ pub record OnAxis (ps : List ℕ) (a p s count : ℕ) : Type 0 where
 pub on-axis : {ns lefts ps : List ℕ} {a p s k : ℕ} → Framed ns lefts ps → p ≡ lengthOf ps a → s ≡ strideOf ps a → k ≡ cellCount ps → OnAxis ps a p s (k / p)
 on-axis {p = p} {k = k} F e f g = record { long = e; apart = f; many = (λ j. g j / e j); split = ap (λ (x : ℕ). x / p) g; few = omega (arith, div-le-self k p, g, F .small) }
 
-pub record Along (which : Statistic) (ns lefts ps : List ℕ) (d : ℕ) (out₀ : List ℤ) (l : ℕ) (out : List ℤ) : Type 0 where
+pub record CellBorder (which : Statistic) (ns lefts ps : List ℕ) (d : ℕ) (out₀ : List ℤ) (l : ℕ) (out : List ℤ) : Type 0 where
   pub count : length out ≡ cellCount ps
   pub reached : (F : Framed ns lefts ps) (h : d < length ns) (cells : List ℤ) → Filled (modeTaking which) ns lefts ps cells d out₀ → Reached which F d h cells l out
 
 module _ {which : Statistic} {ns lefts ps : List ℕ} {d : ℕ} {out₀ : List ℤ} where
-  pub along-none : length out₀ ≡ cellCount ps → Along which ns lefts ps d out₀ 0 out₀
+  pub along-none : length out₀ ≡ cellCount ps → CellBorder which ns lefts ps d out₀ 0 out₀
   along-none e = record { count = e; reached = λ F h cells A. reached-none which F d h A }
 
-  pub along-all : Framed ns lefts ps → d < length ns → {p s count l : ℕ} {out : List ℤ} → OnAxis ps d p s count → count ≤ l → Along which ns lefts ps d out₀ l out
+  pub along-all : Framed ns lefts ps → d < length ns → {p s count l : ℕ} {out : List ℤ} → OnAxis ps d p s count → count ≤ l → CellBorder which ns lefts ps d out₀ l out
       → (cells : List ℤ) → Filled (modeTaking which) ns lefts ps cells d out₀ → Filled (modeTaking which) ns lefts ps cells (suc d) out
   along-all F h O b W cells A = reached-all which F d h (omega (arith, O .many)) (W .reached F h cells A)
 
-  pub along-more : {p s count l : ℕ} {out out′ : List ℤ} → OnAxis ps d p s count → l < count → Along which ns lefts ps d out₀ l out → length out′ ≡ length out
+  pub along-more : {p s count l : ℕ} {out out′ : List ℤ} → OnAxis ps d p s count → l < count → CellBorder which ns lefts ps d out₀ l out → length out′ ≡ length out
       → out′ ≡ cond (middleFrom ns lefts (suc d) (coordinate ps (laneBase p s l))) (filledLane which p s l (getD lefts d 0) (lengthOf ns d) out) out
-      → Along which ns lefts ps d out₀ (l + 1) out′
+      → CellBorder which ns lefts ps d out₀ (l + 1) out′
   along-more {p} {s} {count} {l} {out} {out′} O b W k e = record {
     count = k ∙ W .count;
     reached = λ F h cells A. go F h cells (W .reached F h cells A) (middleFrom ns lefts (suc d) (coordinate ps (laneBase (lengthOf ps d) (strideOf ps d) l))) refl;

@@ -4,6 +4,7 @@ ghost use mathlib.Core.Path.{_≡_};
 ghost use mathlib.Core.Bool.{cond};
 ghost use Prim.Native.Nat.{suc, _/_, _<_};
 ghost use lib.ListN.{length, getD};
+ghost use Rattle.numbers.specs.Limits.{longestPaddedAxis};
 ghost use Rattle.array_spec.specs.Grid.{cellCount, lengthOf, strideOf, coordinate};
 ghost use Rattle.lanes.specs.Lanes.{laneBase};
 ghost use Rattle.pad_spec.specs.Fill.{modeTaking, filledLane};
@@ -27,7 +28,7 @@ fn fill_lane(
     line: &mut [i64],
     out: &mut [i64],
 )
-    requires { ⌜ Framed (now shape) (now lefts) (now padded) × (axis < length (now shape)) × ((s ≡ 1 → ⊥) → length (now line) ≡ 1152) × (length (now out) ≡ cellCount (now padded)) × (p ≡ lengthOf (now padded) axis) × (s ≡ strideOf (now padded) axis) × (lane < cellCount (now padded) / p) ⌝ }
+    requires { ⌜ Framed (now shape) (now lefts) (now padded) × (axis < length (now shape)) × ((s ≡ 1 → ⊥) → length (now line) ≡ longestPaddedAxis) × (length (now out) ≡ cellCount (now padded)) × (p ≡ lengthOf (now padded) axis) × (s ≡ strideOf (now padded) axis) × (lane < cellCount (now padded) / p) ⌝ }
     ensures { λ _. ⌜ now (out .exit) ≡ cond (middleFrom (now (shape .entry)) (now (lefts .entry)) (suc axis) (coordinate (now (padded .entry)) (laneBase p s lane))) (filledLane statistic p s lane (getD (now (lefts .entry)) axis 0) (lengthOf (now (shape .entry)) axis) (now (out .entry))) (now (out .entry)) ⌝ }
 {
     let first = lanes::first_place(out.len(), p, s, lane);
@@ -66,7 +67,7 @@ pub fn fill_axis(
     line: &mut [i64],
     out: &mut [i64],
 )
-    requires { ⌜ Framed (now shape) (now lefts) (now padded) × (axis < length (now shape)) × ((strideOf (now padded) axis ≡ 1 → ⊥) → length (now line) ≡ 1152) × (length (now out) ≡ cellCount (now padded)) ⌝ }
+    requires { ⌜ Framed (now shape) (now lefts) (now padded) × (axis < length (now shape)) × ((strideOf (now padded) axis ≡ 1 → ⊥) → length (now line) ≡ longestPaddedAxis) × (length (now out) ≡ cellCount (now padded)) ⌝ }
     ensures { λ _. ⌜ Fills (modeTaking statistic) (now (shape .entry)) (now (lefts .entry)) (now (padded .entry)) axis (suc axis) (now (out .entry)) (now (out .exit)) ⌝ }
 {
     let p = array::len_of(padded, axis);

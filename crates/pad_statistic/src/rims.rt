@@ -4,6 +4,7 @@ ghost use mathlib.Core.Bool.{true, cond};
 ghost use Prim.Native.Nat.{_+_, _-_, _≤_};
 ghost use lib.IntN.{pos};
 ghost use lib.ListN.{length, take, drop};
+ghost use Rattle.numbers.specs.Limits.{longestPaddedAxis};
 ghost use Rattle.lanes.specs.Lanes.{lane, laneBase, laneInside, withLane};
 ghost use Rattle.border.specs.Border.{constant};
 ghost use Rattle.pad_line.specs.Line.{paddedLine};
@@ -11,7 +12,7 @@ ghost use Rattle.pad_spec.specs.Fill.{laneServes, filledLane};
 use pad_spec::Statistic;
 
 // A lane has at most 1,024 cells of its own and two pads of 64.
-const MOST_CELLS: usize = 1152;
+const MOST_CELLS: usize = numbers::LONGEST_PADDED_AXIS;
 
 // Stores one level in both rims of lane `l`, which has `p` cells `s` apart from `base` on; its own are the n cells
 // from place left on.
@@ -87,7 +88,7 @@ pub(crate) fn fill_lane(
     line: &mut [i64],
     out: &mut [i64],
 )
-    requires { ⌜ ((s ≡ 1 → ⊥) → length (now line) ≡ 1152) ⌝ }
+    requires { ⌜ ((s ≡ 1 → ⊥) → length (now line) ≡ longestPaddedAxis) ⌝ }
     ensures { λ _. ⌜ now (out .exit) ≡ filledLane statistic p s l left n (now (out .entry)) ⌝ }
 {
     let base = lanes::first_place(out.len(), p, s, l);

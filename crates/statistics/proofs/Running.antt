@@ -12,7 +12,7 @@ use lib.ListN.{length, getD, drop, drop-of-length-le}
 use lib.Signed.{mag}
 use mir.Syntax.{w64}
 use mir.Val.{toZ, ofZ}
-use Rattle.numbers.specs.Order.{Total, leastFrom, least}
+use Rattle.numbers.specs.Order.{Total, extremeFrom, extreme}
 use Rattle.numbers.proofs.Index.{drop-next}
 use Rattle.numbers.proofs.Lesser.{lesser, lesser-itself, lesser-assoc, lesser-crossed}
 use Rattle.numbers.proofs.Read.{read}
@@ -31,27 +31,27 @@ next-read le l i {m} {r} h k e = record { is = read k (e ∙ ap (lesser le m) ba
 
 module _ {A : Type 0} (le : A → A → Bool) (d : A) where
   -- ---- the ends of a pass
-  pub least-none : (l : List A) → length l ≡ 0 → d ≡ least le d l
-  least-none [] h = refl
-  least-none (x ∷ xs) h = absurd (suc-ne-zero _ h)
+  pub extreme-none : (l : List A) → length l ≡ 0 → d ≡ extreme le d l
+  extreme-none [] h = refl
+  extreme-none (x ∷ xs) h = absurd (suc-ne-zero _ h)
 
-  pub least-first : (l : List A) → 0 < length l → leastFrom le (getD l 0 d) (drop 1 l) ≡ least le d l
-  least-first [] h = absurd (not-suc-le-zero h)
-  least-first (x ∷ xs) h = refl
+  pub extreme-first : (l : List A) → 0 < length l → extremeFrom le (getD l 0 d) (drop 1 l) ≡ extreme le d l
+  extreme-first [] h = absurd (not-suc-le-zero h)
+  extreme-first (x ∷ xs) h = refl
 
-  module _ (l : List A) (i : ℕ) (m v : A) (e : leastFrom le m (drop i l) ≡ v) where
-    pub least-more : {n : A} → Next le d l i m n → i < length l → leastFrom le n (drop (i + 1) l) ≡ v
-    least-more N h = ap (λ y. leastFrom le y (drop (i + 1) l)) (N .is) ∙ sym (ap (leastFrom le m) (drop-next l i d h)) ∙ e
+  module _ (l : List A) (i : ℕ) (m v : A) (e : extremeFrom le m (drop i l) ≡ v) where
+    pub extreme-more : {n : A} → Next le d l i m n → i < length l → extremeFrom le n (drop (i + 1) l) ≡ v
+    extreme-more N h = ap (λ y. extremeFrom le y (drop (i + 1) l)) (N .is) ∙ sym (ap (extremeFrom le m) (drop-next l i d h)) ∙ e
 
-    pub least-last : length l ≤ i → m ≡ v
-    least-last h = sym (ap (leastFrom le m) (drop-of-length-le l h)) ∙ e
+    pub extreme-last : length l ≤ i → m ≡ v
+    extreme-last h = sym (ap (extremeFrom le m) (drop-of-length-le l h)) ∙ e
 
   -- ---- four running values, and what is left from place i on
   abbrev pub four : A → A → A → A → A
   four a b c e = lesser le (lesser le a b) (lesser le c e)
 
   pub record Four (l : List A) (i : ℕ) (a b c e : A) : Type 0 where
-    pub is : leastFrom le (four a b c e) (drop i l) ≡ least le d l
+    pub is : extremeFrom le (four a b c e) (drop i l) ≡ extreme le d l
 
   drop-four : (l : List A) (i : ℕ) → i + 3 < length l → drop i l ≡ getD l i d ∷ getD l (i + 1) d ∷ getD l (i + 2) d ∷ getD l (i + 3) d ∷ drop (i + 4) l
   drop-four l i h =
@@ -71,7 +71,7 @@ module _ {A : Type 0} (le : A → A → Bool) (d : A) where
 
   module _ (O : Total le) where
     pub four-first : (l : List A) {a : A} → 0 < length l → a ≡ getD l 0 d → Four l 1 a a a a
-    four-first l {a} h e = record { is = ap (λ m. leastFrom le m (drop 1 l)) (ap (λ m. lesser le m m) (lesser-itself le O a) ∙ lesser-itself le O a ∙ e) ∙ least-first l h }
+    four-first l {a} h e = record { is = ap (λ m. extremeFrom le m (drop 1 l)) (ap (λ m. lesser le m m) (lesser-itself le O a) ∙ lesser-itself le O a ∙ e) ∙ extreme-first l h }
 
     -- four members taken by one value each, or one after the other by the first of the four
     four-crossed : (a b c e w x y z : A)
@@ -87,8 +87,8 @@ module _ {A : Type 0} (le : A → A → Bool) (d : A) where
         → Next le d l i a a′ → Next le d l (i + 1) b b′ → Next le d l (i + 2) c c′ → Next le d l (i + 3) e e′ → Four l (i + 4) a′ b′ c′ e′
     four-more {l} {i} {a} {b} {c} {e} F h N₀ N₁ N₂ N₃ = record {
       is =
-          (λ j. leastFrom le (four (N₀ .is j) (N₁ .is j) (N₂ .is j) (N₃ .is j)) (drop (i + 4) l))
-          ∙ ap (λ m. leastFrom le m (drop (i + 4) l)) (four-crossed a b c e (getD l i d) (getD l (i + 1) d) (getD l (i + 2) d) (getD l (i + 3) d))
-          ∙ sym (ap (leastFrom le (four a b c e)) (drop-four l i h))
+          (λ j. extremeFrom le (four (N₀ .is j) (N₁ .is j) (N₂ .is j) (N₃ .is j)) (drop (i + 4) l))
+          ∙ ap (λ m. extremeFrom le m (drop (i + 4) l)) (four-crossed a b c e (getD l i d) (getD l (i + 1) d) (getD l (i + 2) d) (getD l (i + 3) d))
+          ∙ sym (ap (extremeFrom le (four a b c e)) (drop-four l i h))
           ∙ F .is;
     }

@@ -6,6 +6,7 @@ use mathlib.Core.Bool.{false}
 use mathlib.Core.List.{List}
 use lib.IntN.{ℤ, pos, _+ℤ_}
 use lib.ListN.{length}
+use Rattle.numbers.specs.Limits.{largestLevel}
 use Rattle.numbers.specs.Lists.{anyOf}
 use Rattle.numbers.specs.Sums.{sumOf}
 use Rattle.array.specs.Near.{isFar}
@@ -13,4 +14,4 @@ use Rattle.array.specs.Near.{isFar}
 pub record NearSum (l : List ℤ) (sum : ℕ) : Type 0 where
   pub near : anyOf isFar l ≡ false
   pub is : pos sum ≡ sumOf l +ℤ pos (length l * 2 ^ 30)
-  pub small : sum ≤ length l * 2147483647
+  pub small : sum ≤ length l * largestLevel

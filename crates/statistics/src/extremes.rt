@@ -3,7 +3,7 @@ ghost use mathlib.Core.Path.{_≡_};
 ghost use mathlib.Core.Bool.{cond};
 ghost use lib.ListN.{drop};
 ghost use lib.Signed.{leZ};
-ghost use Rattle.numbers.specs.Order.{atLeast, leastFrom};
+ghost use Rattle.numbers.specs.Order.{atLeast, extremeFrom};
 ghost use Rattle.statistics_spec.specs.Statistics.{minimumOf, maximumOf};
 
 // The lesser of two levels.
@@ -18,7 +18,7 @@ fn lesser(a: i64, b: i64) -> i64
 
 // The least of `first` and the levels from place `from` on.
 fn least_from(line: &[i64], from: usize, first: i64) -> i64
-    ensures { λ r. ⌜ r ≡ leastFrom leZ first (drop from (now (line .entry))) ⌝ }
+    ensures { λ r. ⌜ r ≡ extremeFrom leZ first (drop from (now (line .entry))) ⌝ }
 {
     let mut least = first;
     let mut i = from;
@@ -70,7 +70,7 @@ fn greater(a: i64, b: i64) -> i64
 
 // The greatest of `first` and the levels from place `from` on.
 fn greatest_from(line: &[i64], from: usize, first: i64) -> i64
-    ensures { λ r. ⌜ r ≡ leastFrom atLeast first (drop from (now (line .entry))) ⌝ }
+    ensures { λ r. ⌜ r ≡ extremeFrom atLeast first (drop from (now (line .entry))) ⌝ }
 {
     let mut greatest = first;
     let mut i = from;

@@ -5,6 +5,7 @@ ghost use Prim.Native.Nat.{_+_, _≤_, _<_};
 ghost use lib.IntN.{pos, natAbs, _+ℤ_, _-ℤ_};
 ghost use lib.ListN.{length};
 ghost use lib.Signed.{leZ, _≤ℤ_};
+ghost use Rattle.numbers.specs.Limits.{largestLevel, longestAxis};
 ghost use Rattle.statistics_spec.specs.Sorting.{atMost, past, leastAbove};
 ghost use Rattle.statistics_spec.specs.Statistics.{minimumOf, maximumOf, medianOf, ranked, unserved};
 
@@ -25,7 +26,7 @@ fn narrow(line: &[i64], levels: &mut [i32])
 
 // How many levels are at most z.
 fn count_at_most(levels: &[i32], z: i32) -> u32
-    requires { ⌜ length (now levels) ≤ 1024 ⌝ }
+    requires { ⌜ length (now levels) ≤ longestAxis ⌝ }
     ensures { λ r. ⌜ r ≡ atMost leZ z (now (levels .entry)) ⌝ }
 {
     let mut count: u32 = 0;
@@ -42,8 +43,8 @@ fn count_at_most(levels: &[i32], z: i32) -> u32
 
 // How far level `high` is above level `low`: below 2^32.
 fn distance(low: i64, high: i64) -> usize
-    requires { ⌜ natAbs low ≤ 2147483647 ⌝ }
-    requires { ⌜ natAbs high ≤ 2147483647 ⌝ }
+    requires { ⌜ natAbs low ≤ largestLevel ⌝ }
+    requires { ⌜ natAbs high ≤ largestLevel ⌝ }
     requires { ⌜ low ≤ℤ high ⌝ }
     ensures { λ r. ⌜ r ≡ natAbs (high -ℤ low) ⌝ }
 {
@@ -52,9 +53,9 @@ fn distance(low: i64, high: i64) -> usize
 
 // The level `offset` above `low`.
 fn above(low: i64, offset: usize) -> i32
-    requires { ⌜ natAbs low ≤ 2147483647 ⌝ }
+    requires { ⌜ natAbs low ≤ largestLevel ⌝ }
     requires { ⌜ offset ≤ 4294967294 ⌝ }
-    requires { ⌜ natAbs (low +ℤ pos offset) ≤ 2147483647 ⌝ }
+    requires { ⌜ natAbs (low +ℤ pos offset) ≤ largestLevel ⌝ }
     ensures { λ r. ⌜ r ≡ low +ℤ pos offset ⌝ }
 {
     (low + offset as i64) as i32
@@ -176,7 +177,7 @@ pub(crate) fn of_many(line: &[i64]) -> i64
     requires { ⌜ 0 < length (now line) ⌝ }
     ensures { λ r. ⌜ r ≡ medianOf (now (line .entry)) ⌝ }
 {
-    let mut room = [0i32; 1024];
+    let mut room = [0i32; numbers::LONGEST_AXIS];
     let n = line.len();
     median_in(line, &mut room[..n])
 }

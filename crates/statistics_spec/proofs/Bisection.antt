@@ -10,11 +10,11 @@ use lib.Dec.{T}
 use lib.IntN.{ℤ, pos, natAbs, negℤ, _+ℤ_, _-ℤ_, +ℤ-idr}
 use lib.ListN.{length}
 use lib.Signed.{leZ, _≤ℤ_, leZ-yes}
-use Rattle.numbers.specs.Order.{Total, least, atLeast}
+use Rattle.numbers.specs.Order.{Total, extreme, atLeast}
 use Rattle.numbers.proofs.Any.{every-at, every-mem}
 use Rattle.numbers.proofs.IntOrder.{≤ℤ-trans, total-≤, total-≥, pos-≤, ≤-pos}
 use Rattle.numbers.proofs.IntSum.{above-by, +ℤ-mono-right, +ℤ-cancel-left}
-use Rattle.numbers.proofs.Least.{least-bound}
+use Rattle.numbers.proofs.Extreme.{extreme-bound}
 use Rattle.numbers.proofs.Size.{natAbs-add, natAbs-neg, size-between}
 use Rattle.statistics_spec.specs.Sorting.{sorted, atMost}
 use Rattle.statistics_spec.specs.Statistics.{minimumOf, maximumOf, ranked, unserved}
@@ -26,10 +26,10 @@ use Rattle.statistics_spec.proofs.Sizes.{size-minimum, size-maximum}
 module _ (l : List ℤ) (k : ℕ) (b : k < length l) where
   -- ---- between the least level and the greatest
   module _ (le : ℤ → ℤ → Bool) (O : Total le) where
-    ranked-after : T (le (least le (pos 0) l) (ranked l k))
+    ranked-after : T (le (extreme le (pos 0) l) (ranked l k))
     ranked-after =
-        every-at (λ x. T (le (least le (pos 0) l) x)) (sorted leZ l) (pos 0)
-        (every-sorted leZ (λ x. T (le (least le (pos 0) l) x)) l (every-mem _ l (λ x m. least-bound le O (pos 0) x l m)))
+        every-at (λ x. T (le (extreme le (pos 0) l) x)) (sorted leZ l) (pos 0)
+        (every-sorted leZ (λ x. T (le (extreme le (pos 0) l) x)) l (every-mem _ l (λ x m. extreme-bound le O (pos 0) x l m)))
         k (omega (arith, length-sorted leZ l))
 
   pub ranked-above : minimumOf l ≤ℤ ranked l k

@@ -14,11 +14,11 @@ use lib.Signed.{leZ, mag}
 use mir.Syntax.{w32}
 use mir.Val.{toZ, ofZ}
 use Rattle.numbers.specs.Lists.{Every}
-use Rattle.numbers.specs.Order.{Total, leastFrom}
+use Rattle.numbers.specs.Order.{Total, extremeFrom}
 use Rattle.numbers.proofs.Any.{every-at, every-mem, every-imp, every-map}
 use Rattle.numbers.proofs.Index.{drop-next}
 use Rattle.numbers.proofs.IntOrder.{total-≤}
-use Rattle.numbers.proofs.Least.{least-bound, least-every}
+use Rattle.numbers.proofs.Extreme.{extreme-bound, extreme-every}
 use Rattle.numbers.proofs.Lesser.{lesser}
 use Rattle.numbers.proofs.Read.{read-at}
 use Rattle.numbers.proofs.Tests.{T-true, T-false, cond-ind}
@@ -29,20 +29,20 @@ use Rattle.statistics_spec.proofs.Rank.{passed, rank-reached, rank-pass
 module _ {A : Type 0} (le : A → A → Bool) (O : Total le) where
   -- ---- the first above z: at or before each member above z, and one of these or the top
   above-bound : (z top : A) (l : List A) → Every (λ x. T (not (le x z)) → T (le (leastAbove le z top l) x)) l
-  above-bound z top l = every-mem _ l (λ x m n. subst (λ y. T (le (leastAbove le z top l) y)) (passed (le x z) top x n) (least-bound le O top (past le z top x) (top ∷ map (past le z top) l) (List·Memᴰ·tail (Memᴰ·map (past le z top) m))))
+  above-bound z top l = every-mem _ l (λ x m n. subst (λ y. T (le (leastAbove le z top l) y)) (passed (le x z) top x n) (extreme-bound le O top (past le z top x) (top ∷ map (past le z top) l) (List·Memᴰ·tail (Memᴰ·map (past le z top) m))))
 
   above-every : (P : A → Type 0) (z top : A) (l : List A) → P top → Every (λ x. T (not (le x z)) → P x) l → P (leastAbove le z top l)
   above-every P z top l p h =
-      least-every le P top (top ∷ map (past le z top) l) p
+      extreme-every le P top (top ∷ map (past le z top) l) p
       (p, every-map P (past le z top) l (every-imp (λ x. T (not (le x z)) → P x) (λ x. P (past le z top x)) l (λ x f. cond-ind (le x z) top x P (λ t. p) f) h))
 
   -- ---- as a loop keeps it: m is the first of those before place i
-  module _ (z top : A) (l : List A) (i : ℕ) (m v : A) (e : leastFrom le m (map (past le z top) (drop i l)) ≡ v) where
-    above-more : (d : A) {n : A} → i < length l → n ≡ lesser le m (past le z top (getD l i d)) → leastFrom le n (map (past le z top) (drop (i + 1) l)) ≡ v
-    above-more d h q = ap (λ y. leastFrom le y (map (past le z top) (drop (i + 1) l))) q ∙ sym (ap (λ s. leastFrom le m (map (past le z top) s)) (drop-next l i d h)) ∙ e
+  module _ (z top : A) (l : List A) (i : ℕ) (m v : A) (e : extremeFrom le m (map (past le z top) (drop i l)) ≡ v) where
+    above-more : (d : A) {n : A} → i < length l → n ≡ lesser le m (past le z top (getD l i d)) → extremeFrom le n (map (past le z top) (drop (i + 1) l)) ≡ v
+    above-more d h q = ap (λ y. extremeFrom le y (map (past le z top) (drop (i + 1) l))) q ∙ sym (ap (λ s. extremeFrom le m (map (past le z top) s)) (drop-next l i d h)) ∙ e
 
     pub above-last : length l ≤ i → m ≡ v
-    above-last h = sym (ap (λ s. leastFrom le m (map (past le z top) s)) (drop-of-length-le l h)) ∙ e
+    above-last h = sym (ap (λ s. extremeFrom le m (map (past le z top) s)) (drop-of-length-le l h)) ∙ e
 
   -- ---- a member above z is one more of those that are at most it
   count-mono : (z x : A) (l : List A) → T (le z x) → atMost le z l ≤ atMost le x l
@@ -125,8 +125,8 @@ module _ {A : Type 0} (le : A → A → Bool) (O : Total le) where
 
 -- ---- as the machine takes the first above z at 32 bits, of a level that was read
 pub above-read : (z top : ℤ) (l : List ℤ) (i : ℕ) (m v : ℤ) {r : ℤ} → let f = past leZ z top in let x = getD l i (pos 0) in
-    leastFrom leZ m (map f (drop i l)) ≡ v → i < length l → mag x < 2 ^ 31 → mag r < 2 ^ 31 → r ≡ lesser leZ m (f (toZ w32 (ofZ w32 x)))
-    → leastFrom leZ (toZ w32 (ofZ w32 r)) (map f (drop (i + 1) l)) ≡ v
+    extremeFrom leZ m (map f (drop i l)) ≡ v → i < length l → mag x < 2 ^ 31 → mag r < 2 ^ 31 → r ≡ lesser leZ m (f (toZ w32 (ofZ w32 x)))
+    → extremeFrom leZ (toZ w32 (ofZ w32 r)) (map f (drop (i + 1) l)) ≡ v
 above-read z top l i m v e h f g q = above-more leZ total-≤ z top l i m v e (pos 0) h (read-at w32 g (q ∙ ap (λ y. lesser leZ m (past leZ z top y)) back))
   where
     back : toZ w32 (ofZ w32 (getD l i (pos 0))) ≡ getD l i (pos 0)

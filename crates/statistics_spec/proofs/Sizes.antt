@@ -12,7 +12,7 @@ use lib.ListN.{length}
 use lib.Signed.{leZ}
 use Rattle.numbers.specs.Order.{atLeast}
 use Rattle.numbers.proofs.Any.{every-getD}
-use Rattle.numbers.proofs.Least.{least-every}
+use Rattle.numbers.proofs.Extreme.{extreme-every}
 use Rattle.numbers.proofs.Quotient.{size-quot}
 use Rattle.numbers.proofs.Size.{Size, Sized, size-zero, size-add, size-sum}
 use Rattle.statistics_spec.specs.Sorting.{sorted}
@@ -22,10 +22,10 @@ use Rattle.statistics_spec.proofs.Sorting.{every-sorted}
 
 module _ (p : ℕ) (l : List ℤ) (h : Sized p l) where
   pub size-minimum : Size (minimumOf l) p
-  size-minimum = least-every leZ (λ x. Size x p) (pos 0) l (size-zero p) h
+  size-minimum = extreme-every leZ (λ x. Size x p) (pos 0) l (size-zero p) h
 
   pub size-maximum : Size (maximumOf l) p
-  size-maximum = least-every atLeast (λ x. Size x p) (pos 0) l (size-zero p) h
+  size-maximum = extreme-every atLeast (λ x. Size x p) (pos 0) l (size-zero p) h
 
   pub size-mean : Size (meanOf l) p
   size-mean = subst (λ (z : ℤ). Size z p) (mean-quotient l) (size-quot (length l) (size-sum p l h))

@@ -1,6 +1,6 @@
 -- Worked rows of this crate's definitions. Each holds by computing.
 --   limit            the greatest level that is served
---   StatisticsRows   the rows
+--   StatisticsSpecRows   the rows
 use Prim.Native.Nat.{ℕ}
 use mathlib.Core.Path.{_≡_}
 use mathlib.Core.Bool.{true, false}
@@ -15,9 +15,9 @@ use Rattle.statistics_spec.specs.Statistics.{minimumOf, maximumOf, meanO
 abbrev pub limit : ℕ
 limit = 2147483647
 
-pub record StatisticsRows : Type 0 where
+pub record StatisticsSpecRows : Type 0 where
   -- the least and the greatest: first, inside, last; of one level; of none
-  pub least : map minimumOf ((minus 7 ∷ pos 3 ∷ []) ∷ wholes (4 ∷ 2 ∷ 7 ∷ []) ∷ wholes (4 ∷ 2 ∷ 7 ∷ 1 ∷ []) ∷ wholes (5 ∷ []) ∷ [] ∷ []) ≡ minus 7 ∷ pos 2 ∷ pos 1 ∷ pos 5 ∷ pos 0 ∷ []
+  pub extreme : map minimumOf ((minus 7 ∷ pos 3 ∷ []) ∷ wholes (4 ∷ 2 ∷ 7 ∷ []) ∷ wholes (4 ∷ 2 ∷ 7 ∷ 1 ∷ []) ∷ wholes (5 ∷ []) ∷ [] ∷ []) ≡ minus 7 ∷ pos 2 ∷ pos 1 ∷ pos 5 ∷ pos 0 ∷ []
   pub greatest : map maximumOf ((minus 3 ∷ minus 7 ∷ []) ∷ wholes (4 ∷ 2 ∷ 7 ∷ 1 ∷ []) ∷ wholes (1 ∷ 2 ∷ []) ∷ wholes (5 ∷ []) ∷ [] ∷ []) ≡ minus 3 ∷ pos 7 ∷ pos 2 ∷ pos 5 ∷ pos 0 ∷ []
   -- the mean is cut toward zero, above 0 and below it
   pub mean-above : meanOf (wholes (1 ∷ 2 ∷ [])) ≡ pos 1

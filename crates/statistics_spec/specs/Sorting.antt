@@ -7,7 +7,7 @@
 use Prim.Native.Nat.{ℕ, suc}
 use mathlib.Core.Bool.{Bool, cond}
 use mathlib.Core.List.{List, [], _∷_, map}
-use Rattle.numbers.specs.Order.{leastFrom}
+use Rattle.numbers.specs.Order.{extremeFrom}
 
 unfoldable pub inserted : {A : Type 0} → (A → A → Bool) → A → List A → List A
 inserted le x [] = x ∷ []
@@ -25,4 +25,4 @@ abbrev pub past : {A : Type 0} → (A → A → Bool) → A → A → A → A
 past le z top x = cond (le x z) top x
 
 abbrev pub leastAbove : {A : Type 0} → (A → A → Bool) → A → A → List A → A
-leastAbove le z top l = leastFrom le top (map (past le z top) l)
+leastAbove le z top l = extremeFrom le top (map (past le z top) l)

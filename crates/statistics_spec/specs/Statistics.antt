@@ -13,20 +13,21 @@ use Prim.Native.Nat.{ℕ, suc, _-_, _/_, _%_, _^_}
 use mathlib.Core.Bool.{Bool, _||_, cond}
 use mathlib.Core.List.{List}
 use lib.Dec.{ltb, eqb}
-use lib.IntN.{ℤ, pos, negℤ, _+ℤ_}
+use lib.IntN.{ℤ, pos, _+ℤ_}
 use lib.ListN.{length, getD}
 use lib.Signed.{leZ, quotZ}
+use Rattle.numbers.specs.Limits.{largestLevel, longestAxis}
 use Rattle.numbers.specs.Lists.{anyOf}
-use Rattle.numbers.specs.Order.{atLeast, least}
-use Rattle.numbers.specs.Ranges.{outsideZ}
+use Rattle.numbers.specs.Order.{atLeast, extreme}
+use Rattle.numbers.specs.Ranges.{over}
 use Rattle.numbers.specs.Sums.{sumOf}
 use Rattle.statistics_spec.specs.Sorting.{sorted}
 
 abbrev pub minimumOf : List ℤ → ℤ
-minimumOf l = least leZ (pos 0) l
+minimumOf l = extreme leZ (pos 0) l
 
 abbrev pub maximumOf : List ℤ → ℤ
-maximumOf l = least atLeast (pos 0) l
+maximumOf l = extreme atLeast (pos 0) l
 
 unfoldable pub meanOf : List ℤ → ℤ
 meanOf l = quotZ (sumOf l) (pos (length l))
@@ -40,10 +41,10 @@ medianOf l =
     cond (eqb (length l % 2) 1) (ranked l h) (quotZ (ranked l h +ℤ ranked l (suc h)) (pos 2))
 
 abbrev pub outsideLevels : ℤ → Bool
-outsideLevels z = outsideZ (negℤ (pos (2 ^ 31 - 1))) (pos (2 ^ 31 - 1)) z
+outsideLevels z = over largestLevel z
 
 unfoldable pub unserved : List ℤ → Bool
-unserved l = ltb 1024 (length l) || anyOf outsideLevels l
+unserved l = ltb longestAxis (length l) || anyOf outsideLevels l
 
 abbrev pub answered : (List ℤ → ℤ) → List ℤ → ℤ
 answered f l = cond (unserved l) (pos 0) (f l)

@@ -1,19 +1,16 @@
 -- Worked rows about the class: document 01's cases, and both sides of each test.
---   minus n         −n
 --   float s m k     m · 2^−k, negative where s is true
 --   zeroF, oneF     0.0 and 1.0
---   SymmetryRows    the rows
+--   SymmetrySpecRows    the rows
 use Prim.Native.Nat.{ℕ, _+_, _-_, _^_}
 use mathlib.Core.Path.{_≡_}
 use mathlib.Core.Bool.{Bool, true, false}
 use mathlib.Core.List.{[], _∷_}
 use lib.Ieee.{Float, nan, inf, fin}
-use lib.IntN.{ℤ, pos, negℤ}
+use lib.IntN.{pos, negℤ}
+use Rattle.numbers.specs.Rows.{minus}
 use Rattle.symmetry_spec.specs.Class.{classZ, classF}
 use Rattle.symmetry_spec.specs.declared.SymmetryState.the-variants.{NonSymmetric, Symmetric, AntiSymmetric}
-
-abbrev pub minus : ℕ → ℤ
-minus n = negℤ (pos n)
 
 abbrev pub float : Bool → ℕ → ℕ → Float
 float s m k = fin s m (negℤ (pos k))
@@ -24,7 +21,7 @@ zeroF = float false 0 0
 abbrev pub oneF : Float
 oneF = float false 1 0
 
-pub record SymmetryRows : Type 0 where
+pub record SymmetrySpecRows : Type 0 where
   -- whole weights
   pub symmetric : classZ (pos 1 ∷ pos 2 ∷ pos 7 ∷ pos 2 ∷ pos 1 ∷ []) ≡ Symmetric
   pub anti : classZ (pos 1 ∷ pos 2 ∷ pos 0 ∷ minus 2 ∷ minus 1 ∷ []) ≡ AntiSymmetric
@@ -40,8 +37,8 @@ pub record SymmetryRows : Type 0 where
   -- Symmetric is tested first
   pub zeros : classZ (pos 0 ∷ pos 0 ∷ pos 0 ∷ []) ≡ Symmetric
   -- −2^63 is equal to itself and to the negative of no weight
-  pub least : classZ (minus (2 ^ 63) ∷ pos 0 ∷ minus (2 ^ 63) ∷ []) ≡ Symmetric
-  pub least-one : classZ (minus (2 ^ 63) ∷ pos 0 ∷ pos 1 ∷ []) ≡ NonSymmetric
+  pub extreme : classZ (minus (2 ^ 63) ∷ pos 0 ∷ minus (2 ^ 63) ∷ []) ≡ Symmetric
+  pub extreme-one : classZ (minus (2 ^ 63) ∷ pos 0 ∷ pos 1 ∷ []) ≡ NonSymmetric
   pub least-greatest : classZ (minus (2 ^ 63) ∷ pos 0 ∷ pos (2 ^ 63 - 1) ∷ []) ≡ NonSymmetric
   -- float weights: 2^−53 and 2^−52 do not exceed 2^−52, the next float, 2^−52 + 2^−104, does
   pub below-epsilon : classF (zeroF ∷ oneF ∷ float false 1 53 ∷ []) ≡ Symmetric

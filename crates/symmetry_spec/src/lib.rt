@@ -1,6 +1,6 @@
 // The symmetry class of a kernel: whether its weights mirror each other around the middle one. Here are the definitions and their laws;
 // `symmetry_state` has the code.
-ghost use Rattle.symmetry_spec.specs.Rows.{SymmetryRows};
+ghost use Rattle.symmetry_spec.specs.Rows.{SymmetrySpecRows};
 
 pub enum SymmetryState {
     // An even length, or a mirrored pair differs and one differs up to sign.
@@ -13,5 +13,5 @@ pub enum SymmetryState {
 
 // Worked rows about the definitions that the contracts cite; nothing runs.
 pub fn rows()
-    ensures { λ _. ⌜ SymmetryRows ⌝ }
+    ensures { λ _. ⌜ SymmetrySpecRows ⌝ }
 {}

@@ -1,6 +1,6 @@
 -- Worked rows about floats as text.
 --   zeros n     n bytes `0`
---   FloatRows   the rows
+--   TextF64Rows   the rows
 use Prim.Native.Nat.{ℕ, zero, suc}
 use mathlib.Core.Path.{_≡_}
 use mathlib.Core.Bool.{true, false}
@@ -14,12 +14,12 @@ abbrev pub zeros : ℕ → List ℕ
 zeros zero = []
 zeros (suc n) = 48 ∷ zeros n
 
-pub record FloatRows : Type 0 where
+pub record TextF64Rows : Type 0 where
   -- 3ff0 .. is 1, 8000 .. is −0, 7ff0 .. is the infinity, 0000 .. 1 the least subnormal
   pub one : floatOf (51 ∷ 102 ∷ 102 ∷ zeros 13) ≡ Token.Is (fin false 1 (pos 0))
   pub minus-zero : floatOf (56 ∷ zeros 15) ≡ Token.Is (fin true 0 (pos 0))
   pub infinite : floatOf (55 ∷ 102 ∷ 102 ∷ zeros 13) ≡ Token.Is (inf false)
-  pub least : floatOf (zeros 15 ++ (49 ∷ [])) ≡ Token.Is (fin false 1 (negsuc 1073))
+  pub extreme : floatOf (zeros 15 ++ (49 ∷ [])) ≡ Token.Is (fin false 1 (negsuc 1073))
   -- the bits of two NaNs, and nan
   pub quiet : floatOf (55 ∷ 102 ∷ 102 ∷ 56 ∷ zeros 12) ≡ Token.Is nan
   pub signed-nan : floatOf (102 ∷ 102 ∷ 102 ∷ (zeros 12 ++ (49 ∷ []))) ≡ Token.Is nan

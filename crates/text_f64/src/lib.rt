@@ -3,7 +3,7 @@ use text_spec::Unsigned;
 ghost use mathlib.Core.Path.{_≡_};
 ghost use lib.Ieee.{binary64, nanBits};
 ghost use Rattle.text_f64.specs.Bits.{isNanText, patternOf, floatOf, floatText};
-ghost use Rattle.text_f64.specs.Rows.{FloatRows};
+ghost use Rattle.text_f64.specs.Rows.{TextF64Rows};
 ghost use Rattle.text_f64.specs.Back.{ReadsBackF64};
 ghost use Rattle.text_spec.specs.Writing.{writtenIn, writtenCount};
 
@@ -102,5 +102,5 @@ pub fn reads_back_f64()
 
 // Worked rows about the definitions that the contracts cite; nothing runs.
 pub fn rows()
-    ensures { λ _. ⌜ FloatRows ⌝ }
+    ensures { λ _. ⌜ TextF64Rows ⌝ }
 {}

@@ -1,17 +1,14 @@
 -- Worked rows about numbers as text, with both sides of each limit.
---   minus n    −n
---   TextRows   the rows
+--   TextSpecRows   the rows
 use Prim.Native.Nat.{ℕ, _-_, _^_}
 use mathlib.Core.Path.{_≡_}
 use mathlib.Core.List.{List, [], _∷_, _++_}
-use lib.IntN.{ℤ, pos, negℤ}
+use lib.IntN.{pos}
+use Rattle.numbers.specs.Rows.{minus}
 use Rattle.text_spec.specs.Reading.{numeralOf, unsignedOf, signedOf}
 use Rattle.text_spec.specs.Writing.{signedText, digitsOf, writtenIn, writtenCount}
 use Rattle.text_spec.specs.declared.Unsigned.the-variants as Whole
 use Rattle.text_spec.specs.declared.Signed.the-variants as Turned
-
-abbrev pub minus : ℕ → ℤ
-minus n = negℤ (pos n)
 
 -- 1844674407370955161
 abbrev pub tenth : List ℕ
@@ -21,7 +18,7 @@ tenth = 49 ∷ 56 ∷ 52 ∷ 52 ∷ 54 ∷ 55 ∷ 52 ∷ 52 ∷ 48 ∷ 55 ∷ 51
 abbrev pub half : List ℕ
 half = 57 ∷ 50 ∷ 50 ∷ 51 ∷ 51 ∷ 55 ∷ 50 ∷ 48 ∷ 51 ∷ 54 ∷ 56 ∷ 53 ∷ 52 ∷ 55 ∷ 55 ∷ 53 ∷ 56 ∷ 48 ∷ []
 
-pub record TextRows : Type 0 where
+pub record TextSpecRows : Type 0 where
   pub zeros-before : unsignedOf (48 ∷ 48 ∷ 52 ∷ 50 ∷ []) ≡ Whole.Is 42
   pub nothing : unsignedOf [] ≡ Whole.Not
   pub plus : unsignedOf (43 ∷ 49 ∷ []) ≡ Whole.Not
@@ -35,7 +32,7 @@ pub record TextRows : Type 0 where
   pub below : signedOf (45 ∷ 48 ∷ 55 ∷ []) ≡ Turned.Is (minus 7)
   pub minus-alone : signedOf (45 ∷ []) ≡ Turned.Not
   pub minus-twice : signedOf (45 ∷ 45 ∷ 49 ∷ []) ≡ Turned.Not
-  pub least : signedOf (45 ∷ (half ++ (56 ∷ []))) ≡ Turned.Is (minus (2 ^ 63))
+  pub extreme : signedOf (45 ∷ (half ++ (56 ∷ []))) ≡ Turned.Is (minus (2 ^ 63))
   pub least-less : signedOf (45 ∷ (half ++ (57 ∷ []))) ≡ Turned.Not
   pub most : signedOf (half ++ (55 ∷ [])) ≡ Turned.Is (pos (2 ^ 63 - 1))
   pub most-more : signedOf (half ++ (56 ∷ [])) ≡ Turned.Not

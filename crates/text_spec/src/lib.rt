@@ -1,7 +1,7 @@
 // Whole numbers as text in ASCII: what a token is, and which digits a number has: the definitions and their laws.
 // `read_text` and `write_text` have the code.
 ghost use Rattle.text_spec.specs.Back.{ReadsBack};
-ghost use Rattle.text_spec.specs.Rows.{TextRows};
+ghost use Rattle.text_spec.specs.Rows.{TextSpecRows};
 
 // What a token is as an unsigned number.
 pub enum Unsigned {
@@ -24,5 +24,5 @@ pub fn reads_back()
 
 // Worked rows about the definitions that the contracts cite; nothing runs.
 pub fn rows()
-    ensures { λ _. ⌜ TextRows ⌝ }
+    ensures { λ _. ⌜ TextSpecRows ⌝ }
 {}

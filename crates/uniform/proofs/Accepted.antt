@@ -26,15 +26,15 @@ use Rattle.border.specs.Reach.{badPad}
 use Rattle.pad_line.specs.Lane.{AxisNeeds}
 use Rattle.window.specs.Window.{badReach}
 use Rattle.uniform_spec.specs.Mean.{means}
-use Rattle.uniform.specs.Averaging.{Averaging}
+use Rattle.uniform.specs.MeanAxisNeeds.{MeanAxisNeeds}
 use Rattle.uniform_spec.specs.Uniform.{paddedFor, uniform1d}
 use Rattle.uniform_spec.specs.Judge.{halfOver, badGridReach, uniform1dJudged, uniformJudged}
 use Rattle.uniform_spec.proofs.Sums.{levels-kept}
 use Rattle.uniform_spec.proofs.Window.{size-some, size-few, pads-filled}
-use Rattle.uniform.specs.Pass.{Pass}
+use Rattle.uniform.specs.PassNeeds.{PassNeeds}
 
 -- ---- what the means along an axis suppose of a pass
-module _ {b : Border ℤ} {size : ℕ} {ns : List ℕ} {a : ℕ} {cells out : List ℤ} (P : Pass b size ns a cells out) where
+module _ {b : Border ℤ} {size : ℕ} {ns : List ℕ} {a : ℕ} {cells out : List ℤ} (P : PassNeeds b size ns a cells out) where
   -- the window is its pads and the cell itself
   pub pads-size : size / 2 + (size - size / 2 - 1) + 1 ≡ size
   pads-size = omega (arith, size-some size (P .window))
@@ -52,7 +52,7 @@ module _ {b : Border ℤ} {size : ℕ} {ns : List ℕ} {a : ℕ} {cells out : Li
         narrow = omega (arith, size-few size (P .window));
       }
 
-  pub pass-averaging : Averaging (size / 2 + (size - size / 2 - 1) + 1) b cells
+  pub pass-averaging : MeanAxisNeeds (size / 2 + (size - size / 2 - 1) + 1) b cells
   pass-averaging = record { few = omega (arith, size-few size (P .window)); level = P .level; levels = P .levels }
 
   -- the answer, by the length of the window as the worker has it
@@ -64,7 +64,7 @@ module _ {b : Border ℤ} {size : ℕ} {ns : List ℕ} {a : ℕ} {cells out : Li
 
 -- ---- the one-axis form
 module _ {b : Border ℤ} {size : ℕ} {ns : List ℕ} {a : ℕ} {cells : List ℤ} (out : List ℤ) where
-  pub along-accepted : refusalOf (uniform1dJudged b size ns a cells (length out)) ≡ 0 → Pass b size ns a cells out
+  pub along-accepted : refusalOf (uniform1dJudged b size ns a cells (length out)) ≡ 0 → PassNeeds b size ns a cells out
   along-accepted e =
       let p = grid-passed badLevel ns cells (length out ∷ []) (drop 3 (uniform1dJudged b size ns a cells (length out))) (tt, (tt, (tt, (tt, (tt, tt))))) e in
       record {
@@ -102,7 +102,7 @@ module _ {b : Border ℤ} {size : ℕ} {ns : List ℕ} {cells out second : List 
   between-input = record { count = F .grid .count; range = F .grid .levels }
 
   -- a pass along any axis is accepted
-  pub pass-accepted : {g held : List ℤ} {a : ℕ} → Between ns g → length held ≡ cellCount ns → a < length ns → Pass b size ns a g held
+  pub pass-accepted : {g held : List ℤ} {a : ℕ} → Between ns g → length held ≡ cellCount ns → a < length ns → PassNeeds b size ns a g held
   pass-accepted {a = a} B e h = record {
     shape = F .grid .shape;
     axis = h;

@@ -1,5 +1,5 @@
 -- Laws of accepted calls.
 pub mod Accepted
-pub mod Averaged
+pub mod MeanLineNeeds
 pub mod CallRows
 pub mod LaneRows

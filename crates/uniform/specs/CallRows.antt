@@ -6,7 +6,7 @@ use lib.IntN.{ℤ, pos}
 use Rattle.numbers.specs.Refusal.{refusalOf, leftIn}
 use Rattle.numbers.specs.Rows.{minus, wholes}
 use Rattle.border.specs.Border.{constant, along}
-use Rattle.border.specs.declared.Along.the-variants.{Nearest}
+use Rattle.border.specs.declared.CellBorder.the-variants.{Nearest}
 use Rattle.uniform_spec.specs.Uniform.{uniform1d, uniform}
 use Rattle.uniform_spec.specs.Judge.{uniform1dJudged, uniformJudged}
 

@@ -6,10 +6,10 @@ use mathlib.Core.List.{List, [], _∷_}
 use lib.IntN.{ℤ, pos}
 use Rattle.numbers.specs.Rows.{wholes}
 use Rattle.border.specs.Border.{along}
-use Rattle.border.specs.declared.Along.the-variants.{Nearest}
+use Rattle.border.specs.declared.CellBorder.the-variants.{Nearest}
 use Rattle.lanes.specs.Lanes.{alongAxis}
 use Rattle.pad_line.specs.Lane.{filteredLane}
-use Rattle.uniform.specs.Averaging.{meansBy}
+use Rattle.uniform.specs.MeanAxisNeeds.{meansBy}
 
 abbrev pub onLane : List ℤ → List ℤ
 onLane = filteredLane (pos 0) (meansBy 3) (along Nearest) 1 1

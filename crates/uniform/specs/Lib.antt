@@ -1,6 +1,6 @@
 -- The calls of the uniform filters.
-pub mod Pass
+pub mod PassNeeds
 pub mod CallRows
-pub mod Averaging
+pub mod MeanAxisNeeds
 pub mod LaneRows
 pub mod Rows

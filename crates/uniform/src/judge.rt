@@ -3,16 +3,15 @@ ghost use mathlib.Core.Path.{_≡_};
 ghost use mathlib.Core.Bool.{false};
 ghost use lib.IntN.{pos};
 ghost use Rattle.numbers.specs.Lists.{anyOf};
-ghost use Rattle.numbers.specs.Ranges.{outside};
 ghost use Rattle.numbers.specs.Refusal.{refusalOf};
 ghost use Rattle.border.specs.Modes.{borderOf};
-ghost use Rattle.window.specs.Window.{badReach};
-ghost use Rattle.uniform_spec.specs.Judge.{badGridReach, alongJudged, axesJudged, uniform1dJudged, uniformJudged};
+ghost use Rattle.window.specs.Window.{badReach, badSize};
+ghost use Rattle.uniform_spec.specs.Judge.{badGridReach, uniformAlongJudged, uniformAxesJudged, uniform1dJudged, uniformJudged};
 use border::BorderMode;
 
 // Condition 11 of a lane of n cells: the border cannot fill one of the pads of a centred window.
 fn bad_window(mode: BorderMode, n: usize, size: usize) -> bool
-    requires { ⌜ outside 1 65 size ≡ false ⌝ }
+    requires { ⌜ badSize size ≡ false ⌝ }
     ensures { λ r. ⌜ r ≡ badReach (borderOf mode) size (pos 0) n ⌝ }
 {
     window::bad_reach(mode, n, size, 0)
@@ -20,7 +19,7 @@ fn bad_window(mode: BorderMode, n: usize, size: usize) -> bool
 
 // Condition 11 of a lane of n cells in the grid form: the same, or half the window is longer than the lane.
 fn bad_grid_window(mode: BorderMode, n: usize, size: usize) -> bool
-    requires { ⌜ outside 1 65 size ≡ false ⌝ }
+    requires { ⌜ badSize size ≡ false ⌝ }
     ensures { λ r. ⌜ r ≡ badGridReach (borderOf mode) size n ⌝ }
 {
     if bad_window(mode, n, size) {
@@ -31,7 +30,7 @@ fn bad_grid_window(mode: BorderMode, n: usize, size: usize) -> bool
 
 // Condition 11 of a grid: a lane of some axis has it.
 fn bad_grid(mode: BorderMode, shape: &[usize], size: usize) -> bool
-    requires { ⌜ outside 1 65 size ≡ false ⌝ }
+    requires { ⌜ badSize size ≡ false ⌝ }
     ensures { λ r. ⌜ r ≡ anyOf (badGridReach (borderOf mode) size) (now (shape .entry)) ⌝ }
 {
     let mut a = 0;
@@ -47,7 +46,7 @@ fn bad_grid(mode: BorderMode, shape: &[usize], size: usize) -> bool
 
 // Conditions 5, 8, 9 and 11 of a window along one axis.
 fn judge_along(shape: &[usize], size: usize, axis: usize, mode: BorderMode) -> u8
-    ensures { λ r. ⌜ r ≡ refusalOf (alongJudged (borderOf mode) size (now (shape .entry)) axis) ⌝ }
+    ensures { λ r. ⌜ r ≡ refusalOf (uniformAlongJudged (borderOf mode) size (now (shape .entry)) axis) ⌝ }
 {
     if window::bad_size(size) {
         return numbers::KERNEL;
@@ -67,7 +66,7 @@ fn judge_along(shape: &[usize], size: usize, axis: usize, mode: BorderMode) -> u
 
 // Conditions 5, 9 and 11 of a window along every axis.
 fn judge_axes(shape: &[usize], size: usize, mode: BorderMode) -> u8
-    ensures { λ r. ⌜ r ≡ refusalOf (axesJudged (borderOf mode) size (now (shape .entry))) ⌝ }
+    ensures { λ r. ⌜ r ≡ refusalOf (uniformAxesJudged (borderOf mode) size (now (shape .entry))) ⌝ }
 {
     if window::bad_size(size) {
         return numbers::KERNEL;

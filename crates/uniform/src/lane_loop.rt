@@ -4,10 +4,11 @@ ghost use mathlib.Core.Path.{_≡_};
 ghost use Prim.Native.Nat.{_+_, _*_, _<_};
 ghost use lib.IntN.{pos};
 ghost use lib.ListN.{length};
+ghost use Rattle.numbers.specs.Limits.{longestLine};
 ghost use Rattle.lanes.specs.Lanes.{laneBase, laneAt, withLane, alongAxis};
 ghost use Rattle.border.specs.Modes.{borderOf};
 ghost use Rattle.pad_line.specs.Lane.{filteredLane, LineNeeds, AxisNeeds};
-ghost use Rattle.uniform.specs.Averaging.{meansBy, Averaging};
+ghost use Rattle.uniform.specs.MeanAxisNeeds.{meansBy, MeanAxisNeeds};
 use border::BorderMode;
 
 // Sets a lane of out, the one that starts at place base, to the means of the same lane of data. The line has room for
@@ -24,7 +25,7 @@ fn average_lane(
     line: &mut [i64],
     out: &mut [i64],
 )
-    requires { ⌜ LineNeeds (borderOf mode) n stride base left right (now «data») (now line) × Averaging (left + right + 1) (borderOf mode) (now «data») × (0 < stride) × (base ≡ laneBase n stride lane) × (base + n * stride < length (now out) + stride) ⌝ }
+    requires { ⌜ LineNeeds (borderOf mode) n stride base left right (now «data») (now line) × MeanAxisNeeds (left + right + 1) (borderOf mode) (now «data») × (0 < stride) × (base ≡ laneBase n stride lane) × (base + n * stride < length (now out) + stride) ⌝ }
     ensures { λ _. ⌜ now (out .exit) ≡ withLane (pos 0) n stride lane (filteredLane (pos 0) (meansBy (left + right + 1)) (borderOf mode) left right (laneAt (pos 0) (now («data» .entry)) base stride n)) (now (out .entry)) ⌝ }
 {
     pad_line::pad_from(data, base, stride, n, mode, left, right, line);
@@ -43,7 +44,7 @@ fn average_lanes(
     line: &mut [i64],
     out: &mut [i64],
 )
-    requires { ⌜ AxisNeeds (borderOf mode) (now shape) axis left right (now «data») (now out) × Averaging (left + right + 1) (borderOf mode) (now «data») × (length (now line) ≡ 1088) ⌝ }
+    requires { ⌜ AxisNeeds (borderOf mode) (now shape) axis left right (now «data») (now out) × MeanAxisNeeds (left + right + 1) (borderOf mode) (now «data») × (length (now line) ≡ longestLine) ⌝ }
     ensures { λ _. ⌜ now (out .exit) ≡ alongAxis (pos 0) (filteredLane (pos 0) (meansBy (left + right + 1)) (borderOf mode) left right) (now (shape .entry)) axis (now («data» .entry)) ⌝ }
 {
     let along = lanes::lanes_of(shape, axis);
@@ -84,9 +85,9 @@ pub(crate) fn uniform_axis(
     right: usize,
     out: &mut [i64],
 )
-    requires { ⌜ AxisNeeds (borderOf mode) (now shape) axis left right (now «data») (now out) × Averaging (left + right + 1) (borderOf mode) (now «data») ⌝ }
+    requires { ⌜ AxisNeeds (borderOf mode) (now shape) axis left right (now «data») (now out) × MeanAxisNeeds (left + right + 1) (borderOf mode) (now «data») ⌝ }
     ensures { λ _. ⌜ now (out .exit) ≡ alongAxis (pos 0) (filteredLane (pos 0) (meansBy (left + right + 1)) (borderOf mode) left right) (now (shape .entry)) axis (now («data» .entry)) ⌝ }
 {
-    let mut line = [0; 1088];
+    let mut line = [0; numbers::LONGEST_LINE];
     average_lanes(mode, data, shape, axis, left, right, &mut line, out);
 }

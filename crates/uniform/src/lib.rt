@@ -9,7 +9,7 @@ ghost use Rattle.numbers.specs.Refusal.{refusalOf, Answers, ScratchAnswers};
 ghost use Rattle.border.specs.Modes.{borderOf};
 ghost use Rattle.uniform_spec.specs.Uniform.{uniform1d, uniform as uniformOf};
 ghost use Rattle.uniform_spec.specs.Judge.{uniform1dJudged, uniformJudged};
-ghost use Rattle.uniform.specs.Pass.{Pass};
+ghost use Rattle.uniform.specs.PassNeeds.{PassNeeds};
 use border::BorderMode;
 
 mod judge;
@@ -20,7 +20,7 @@ pub use judge::judge_uniform1d;
 
 // Fills out with the means along the axis.
 fn pass(data: &[i64], shape: &[usize], size: usize, axis: usize, mode: BorderMode, out: &mut [i64])
-    requires { ⌜ Pass (borderOf mode) size (now shape) axis (now «data») (now out) ⌝ }
+    requires { ⌜ PassNeeds (borderOf mode) size (now shape) axis (now «data») (now out) ⌝ }
     ensures { λ _. ⌜ now (out .exit) ≡ uniform1d (borderOf mode) size (now (shape .entry)) axis (now («data» .entry)) ⌝ }
 {
     let left = size / 2;

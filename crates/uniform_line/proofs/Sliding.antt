@@ -12,17 +12,17 @@ use Rattle.numbers.proofs.Any.{none-any, every-imp}
 use Rattle.numbers.proofs.Size.{Size, size-le, inside-sized}
 use Rattle.array_spec.proofs.Judged.{levels-sized}
 use Rattle.correlate_spec.specs.WindowSum.{windowSum}
-use Rattle.correlate_spec.specs.Sizes.{Summable}
+use Rattle.correlate_spec.specs.Sizes.{SumNeeds}
 use Rattle.correlate_spec.proofs.Computed.{read}
 use Rattle.correlate_spec.proofs.SlidingSum.{total-read}
-use Rattle.uniform_spec.specs.Mean.{cut, Averaged}
+use Rattle.uniform_spec.specs.Mean.{cut, MeanLineNeeds}
 
-module _ {s : List ℤ} {size n : ℕ} (A : Averaged s size n) where
+module _ {s : List ℤ} {size n : ℕ} (A : MeanLineNeeds s size n) where
   -- a level is as large as a cell of a running sum may be
   pub cells : anyOf (outsideZ (negℤ (pos (2 ^ 38))) (pos (2 ^ 38))) s ≡ false
   cells = none-any _ s (every-imp (λ x. Size x 2147483647) _ s (λ x h. inside-sized (2 ^ 38) x (size-le h (omega arith))) (levels-sized s (A .levels)))
 
-  pub first-summable : Summable s (size - 1)
+  pub first-summable : SumNeeds s (size - 1)
   first-summable = record { few = omega (arith, A .few); long = omega (arith, A .some, A .long); cells = cells }
 
   pub mean-read : {t : ℤ} (i : ℕ) → t ≡ windowSum s (size - 1) i → cut (read (t +ℤ read (getD s (i + (size - 1)) (pos 0)))) size ≡ cut (windowSum s size i) size

@@ -7,7 +7,7 @@ ghost use lib.IntN.{pos, negℤ};
 ghost use lib.ListN.{length};
 ghost use Rattle.numbers.specs.Ranges.{outsideZ};
 ghost use Rattle.lanes.specs.Lanes.{laneBase, withLane};
-ghost use Rattle.uniform_spec.specs.Mean.{cut, means, Averaged};
+ghost use Rattle.uniform_spec.specs.Mean.{cut, means, MeanLineNeeds};
 use correlate_line::first_sum;
 
 // The sum of a window over the number of its cells, cut toward zero.
@@ -51,7 +51,7 @@ pub fn uniform_lane(
     base: usize,
     out: &mut [i64],
 )
-    requires { ⌜ Averaged (now line) size n × (0 < n) × (0 < stride) × (base ≡ laneBase n stride lane) × (base + n * stride < length (now out) + stride) ⌝ }
+    requires { ⌜ MeanLineNeeds (now line) size n × (0 < n) × (0 < stride) × (base ≡ laneBase n stride lane) × (base + n * stride < length (now out) + stride) ⌝ }
     ensures { λ _. ⌜ now (out .exit) ≡ withLane (pos 0) n stride lane (means (now (line .entry)) size n) (now (out .entry)) ⌝ }
 {
     let before = size - 1;

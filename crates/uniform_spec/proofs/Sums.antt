@@ -24,7 +24,7 @@ use Rattle.correlate_spec.specs.WindowSum.{windowSum}
 use Rattle.correlate_spec.proofs.Sliding.{sum-size}
 use Rattle.uniform_spec.specs.Mean.{cut, means}
 use Rattle.uniform_spec.specs.Uniform.{paddedFor, windowSums, uniform1d}
-use Rattle.uniform_spec.specs.Judge.{badSums, badSumsFrom}
+use Rattle.uniform_spec.specs.Judge.{badUniformSums, badUniformSumsFrom}
 use Rattle.uniform_spec.proofs.Window.{size-few}
 
 -- the greatest size of a level, and of a sum
@@ -48,17 +48,17 @@ module _ (b : Border ℤ) (size : ℕ) (ns : List ℕ) (c : SizedBorder level b)
       (λ s k. every-table (λ x. Size x level) (λ i. cut (windowSum (paddedFor b size s) size i) size) 0 (length s) (λ i. size-quot size (sum-size level (paddedFor b size s) (padded s k) size i))) ns a cells h
 
   module _ (few : size ≤ 65) where
-    within : (a : ℕ) (cells : List ℤ) → Sized level cells → badSums b size ns a cells ≡ false
+    within : (a : ℕ) (cells : List ℤ) → Sized level cells → badUniformSums b size ns a cells ≡ false
     within a cells h =
         none-any beyond (windowSums b size ns a cells)
         (every-imp (λ x. Size x sum) _ (windowSums b size ns a cells) (λ x s. beyond-sized x s (omega arith))
         (every-along (pos 0) (λ x. Size x level) (λ x. Size x sum) (λ s. tabulate (windowSum (paddedFor b size s) size) 0 (length s)) (size-zero level) (size-zero sum)
         (λ s k. every-table (λ x. Size x sum) (windowSum (paddedFor b size s) size) 0 (length s) (λ i. size-le (sum-size level (paddedFor b size s) (padded s k) size i) (omega arith))) ns a cells h))
 
-    within-from : (a n : ℕ) (cells : List ℤ) → Sized level cells → badSumsFrom b size ns a n cells ≡ false
+    within-from : (a n : ℕ) (cells : List ℤ) → Sized level cells → badUniformSumsFrom b size ns a n cells ≡ false
     within-from a zero cells h = refl
     within-from a (suc n) cells h =
-        or-no (badSums b size ns a cells) (badSumsFrom b size ns (suc a) n (uniform1d b size ns a cells)) (within a cells h) (within-from (suc a) n (uniform1d b size ns a cells) (kept a cells h))
+        or-no (badUniformSums b size ns a cells) (badUniformSumsFrom b size ns (suc a) n (uniform1d b size ns a cells)) (within a cells h) (within-from (suc a) n (uniform1d b size ns a cells) (kept a cells h))
 
 -- ---- of a call whose conditions 3, 5 and 9 do not hold
 module _ (b : Border ℤ) (size : ℕ) (ns : List ℕ) (cells : List ℤ) (l : anyOf badLevel cells ≡ false) (c : badConstantBy badLevel b ≡ false) where
@@ -66,8 +66,8 @@ module _ (b : Border ℤ) (size : ℕ) (ns : List ℕ) (cells : List ℤ) (l : a
   pub levels-kept : (a : ℕ) → anyOf badLevel (uniform1d b size ns a cells) ≡ false
   levels-kept a = sized-levels (uniform1d b size ns a cells) (kept b size ns (constant-sized b c) a cells (levels-sized cells l))
 
-  pub no-bad-sums : outside 1 65 size ≡ false → (a : ℕ) → badSums b size ns a cells ≡ false
+  pub no-bad-sums : outside 1 65 size ≡ false → (a : ℕ) → badUniformSums b size ns a cells ≡ false
   no-bad-sums n a = within b size ns (constant-sized b c) (size-few size n) a cells (levels-sized cells l)
 
-  pub no-bad-sums-from : outside 1 65 size ≡ false → (a n : ℕ) → badSumsFrom b size ns a n cells ≡ false
+  pub no-bad-sums-from : outside 1 65 size ≡ false → (a n : ℕ) → badUniformSumsFrom b size ns a n cells ≡ false
   no-bad-sums-from m a n = within-from b size ns (constant-sized b c) (size-few size m) a n cells (levels-sized cells l)

@@ -9,10 +9,10 @@ use lib.IntN.{ℤ, pos}
 use Rattle.numbers.specs.Ranges.{outside}
 use Rattle.numbers.proofs.Tests.{or-false}
 use Rattle.border.specs.Border.{Border, constant, along}
-use Rattle.border.specs.declared.Along.the-variants.{Nearest, Mirror, Reflect, Wrap}
+use Rattle.border.specs.declared.CellBorder.the-variants.{Nearest, Mirror, Reflect, Wrap}
 use Rattle.window.proofs.Origins.{origin-on}
 use Rattle.border.specs.Reach.{badPad}
-use Rattle.window.specs.Window.{leftPad, rightPad, badWindowOrigin, badPads, badReach}
+use Rattle.window.specs.Window.{leftPad, rightPad, badWindowOrigin, badEitherPad, badReach}
 
 module _ (size : ℕ) (h : outside 1 65 size ≡ false) where
   pub size-some : 0 < size
@@ -37,9 +37,9 @@ pad-none (along Reflect) n = le-ltb n 0 zero-le
 pad-none (along Wrap) n = le-ltb n 0 zero-le
 
 -- the border fills both pads of a window that condition 11 accepts; one cell has none
-pub pads-filled : (b : Border ℤ) (size n : ℕ) → badReach b size (pos 0) n ≡ false → badPads b (leftPad size (pos 0)) (rightPad size (pos 0)) n ≡ false
+pub pads-filled : (b : Border ℤ) (size n : ℕ) → badReach b size (pos 0) n ≡ false → badEitherPad b (leftPad size (pos 0)) (rightPad size (pos 0)) n ≡ false
 pads-filled b size n h = go (eqb size 1) refl
   where
-    go : (t : Bool) → eqb size 1 ≡ t → badPads b (leftPad size (pos 0)) (rightPad size (pos 0)) n ≡ false
-    go true e = ap (λ m. badPads b (leftPad m (pos 0)) (rightPad m (pos 0)) n) (eqb-true size 1 e) ∙ ap (λ t. t || t) (pad-none b n)
-    go false e = ap (λ t. not t && badPads b (leftPad size (pos 0)) (rightPad size (pos 0)) n) (sym e) ∙ h
+    go : (t : Bool) → eqb size 1 ≡ t → badEitherPad b (leftPad size (pos 0)) (rightPad size (pos 0)) n ≡ false
+    go true e = ap (λ m. badEitherPad b (leftPad m (pos 0)) (rightPad m (pos 0)) n) (eqb-true size 1 e) ∙ ap (λ t. t || t) (pad-none b n)
+    go false e = ap (λ t. not t && badEitherPad b (leftPad size (pos 0)) (rightPad size (pos 0)) n) (sym e) ∙ h

@@ -1,10 +1,10 @@
 -- The conditions of `uniform_filter1d` and `uniform_filter`, as document 01 words them. There is no origin, so 7 does not occur.
 --   halfOver size n                  11, of the grid form alone: floor(size/2) over n
 --   badGridReach b size n            11 of a lane of n cells in the grid form: the border cannot fill a pad, or halfOver
---   badSums b size ns a cells        12 of a pass along axis a: the sum of a window outside signed 64 bits
---   badSumsFrom b size ns a n cells  12 of the n passes from axis a on, each on what the one before it left
---   alongJudged b size ns a          conditions 5, 8, 9 and 11 of a window along axis a
---   axesJudged b size ns             conditions 5, 9 and 11 (of any axis) of a window along every axis
+--   badUniformSums b size ns a cells        12 of a pass along axis a: the sum of a window outside signed 64 bits
+--   badUniformSumsFrom b size ns a n cells  12 of the n passes from axis a on, each on what the one before it left
+--   uniformAlongJudged b size ns a          conditions 5, 8, 9 and 11 of a window along axis a
+--   uniformAxesJudged b size ns             conditions 5, 9 and 11 (of any axis) of a window along every axis
 --   uniform1dJudged b size ns a cells out        what uniform_filter1d refuses, in rising order; out is the output's length
 --   uniformJudged b size ns cells out second     what uniform_filter refuses; second is the second grid's length
 use Prim.Native.Nat.{ℕ, zero, suc, _/_}
@@ -14,13 +14,13 @@ use lib.Dec.{ltb}
 use lib.IntN.{ℤ, pos}
 use lib.ListN.{length}
 use Rattle.numbers.specs.Lists.{anyOf}
-use Rattle.numbers.specs.Ranges.{outside, beyond}
+use Rattle.numbers.specs.Ranges.{beyond}
 use Rattle.numbers.specs.Refusal.{Judged}
 use Rattle.array_spec.specs.Conditions.{badLevel, badAxis, gridJudged}
 use Rattle.array_spec.specs.Grid.{lengthOf}
 use Rattle.border.specs.Border.{Border}
 use Rattle.border.specs.Modes.{badConstantBy}
-use Rattle.window.specs.Window.{badReach}
+use Rattle.window.specs.Window.{badReach, badSize}
 use Rattle.uniform_spec.specs.Uniform.{windowSums, uniform1d}
 
 abbrev pub halfOver : ℕ → ℕ → Bool
@@ -29,22 +29,22 @@ halfOver size n = ltb n (size / 2)
 abbrev pub badGridReach : Border ℤ → ℕ → ℕ → Bool
 badGridReach b size n = badReach b size (pos 0) n || halfOver size n
 
-abbrev pub badSums : Border ℤ → ℕ → List ℕ → ℕ → List ℤ → Bool
-badSums b size ns a cells = anyOf beyond (windowSums b size ns a cells)
+abbrev pub badUniformSums : Border ℤ → ℕ → List ℕ → ℕ → List ℤ → Bool
+badUniformSums b size ns a cells = anyOf beyond (windowSums b size ns a cells)
 
-abbrev pub badSumsFrom : Border ℤ → ℕ → List ℕ → ℕ → ℕ → List ℤ → Bool
-badSumsFrom b size ns a zero cells = false
-badSumsFrom b size ns a (suc n) cells = badSums b size ns a cells || badSumsFrom b size ns (suc a) n (uniform1d b size ns a cells)
+abbrev pub badUniformSumsFrom : Border ℤ → ℕ → List ℕ → ℕ → ℕ → List ℤ → Bool
+badUniformSumsFrom b size ns a zero cells = false
+badUniformSumsFrom b size ns a (suc n) cells = badUniformSums b size ns a cells || badUniformSumsFrom b size ns (suc a) n (uniform1d b size ns a cells)
 
-abbrev pub alongJudged : Border ℤ → ℕ → List ℕ → ℕ → Judged
-alongJudged b size ns a = (outside 1 65 size, 5) ∷ (badAxis ns a, 8) ∷ (badConstantBy badLevel b, 9) ∷ (badReach b size (pos 0) (lengthOf ns a), 11) ∷ []
+abbrev pub uniformAlongJudged : Border ℤ → ℕ → List ℕ → ℕ → Judged
+uniformAlongJudged b size ns a = (badSize size, 5) ∷ (badAxis ns a, 8) ∷ (badConstantBy badLevel b, 9) ∷ (badReach b size (pos 0) (lengthOf ns a), 11) ∷ []
 
-abbrev pub axesJudged : Border ℤ → ℕ → List ℕ → Judged
-axesJudged b size ns = (outside 1 65 size, 5) ∷ (badConstantBy badLevel b, 9) ∷ (anyOf (badGridReach b size) ns, 11) ∷ []
+abbrev pub uniformAxesJudged : Border ℤ → ℕ → List ℕ → Judged
+uniformAxesJudged b size ns = (badSize size, 5) ∷ (badConstantBy badLevel b, 9) ∷ (anyOf (badGridReach b size) ns, 11) ∷ []
 
 abbrev pub uniform1dJudged : Border ℤ → ℕ → List ℕ → ℕ → List ℤ → ℕ → Judged
-uniform1dJudged b size ns a cells out = gridJudged ns cells (out ∷ []) ++ alongJudged b size ns a ++ ((badSums b size ns a cells, 12) ∷ [])
+uniform1dJudged b size ns a cells out = gridJudged ns cells (out ∷ []) ++ uniformAlongJudged b size ns a ++ ((badUniformSums b size ns a cells, 12) ∷ [])
 
 abbrev pub uniformJudged : Border ℤ → ℕ → List ℕ → List ℤ → ℕ → ℕ → Judged
 uniformJudged b size ns cells out second =
-    gridJudged ns cells (out ∷ second ∷ []) ++ axesJudged b size ns ++ ((badSumsFrom b size ns 0 (length ns) cells, 12) ∷ [])
+    gridJudged ns cells (out ∷ second ∷ []) ++ uniformAxesJudged b size ns ++ ((badUniformSumsFrom b size ns 0 (length ns) cells, 12) ∷ [])

@@ -12,9 +12,9 @@ use lib.IntN.{ℤ, pos}
 use Rattle.numbers.specs.Refusal.{refusalOf}
 use Rattle.numbers.specs.Rows.{minus, wholes}
 use Rattle.border.specs.Border.{Border, constant, along}
-use Rattle.border.specs.declared.Along.the-variants.{Nearest, Mirror, Reflect, Wrap}
+use Rattle.border.specs.declared.CellBorder.the-variants.{Nearest, Mirror, Reflect, Wrap}
 use Rattle.uniform_spec.specs.Uniform.{windowSums, uniform1d, uniform}
-use Rattle.uniform_spec.specs.Judge.{badGridReach, badSums, badSumsFrom, uniform1dJudged, uniformJudged}
+use Rattle.uniform_spec.specs.Judge.{badGridReach, badUniformSums, badUniformSumsFrom, uniform1dJudged, uniformJudged}
 
 abbrev pub three : Border ℤ → ℕ → ℕ → ℕ
 three b a size = refusalOf (uniform1dJudged b size (3 ∷ []) a (wholes (1 ∷ 2 ∷ 3 ∷ [])) 3)
@@ -60,8 +60,8 @@ pub record JudgeRows : Type 0 where
   -- any axis: 9 by 2 cells with size 5 under Mirror, 9 by 1 with size 5 under Nearest
   pub any-axis : map (badGridReach (along Mirror) 5) (9 ∷ 2 ∷ []) ∷ map (badGridReach (along Nearest) 5) (9 ∷ 1 ∷ []) ∷ [] ≡ (false ∷ true ∷ []) ∷ (false ∷ true ∷ []) ∷ []
   -- 12, of levels that 3 refuses: two cells 2^62 in a window of two, in the first pass and in the second
-  pub beyond-one : map (λ x. badSums (along Nearest) 2 (1 ∷ []) 0 (x ∷ [])) (pos (2 ^ 62) ∷ minus (2 ^ 62) ∷ []) ≡ true ∷ false ∷ []
-  pub beyond-later : badSumsFrom (constant (pos (2 ^ 63))) 2 (1 ∷ 1 ∷ []) 0 1 (minus (2 ^ 63) ∷ []) ∷ badSumsFrom (constant (pos (2 ^ 63))) 2 (1 ∷ 1 ∷ []) 0 2 (minus (2 ^ 63) ∷ []) ∷ [] ≡ false ∷ true ∷ []
+  pub beyond-one : map (λ x. badUniformSums (along Nearest) 2 (1 ∷ []) 0 (x ∷ [])) (pos (2 ^ 62) ∷ minus (2 ^ 62) ∷ []) ≡ true ∷ false ∷ []
+  pub beyond-later : badUniformSumsFrom (constant (pos (2 ^ 63))) 2 (1 ∷ 1 ∷ []) 0 1 (minus (2 ^ 63) ∷ []) ∷ badUniformSumsFrom (constant (pos (2 ^ 63))) 2 (1 ∷ 1 ∷ []) 0 2 (minus (2 ^ 63) ∷ []) ∷ [] ≡ false ∷ true ∷ []
   -- 1, 2 (output; second grid) and 3 come first
   pub grids : refusalOf (uniform1dJudged (along Nearest) 0 [] 9 [] 0) ∷ refusalOf (uniform1dJudged (along Nearest) 0 (3 ∷ []) 9 (wholes (1 ∷ 2 ∷ 3 ∷ [])) 4) ∷ refusalOf (uniform1dJudged (along Nearest) 0 (1 ∷ []) 9 (pos (2 ^ 31) ∷ []) 1) ∷ [] ≡ 1 ∷ 2 ∷ 3 ∷ []
   pub grid-grids : refusalOf (uniformJudged (along Nearest) 0 [] [] 0 0) ∷ refusalOf (uniformJudged (along Nearest) 0 (1 ∷ []) (wholes (5 ∷ [])) 1 2) ∷ refusalOf (uniformJudged (along Nearest) 0 (1 ∷ []) (pos (2 ^ 31) ∷ []) 1 1) ∷ [] ≡ 1 ∷ 2 ∷ 3 ∷ []

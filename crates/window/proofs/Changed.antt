@@ -48,7 +48,7 @@ changed-range (suc n) o = go (eqb (suc n % 2) 0) refl
     go true q = let m = eqb-true (suc n % 2) 0 q in ap (badOrigin (suc n)) (changed-even (suc n) o m) ∙ shifted (suc n) o (omega arith) m
     go false q = let m = eqb-false (suc n % 2) 0 q in ap (badOrigin (suc n)) (changed-odd (suc n) o m) ∙ negated (suc n) o (omega arith) m
 
-pub applied-range : (turned : Bool) (len : ℕ) (o : ℤ) → badOrigin len (appliedOrigin turned len o) ≡ badOrigin len o
+pub applied-range : (convolution : Bool) (len : ℕ) (o : ℤ) → badOrigin len (appliedOrigin convolution len o) ≡ badOrigin len o
 applied-range true len o = changed-range len o
 applied-range false len o = refl
 

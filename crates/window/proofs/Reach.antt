@@ -12,7 +12,7 @@ use Rattle.numbers.specs.Lists.{anyOf}
 use Rattle.numbers.proofs.Any.{any-and}
 use Rattle.border.specs.Border.{Border}
 use Rattle.window.specs.Origin.{badOrigin, originPads}
-use Rattle.window.specs.Window.{leftOf, rightOf, leftPad, rightPad, badWindowOrigin, badPads, badReach}
+use Rattle.window.specs.Window.{leftOf, rightOf, leftPad, rightPad, badWindowOrigin, badEitherPad, badReach}
 use Rattle.window.specs.declared.origin.Origin.{Origin}
 use Rattle.window.specs.declared.origin.Origin.the-variants.{Pads, Refused}
 use Rattle.window.proofs.Answered.{not-refused, left-is, right-is}
@@ -28,8 +28,8 @@ single-cell size t e = sym (ap (λ x. not x && t) (eq-eqb size 1 e))
 
 pub single-any : {A : Type 0} (b : Border A) (size : ℕ) (o : ℤ) (ns : List ℕ) → size ≡ 1 → false ≡ anyOf (badReach b size o) ns
 single-any b size o ns e =
-    single-cell size (anyOf (badPads b (leftPad size o) (rightPad size o)) ns) e
-    ∙ sym (any-and (not (eqb size 1)) (badPads b (leftPad size o) (rightPad size o)) ns)
+    single-cell size (anyOf (badEitherPad b (leftPad size o) (rightPad size o)) ns) e
+    ∙ sym (any-and (not (eqb size 1)) (badEitherPad b (leftPad size o) (rightPad size o)) ns)
 
 module _ (size : ℕ) (o : ℤ) (more : size ≡ 1 → ⊥) where
   pub more-cells : (t : Bool) → t ≡ not (eqb size 1) && t
@@ -38,11 +38,11 @@ module _ (size : ℕ) (o : ℤ) (more : size ≡ 1 → ⊥) where
   pub origin-accepted : badWindowOrigin size o ≡ false → badOrigin size o ≡ false
   origin-accepted h = more-cells (badOrigin size o) ∙ h
 
-  pub reach-more : {A : Type 0} (b : Border A) (n : ℕ) → badPads b (leftPad size o) (rightPad size o) n ≡ badReach b size o n
-  reach-more b n = more-cells (badPads b (leftPad size o) (rightPad size o) n)
+  pub reach-more : {A : Type 0} (b : Border A) (n : ℕ) → badEitherPad b (leftPad size o) (rightPad size o) n ≡ badReach b size o n
+  reach-more b n = more-cells (badEitherPad b (leftPad size o) (rightPad size o) n)
 
-  pub reach-more-any : {A : Type 0} (b : Border A) (ns : List ℕ) → anyOf (badPads b (leftPad size o) (rightPad size o)) ns ≡ anyOf (badReach b size o) ns
-  reach-more-any b ns = more-cells (anyOf (badPads b (leftPad size o) (rightPad size o)) ns) ∙ sym (any-and (not (eqb size 1)) (badPads b (leftPad size o) (rightPad size o)) ns)
+  pub reach-more-any : {A : Type 0} (b : Border A) (ns : List ℕ) → anyOf (badEitherPad b (leftPad size o) (rightPad size o)) ns ≡ anyOf (badReach b size o) ns
+  reach-more-any b ns = more-cells (anyOf (badEitherPad b (leftPad size o) (rightPad size o)) ns) ∙ sym (any-and (not (eqb size 1)) (badEitherPad b (leftPad size o) (rightPad size o)) ns)
 
   module _ (h : badWindowOrigin size o ≡ false) {r : Origin} (e : r ≡ originPads size (leftOf size) (rightOf size) o) where
     pub origin-refused : r ≡ Refused → ⊥
@@ -56,8 +56,8 @@ module _ (size : ℕ) (o : ℤ) (more : size ≡ 1 → ⊥) where
     pads-are q =
         record { left = left-is size (leftOf size) (rightOf size) o (origin-accepted h) e q; right = right-is size (leftOf size) (rightOf size) o (origin-accepted h) e q }
 
-    pub reach-is : {A : Type 0} (b : Border A) (n : ℕ) {l g : ℕ} → r ≡ Pads l g → badPads b l g n ≡ badReach b size o n
-    reach-is b n q = let P = pads-are q in (λ j. badPads b (P .left j) (P .right j) n) ∙ reach-more b n
+    pub reach-is : {A : Type 0} (b : Border A) (n : ℕ) {l g : ℕ} → r ≡ Pads l g → badEitherPad b l g n ≡ badReach b size o n
+    reach-is b n q = let P = pads-are q in (λ j. badEitherPad b (P .left j) (P .right j) n) ∙ reach-more b n
 
-    pub reach-any-is : {A : Type 0} (b : Border A) (ns : List ℕ) {l g : ℕ} → r ≡ Pads l g → anyOf (badPads b l g) ns ≡ anyOf (badReach b size o) ns
-    reach-any-is b ns q = let P = pads-are q in (λ j. anyOf (badPads b (P .left j) (P .right j)) ns) ∙ reach-more-any b ns
+    pub reach-any-is : {A : Type 0} (b : Border A) (ns : List ℕ) {l g : ℕ} → r ≡ Pads l g → anyOf (badEitherPad b l g) ns ≡ anyOf (badReach b size o) ns
+    reach-any-is b ns q = let P = pads-are q in (λ j. anyOf (badEitherPad b (P .left j) (P .right j)) ns) ∙ reach-more-any b ns

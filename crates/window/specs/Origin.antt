@@ -2,7 +2,7 @@
 --   badOrigin len origin                 7: origin outside −floor(len/2)..floor((len − 1)/2); at length 0 every origin
 --   originPads len left right origin     Refused, or the pads: left + origin and right − origin
 --   refusalOfOrigin o                    the number of the answer o: 0, accepted, or 7
---   signedOf s                           the signed number that a sign and a size stand for
+--   originOf s                           the signed number that a sign and a size stand for
 use Prim.Native.Nat.{ℕ, _/_}
 use mathlib.Core.Bool.{Bool, cond}
 use lib.IntN.{ℤ, pos, negsuc, negℤ, natAbs, _+ℤ_, _-ℤ_}
@@ -25,6 +25,6 @@ abbrev pub refusalOfOrigin : Origin → ℕ
 refusalOfOrigin (Pads l r) = 0
 refusalOfOrigin Refused = 7
 
-abbrev pub signedOf : Shift → ℤ
-signedOf (On k) = pos k
-signedOf (Back k) = negsuc k
+abbrev pub originOf : Shift → ℤ
+originOf (On k) = pos k
+originOf (Back k) = negsuc k

@@ -1,5 +1,4 @@
 -- Worked rows of this crate's definitions. Each holds by computing.
---   minus n                    −n
 --   axisPads len origin        the answer for a window along one axis
 --   kernelPads side origin     the answer for a grid kernel
 --   WindowRows                 the rows
@@ -7,16 +6,14 @@ use Prim.Native.Nat.{ℕ, _-_, _/_, _^_}
 use mathlib.Core.Path.{_≡_}
 use mathlib.Core.Bool.{true, false}
 use mathlib.Core.List.{[], _∷_, _++_, map}
-use lib.IntN.{ℤ, pos, negℤ}
+use lib.IntN.{ℤ, pos}
+use Rattle.numbers.specs.Rows.{minus}
 use Rattle.window.specs.Origin.{badOrigin, originPads, refusalOfOrigin}
 use Rattle.border.specs.Border.{along}
-use Rattle.border.specs.declared.Along.the-variants.{Mirror, Reflect, Wrap}
+use Rattle.border.specs.declared.CellBorder.the-variants.{Mirror, Reflect, Wrap}
 use Rattle.window.specs.Window.{badSize, badWindowOrigin, badReach, badKernelReach, changedOrigin, appliedOrigin}
 use Rattle.window.specs.declared.origin.Origin.{Origin}
 use Rattle.window.specs.declared.origin.Origin.the-variants.{Pads, Refused}
-
-abbrev pub minus : ℕ → ℤ
-minus n = negℤ (pos n)
 
 abbrev pub axisPads : ℕ → ℤ → Origin
 axisPads len origin = originPads len (len / 2) (len - len / 2 - 1) origin

@@ -5,16 +5,17 @@
 --   kernelLeft side o, kernelRight side o the pads of a grid kernel, as they are laid: floor(side/2) + origin, and floor(side/2) − origin
 --   badSize len                   5: a length, or a count of weights, outside 1..65
 --   badWindowOrigin len o         7, where the origin is read: a window of more than one cell refuses it
---   badPads b left right n        11 of two pads of n cells: the border cannot fill one of them
---   badReach b len o n            11 of a window: of one cell nothing is padded, else badPads of its pads
+--   badEitherPad b left right n        11 of two pads of n cells: the border cannot fill one of them
+--   badReach b len o n            11 of a window: of one cell nothing is padded, else badEitherPad of its pads
 --   badKernelReach b side o ns    11 of a grid kernel: of some axis, the pads as they are laid; on the right an even kernel never reads the last cell
 --   changedOrigin len o           the origin of a convolution as it is applied: negated, and for an even count of weights 1 less
---   appliedOrigin turned len o    the caller's origin, or, where turned says convolution, the changed one
+--   appliedOrigin convolution len o    the caller's origin, or, where convolution says convolution, the changed one
 use Prim.Native.Nat.{ℕ, _-_, _/_, _%_}
 use mathlib.Core.Bool.{Bool, not, _&&_, _||_, cond}
 use mathlib.Core.List.{List}
 use lib.Dec.{eqb}
 use lib.IntN.{ℤ, pos, negℤ, natAbs, _+ℤ_, _-ℤ_}
+use Rattle.numbers.specs.Limits.{longestWindow}
 use Rattle.numbers.specs.Lists.{anyOf}
 use Rattle.numbers.specs.Ranges.{outside}
 use Rattle.border.specs.Border.{Border}
@@ -41,22 +42,22 @@ abbrev pub kernelRight : ℕ → ℤ → ℕ
 kernelRight side o = natAbs (pos (side / 2) -ℤ o)
 
 abbrev pub badSize : ℕ → Bool
-badSize len = outside 1 65 len
+badSize len = outside 1 longestWindow len
 
 abbrev pub badWindowOrigin : ℕ → ℤ → Bool
 badWindowOrigin len o = not (eqb len 1) && badOrigin len o
 
-abbrev pub badPads : {A : Type 0} → Border A → ℕ → ℕ → ℕ → Bool
-badPads b left right n = badPad b n left || badPad b n right
+abbrev pub badEitherPad : {A : Type 0} → Border A → ℕ → ℕ → ℕ → Bool
+badEitherPad b left right n = badPad b n left || badPad b n right
 
 abbrev pub badReach : {A : Type 0} → Border A → ℕ → ℤ → ℕ → Bool
-badReach b len o n = not (eqb len 1) && badPads b (leftPad len o) (rightPad len o) n
+badReach b len o n = not (eqb len 1) && badEitherPad b (leftPad len o) (rightPad len o) n
 
 abbrev pub badKernelReach : {A : Type 0} → Border A → ℕ → ℤ → List ℕ → Bool
-badKernelReach b side o ns = anyOf (badPads b (kernelLeft side o) (kernelRight side o)) ns
+badKernelReach b side o ns = anyOf (badEitherPad b (kernelLeft side o) (kernelRight side o)) ns
 
 abbrev pub changedOrigin : ℕ → ℤ → ℤ
 changedOrigin len o = negℤ o -ℤ pos (cond (eqb (len % 2) 0) 1 0)
 
 abbrev pub appliedOrigin : Bool → ℕ → ℤ → ℤ
-appliedOrigin turned len o = cond turned (changedOrigin len o) o
+appliedOrigin convolution len o = cond convolution (changedOrigin len o) o

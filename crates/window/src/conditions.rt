@@ -3,7 +3,7 @@ ghost use mathlib.Core.Path.{_≡_};
 ghost use mathlib.Core.Bool.{false};
 ghost use Rattle.numbers.specs.Lists.{anyOf};
 ghost use Rattle.border.specs.Modes.{borderOf};
-ghost use Rattle.window.specs.Window.{badSize, badWindowOrigin, badPads, badReach};
+ghost use Rattle.window.specs.Window.{badSize, badWindowOrigin, badEitherPad, badReach};
 use crate::origin::Origin;
 use border::BorderMode;
 
@@ -14,7 +14,7 @@ pub fn bad_size(size: usize) -> bool
     if size < 1 {
         return true;
     }
-    65 < size
+    numbers::LONGEST_WINDOW < size
 }
 
 // Condition 7: a window of more than one cell refuses the origin.
@@ -30,7 +30,7 @@ pub fn bad_window_origin(size: usize, origin: isize) -> bool
 
 // Whether the border cannot fill one of two pads of a lane of n cells.
 fn bad_pads(mode: BorderMode, left: usize, right: usize, n: usize) -> bool
-    ensures { λ r. ⌜ r ≡ badPads (borderOf mode) left right n ⌝ }
+    ensures { λ r. ⌜ r ≡ badEitherPad (borderOf mode) left right n ⌝ }
 {
     if border::bad_pad(mode, n, left) {
         return true;
@@ -40,7 +40,7 @@ fn bad_pads(mode: BorderMode, left: usize, right: usize, n: usize) -> bool
 
 // The same of the lanes of some axis.
 pub(crate) fn bad_pads_any(mode: BorderMode, left: usize, right: usize, shape: &[usize]) -> bool
-    ensures { λ r. ⌜ r ≡ anyOf (badPads (borderOf mode) left right) (now (shape .entry)) ⌝ }
+    ensures { λ r. ⌜ r ≡ anyOf (badEitherPad (borderOf mode) left right) (now (shape .entry)) ⌝ }
 {
     let mut a = 0;
     while a < shape.len() {

@@ -1,7 +1,7 @@
 // The origin of a window: how far the window is moved back along the axis, and the pads that it then needs.
 ghost use Prim.Native.Nat.{_-_, _/_, _≤_};
 ghost use mathlib.Core.Path.{_≡_};
-ghost use Rattle.window.specs.Origin.{badOrigin, originPads, signedOf};
+ghost use Rattle.window.specs.Origin.{badOrigin, originPads, originOf};
 
 // The answer to an origin.
 pub enum Origin {
@@ -19,7 +19,7 @@ enum Shift {
 
 // The sign and size of z, also of the least number, which has no negation.
 fn split(z: isize) -> Shift
-    ensures { λ r. ⌜ signedOf r ≡ z ⌝ }
+    ensures { λ r. ⌜ originOf r ≡ z ⌝ }
 {
     if z < 0 {
         let m = -(z + 1);
@@ -30,7 +30,7 @@ fn split(z: isize) -> Shift
 
 // Whether a window of len cells refuses the origin.
 fn refuses(len: usize, origin: Shift) -> bool
-    ensures { λ r. ⌜ r ≡ badOrigin len (signedOf origin) ⌝ }
+    ensures { λ r. ⌜ r ≡ badOrigin len (originOf origin) ⌝ }
 {
     if len == 0 {
         return true;
@@ -44,7 +44,7 @@ fn refuses(len: usize, origin: Shift) -> bool
 // The pads of a window of len cells that the origin moves, len / 2 and right where the origin is 0.
 fn pads(len: usize, right: usize, origin: Shift) -> Origin
     requires { ⌜ ((len - 1) / 2 ≤ right) × (right ≤ len / 2) ⌝ }
-    ensures { λ r. ⌜ r ≡ originPads len (len / 2) right (signedOf origin) ⌝ }
+    ensures { λ r. ⌜ r ≡ originPads len (len / 2) right (originOf origin) ⌝ }
 {
     if refuses(len, origin) {
         return Origin::Refused;

@@ -31,11 +31,11 @@ judge-kernel-requires c κs = search needs
 returns : tie.Need-returns
 returns c = answers-refused _ _ _ _ (judged (c .before)) (c .if1 .taken)
 
-array-borrow-prefix-turned : tie.Need-array-borrow-prefix-turned
-array-borrow-prefix-turned c = let s = c .before .before .before .before in passed true (borderOf (s .args .mode)) (s .args .origin) (now (s .args .sides)) (now (s .args .weights)) (now (s .args .shape)) (now (s .args .«data»)) (length (now (s .args .out))) (sym (judged (c .before)) ∙ c .if1 .left) .equal .few
+array-borrow-prefix-reversed : tie.Need-array-borrow-prefix-reversed
+array-borrow-prefix-reversed c = let s = c .before .before .before .before in passed true (borderOf (s .args .mode)) (s .args .origin) (now (s .args .sides)) (now (s .args .weights)) (now (s .args .shape)) (now (s .args .«data»)) (length (now (s .args .out))) (sym (judged (c .before)) ∙ c .if1 .left) .equal .few
 
 slice-aggregate-convolve-cells : tie.Need-slice-aggregate-convolve-cells
-slice-aggregate-convolve-cells c = sym (length-take-le _ _ (array-borrow-prefix-turned (c .before)))
+slice-aggregate-convolve-cells c = sym (length-take-le _ _ (array-borrow-prefix-reversed (c .before)))
 
 convolve-cells-requires : tie.Need-convolve-cells-requires
 convolve-cells-requires c κs =
@@ -59,7 +59,7 @@ convolve-spec =
     (tie.spec
     judge-kernel-requires
     returns
-    array-borrow-prefix-turned
+    array-borrow-prefix-reversed
     slice-aggregate-convolve-cells
     convolve-cells-requires
     same-length

@@ -16,7 +16,7 @@ use Rattle.correlate_spec.specs.Weighed.{wholeOps}
 use Rattle.correlate1d.proofs.Passed.{passed}
 use Rattle.correlate1d.proofs.Accepted.{scales-read, scaled-cells, weighs-accepted}
 use Rattle.correlate1d.proofs.Weighed.{weighs-as}
-use Rattle.correlate1d.proofs.Stores.{one-turned}
+use Rattle.correlate1d.proofs.Stores.{one-convolved}
 use borrow.Author.Needs.{needs}
 use Rattle.correlate1d.proofs.convolve_cells.Statement.{statement}
 use Rattle.correlate1d.proofs.convolve_cells.Tie as tie
@@ -44,7 +44,7 @@ returns : tie.Need-returns
 returns c =
     let s = c .before .before .before .before .before .before in
     scaled-cells (now (s .args .out)) (passed true (borderOf (s .args .mode)) (s .args .origin) (now (s .args .weights)) (now (s .args .shape)) (s .args .axis) (now (s .args .«data»)) (length (now (s .args .out))) (s .pre .0)) (c .before .scale .ensures)
-    ∙ one-turned wholeOps (borderOf (s .args .mode)) (λ w. NonSymmetric) (changedOrigin (length (now (s .args .weights))) (s .args .origin)) (now (s .args .weights)) (now (s .args .shape)) (s .args .axis) (now (s .args .«data»)) (c .before .before .before .before .if1 .taken)
+    ∙ one-convolved wholeOps (borderOf (s .args .mode)) (λ w. NonSymmetric) (changedOrigin (length (now (s .args .weights))) (s .args .origin)) (now (s .args .weights)) (now (s .args .shape)) (s .args .axis) (now (s .args .«data»)) (c .before .before .before .before .if1 .taken)
 
 reverse-requires : tie.Need-reverse-requires
 reverse-requires c κs = search needs

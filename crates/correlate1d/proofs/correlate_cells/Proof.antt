@@ -11,7 +11,7 @@ use Rattle.border.specs.Modes.{borderOf}
 use Rattle.correlate_spec.specs.Correlated.{correlate1dZ}
 use Rattle.symmetry_spec.specs.declared.SymmetryState.the-variants.{NonSymmetric}
 use Rattle.correlate_spec.specs.Weighed.{wholeOps}
-use Rattle.correlate1d.specs.Weighs.{Weighs}
+use Rattle.correlate1d.specs.WeighNeeds.{WeighNeeds}
 use Rattle.correlate1d.proofs.Passed.{passed}
 use Rattle.correlate1d.proofs.Accepted.{scales-read, scaled-cells, weighs-accepted}
 use Rattle.correlate1d.proofs.Stores.{one-weight}
@@ -40,7 +40,7 @@ weigh-requires : tie.Need-weigh-requires
 weigh-requires c κs =
     let s = c .before .before .before in
     let e : toZ w64 (ofZ w64 (s .args .origin)) ≡ s .args .origin = search needs in
-    subst (λ (o : ℤ). Weighs (borderOf (s .args .mode)) (now (s .args .shape)) (s .args .axis) o (now (s .args .weights)) (now (s .args .«data»)) (now (s .args .out))) (sym e)
+    subst (λ (o : ℤ). WeighNeeds (borderOf (s .args .mode)) (now (s .args .shape)) (s .args .axis) o (now (s .args .weights)) (now (s .args .«data»)) (now (s .args .out))) (sym e)
     (weighs-accepted (now (s .args .out)) (passed false (borderOf (s .args .mode)) (s .args .origin) (now (s .args .weights)) (now (s .args .shape)) (s .args .axis) (now (s .args .«data»)) (length (now (s .args .out))) (s .pre)) (c .before .if1 .left))
 
 same-length-2 : tie.Need-same-length-2

@@ -31,13 +31,13 @@ judge-correlate-f64-requires c κs = search needs
 returns : tie.Need-returns
 returns c = answers-refused _ _ _ _ (judged (c .before)) (c .if1 .taken)
 
-array-borrow-prefix-turned : tie.Need-array-borrow-prefix-turned
-array-borrow-prefix-turned c =
+array-borrow-prefix-reversed : tie.Need-array-borrow-prefix-reversed
+array-borrow-prefix-reversed c =
     let s = c .before .before .before .before .before .before in
     passed-float true (borderOfF64 (s .args .mode)) (s .args .origin) (now (s .args .weights)) (now (s .args .shape)) (s .args .axis) (now (s .args .«data»)) (length (now (s .args .out))) (sym (judged (c .before)) ∙ c .if1 .left) .few
 
 slice-aggregate-convolve-cells : tie.Need-slice-aggregate-convolve-cells
-slice-aggregate-convolve-cells c = sym (length-take-le _ _ (array-borrow-prefix-turned (c .before)))
+slice-aggregate-convolve-cells c = sym (length-take-le _ _ (array-borrow-prefix-reversed (c .before)))
 
 convolve-cells-requires : tie.Need-convolve-cells-requires
 convolve-cells-requires c κs =
@@ -60,7 +60,7 @@ convolve1d-f64-spec =
     (tie.spec
     judge-correlate-f64-requires
     returns
-    array-borrow-prefix-turned
+    array-borrow-prefix-reversed
     slice-aggregate-convolve-cells
     convolve-cells-requires
     same-length

@@ -15,7 +15,7 @@ use Rattle.correlate_spec.specs.Weighed.{floatOps}
 use Rattle.correlate_spec.specs.Correlated.{correlate1dF}
 use Rattle.window.specs.Window.{changedOrigin}
 use Rattle.correlate1d.proofs.Passed.{passed-float, placed-accepted}
-use Rattle.correlate1d.proofs.Stores.{one-turned}
+use Rattle.correlate1d.proofs.Stores.{one-convolved}
 use Rattle.correlate1d.proofs.Weighed.{placed-as}
 use borrow.Author.Needs.{needs}
 use Rattle.correlate1d_f64.proofs.convolve_cells.Statement.{statement}
@@ -44,7 +44,7 @@ returns : tie.Need-returns
 returns c =
     let s = c .before .before .before .before .before .before .before .before .before .before .before in
     c .before .before .scale .ensures
-    ∙ one-turned floatOps (borderOfF64 (s .args .mode)) classF (changedOrigin (length (now (s .args .weights))) (s .args .origin)) (now (s .args .weights)) (now (s .args .shape)) (s .args .axis) (now (s .args .«data»)) (c .before .before .before .before .before .if1 .taken)
+    ∙ one-convolved floatOps (borderOfF64 (s .args .mode)) classF (changedOrigin (length (now (s .args .weights))) (s .args .origin)) (now (s .args .weights)) (now (s .args .shape)) (s .args .axis) (now (s .args .«data»)) (c .before .before .before .before .before .if1 .taken)
 
 reverse-requires : tie.Need-reverse-requires
 reverse-requires c κs = search needs

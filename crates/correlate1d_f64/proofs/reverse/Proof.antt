@@ -15,10 +15,10 @@ use Rattle.correlate1d_f64.proofs.reverse.Statement.{statement}
 use Rattle.correlate1d_f64.proofs.reverse.Tie as tie
 
 abbrev Inv-loop : tie.InvT-loop
-Inv-loop weights turned₀ n i₀ turned i = (i ≤ n) × (n ≡ length weights) × Stored nan (λ k. ltb k i) (λ k. getD weights (length weights - 1 - k) nan) turned₀ turned
+Inv-loop weights reversed₀ n i₀ reversed i = (i ≤ n) × (n ≡ length weights) × Stored nan (λ k. ltb k i) (λ k. getD weights (length weights - 1 - k) nan) reversed₀ reversed
 
 abbrev μ-loop : tie.MeasureT-loop
-μ-loop weights turned₀ n i₀ turned i = n - i
+μ-loop weights reversed₀ n i₀ reversed i = n - i
 
 loop-holds : tie.Need-loop-holds Inv-loop μ-loop
 loop-holds c = (search needs, c .pre, front-none nan _ _)
@@ -35,11 +35,11 @@ mul-v c = search needs
 shared-slice-read-v : tie.Need-shared-slice-read-v Inv-loop μ-loop
 shared-slice-read-v c = search needs
 
-mul-turned : tie.Need-mul-turned Inv-loop μ-loop
-mul-turned c = search needs
+mul-reversed : tie.Need-mul-reversed Inv-loop μ-loop
+mul-reversed c = search needs
 
-slice-write-turned : tie.Need-slice-write-turned Inv-loop μ-loop
-slice-write-turned c = search needs
+slice-write-reversed : tie.Need-slice-write-reversed Inv-loop μ-loop
+slice-write-reversed c = search needs
 
 add-i : tie.Need-add-i Inv-loop μ-loop
 add-i c = search needs
@@ -71,8 +71,8 @@ reverse-spec =
     sub-v-2
     mul-v
     shared-slice-read-v
-    mul-turned
-    slice-write-turned
+    mul-reversed
+    slice-write-reversed
     add-i
     loop-less
     loop-again

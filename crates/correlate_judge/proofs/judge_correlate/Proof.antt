@@ -10,7 +10,7 @@ use Rattle.numbers.specs.Refusal.{Judged}
 use Rattle.array_spec.specs.Conditions.{badLevel}
 use Rattle.array_spec.proofs.Judged.{grid-refused, grid-ends}
 use Rattle.border.specs.Modes.{borderOf}
-use Rattle.correlate_judge.specs.Judge.{badWeight, weightsJudged, placeJudged, badSums, correlateJudged}
+use Rattle.correlate_judge.specs.Judge.{badWeight, weightsJudged, placeJudged, badCorrelateSums, correlateJudged}
 use Rattle.correlate_judge.proofs.Sums.{no-bad-sums}
 use Rattle.correlate_judge.proofs.Chain.{weighed}
 use borrow.Author.Needs.{needs}
@@ -19,7 +19,7 @@ use Rattle.correlate_judge.proofs.judge_correlate.Tie as tie
 
 -- the conditions after the grid's own
 abbrev rest : tie.Start → Judged
-rest s = drop 3 (correlateJudged (s .args .turned) (borderOf (s .args .mode)) (s .args .origin) (now (s .args .weights)) (now (s .args .shape)) (s .args .axis) (now (s .args .«data»)) (s .args .out))
+rest s = drop 3 (correlateJudged (s .args .convolution) (borderOf (s .args .mode)) (s .args .origin) (now (s .args .weights)) (now (s .args .shape)) (s .args .axis) (now (s .args .«data»)) (s .args .out))
 
 slice-aggregate-judge-grid : tie.Need-slice-aggregate-judge-grid
 slice-aggregate-judge-grid c = search needs
@@ -43,16 +43,16 @@ returns-2 : tie.Need-returns-2
 returns-2 c =
     let s = c .before .before .before .before .before .before .before in
     let e : toZ w64 (ofZ w64 (s .args .origin)) ≡ s .args .origin = search needs in
-    let six = c .before .before .bad-weights .ensures in
-    let nine = c .before .bad-constant .ensures in
+    let weights-bad = c .before .before .bad-weights .ensures in
+    let constant-bad = c .before .bad-constant .ensures in
     let z = c .before .before .before .if1 .left in
     let g = c .before .before .before .before .judge-grid .ensures in
     let b = borderOf (s .args .mode) in
     let w = now (s .args .weights) in
-    grid-ends badLevel (now (s .args .shape)) (now (s .args .«data»)) (s .args .out ∷ []) (weightsJudged badWeight w ++ placeJudged badLevel (s .args .turned) b (s .args .origin) (length w) (now (s .args .shape)) (s .args .axis))
-    (badSums (s .args .turned) b (s .args .origin) w (now (s .args .shape)) (s .args .axis) (now (s .args .«data»))) 12 (tt, (tt, (tt, (tt, (tt, (tt, tt)))))) g z
-    (weighed badWeight badLevel (s .args .turned) b w (now (s .args .shape)) (s .args .axis) b six nine (λ n pad. refl) e (c .judge-weighing .ensures))
-    (λ G p. no-bad-sums (s .args .turned) b (s .args .origin) w (now (s .args .shape)) (s .args .axis) (now (s .args .«data»)) (G .levels) (p .0) (p .1 .0) (p .1 .1 .1 .1 .0))
+    grid-ends badLevel (now (s .args .shape)) (now (s .args .«data»)) (s .args .out ∷ []) (weightsJudged badWeight w ++ placeJudged badLevel (s .args .convolution) b (s .args .origin) (length w) (now (s .args .shape)) (s .args .axis))
+    (badCorrelateSums (s .args .convolution) b (s .args .origin) w (now (s .args .shape)) (s .args .axis) (now (s .args .«data»))) 12 (tt, (tt, (tt, (tt, (tt, (tt, tt)))))) g z
+    (weighed badWeight badLevel (s .args .convolution) b w (now (s .args .shape)) (s .args .axis) b weights-bad constant-bad (λ n pad. refl) e (c .judge-weighing .ensures))
+    (λ G p. no-bad-sums (s .args .convolution) b (s .args .origin) w (now (s .args .shape)) (s .args .axis) (now (s .args .«data»)) (G .levels) (p .0) (p .1 .0) (p .1 .1 .1 .1 .0))
 
 pub judge-correlate-spec : {M : Type 1} → statement M
 judge-correlate-spec =

@@ -20,7 +20,7 @@ use Rattle.correlate_judge.proofs.judge_correlate_f64.Tie as tie
 
 -- the conditions after the grid's own
 abbrev rest : tie.Start → Judged
-rest s = drop 3 (correlateJudgedF (s .args .turned) (borderOfF64 (s .args .mode)) (s .args .origin) (now (s .args .weights)) (now (s .args .shape)) (s .args .axis) (now (s .args .«data»)) (s .args .out))
+rest s = drop 3 (correlateJudgedF (s .args .convolution) (borderOfF64 (s .args .mode)) (s .args .origin) (now (s .args .weights)) (now (s .args .shape)) (s .args .axis) (now (s .args .«data»)) (s .args .out))
 
 slice-aggregate-judge-grid-f64 : tie.Need-slice-aggregate-judge-grid-f64
 slice-aggregate-judge-grid-f64 c = search needs
@@ -51,12 +51,12 @@ returns-2 : tie.Need-returns-2
 returns-2 c =
     let s = c .before .before .before .before .before .before .before .before .before .before in
     let e : toZ w64 (ofZ w64 (s .args .origin)) ≡ s .args .origin = search needs in
-    let six = c .before .before .before .bad-levels-f64 .ensures in
-    let nine = c .before .before .bad-constant-f64 .ensures in
+    let weights-bad = c .before .before .before .bad-levels-f64 .ensures in
+    let constant-bad = c .before .before .bad-constant-f64 .ensures in
     let z = c .before .before .before .before .if1 .left in
     let g = c .before .before .before .before .before .judge-grid-f64 .ensures in
     grid-accepted badFloat (now (s .args .shape)) (now (s .args .«data»)) (s .args .out ∷ []) (rest s) g z
-    (weighed badFloat badFloat (s .args .turned) (borderOfF64 (s .args .mode)) (now (s .args .weights)) (now (s .args .shape)) (s .args .axis) (borderOf (c .before .kind-of .result)) six nine (same-pads (c .before)) e (c .judge-weighing .ensures))
+    (weighed badFloat badFloat (s .args .convolution) (borderOfF64 (s .args .mode)) (now (s .args .weights)) (now (s .args .shape)) (s .args .axis) (borderOf (c .before .kind-of .result)) weights-bad constant-bad (same-pads (c .before)) e (c .judge-weighing .ensures))
 
 pub judge-correlate-f64-spec : {M : Type 1} → statement M
 judge-correlate-f64-spec =

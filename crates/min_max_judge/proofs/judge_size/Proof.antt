@@ -3,7 +3,7 @@
 use mathlib.Core.Path.{_≡_, refl, ap, _∙_}
 use mir.Syntax.{w64}
 use mir.Val.{toZ, ofZ}
-use Rattle.numbers.proofs.Tests.{told}
+use Rattle.numbers.proofs.Tests.{condition-is}
 use Rattle.window.specs.Window.{badWindowOrigin}
 use borrow.Author.Needs.{needs}
 use Rattle.min_max_judge.proofs.judge_size.Statement.{statement}
@@ -19,16 +19,16 @@ bad-size-requires : tie.Need-bad-size-requires
 bad-size-requires c κs = search needs
 
 returns : tie.Need-returns
-returns c = simp (told (c .before .bad-size .ensures) (c .if1 .taken)) refl
+returns c = simp (condition-is (c .before .bad-size .ensures) (c .if1 .taken)) refl
 
 bad-window-origin-requires : tie.Need-bad-window-origin-requires
 bad-window-origin-requires c κs = search needs
 
 returns-2 : tie.Need-returns-2
-returns-2 c = simp (told (c .before .before .before .bad-size .ensures) (c .before .before .if1 .left), told (window-origin (c .before)) (c .if2 .taken)) refl
+returns-2 c = simp (condition-is (c .before .before .before .bad-size .ensures) (c .before .before .if1 .left), condition-is (window-origin (c .before)) (c .if2 .taken)) refl
 
 returns-3 : tie.Need-returns-3
-returns-3 c = simp (told (c .before .before .before .bad-size .ensures) (c .before .before .if1 .left), told (window-origin (c .before)) (c .if2 .left)) refl
+returns-3 c = simp (condition-is (c .before .before .before .bad-size .ensures) (c .before .before .if1 .left), condition-is (window-origin (c .before)) (c .if2 .left)) refl
 
 pub judge-size-spec : {M : Type 1} → statement M
 judge-size-spec = tie.close (tie.spec bad-size-requires returns bad-window-origin-requires returns-2 returns-3)

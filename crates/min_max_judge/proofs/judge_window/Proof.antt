@@ -7,7 +7,7 @@ use mir.Syntax.{w64}
 use mir.Val.{toZ, ofZ}
 use lib.Dec.{eqb}
 use denote.Ref.{now}
-use Rattle.numbers.proofs.Tests.{told}
+use Rattle.numbers.proofs.Tests.{condition-is}
 use Rattle.array_spec.specs.Conditions.{badLevel, badAxis}
 use Rattle.array_spec.specs.Grid.{lengthOf}
 use Rattle.border.specs.Modes.{borderOf, badConstantBy}
@@ -28,10 +28,10 @@ taken : (c : tie.Else1) → let a = c .before .before .before .args in Taken (a 
 taken c = window-taken (c .before .before .before .args .size) (same-origin (c .before .before .before)) (c .before .judge-size .ensures) (c .if1 .left)
 
 axis-in : (c : tie.Else2) → let a = c .before .before .before .before .before .args in badAxis (now (a .shape)) (a .axis) ≡ false
-axis-in c = told (c .before .bad-axis .ensures) (c .if2 .left)
+axis-in c = condition-is (c .before .bad-axis .ensures) (c .if2 .left)
 
 constant-in : (c : tie.Else3) → badConstantBy badLevel (borderOf (c .before .before .before .before .before .before .before .args .mode)) ≡ false
-constant-in c = told (c .before .bad-constant .ensures) (c .if3 .left)
+constant-in c = condition-is (c .before .bad-constant .ensures) (c .if3 .left)
 
 reached : (c : tie.After-bad-reach) → let a = c .before .before .before .before .before .before .before .before .before .args in c .bad-reach .result ≡ badReach (borderOf (a .mode)) (a .size) (a .origin) (lengthOf (now (a .shape)) (a .axis))
 reached c =
@@ -50,13 +50,13 @@ bad-axis-requires : tie.Need-bad-axis-requires
 bad-axis-requires c κs = search needs
 
 returns-2 : tie.Need-returns-2
-returns-2 c = let W = taken (c .before .before) in simp (W .size-in, W .origin-in, told (c .before .bad-axis .ensures) (c .if2 .taken)) refl
+returns-2 c = let W = taken (c .before .before) in simp (W .size-in, W .origin-in, condition-is (c .before .bad-axis .ensures) (c .if2 .taken)) refl
 
 bad-constant-requires : tie.Need-bad-constant-requires
 bad-constant-requires c κs = search needs
 
 returns-3 : tie.Need-returns-3
-returns-3 c = let W = taken (c .before .before .before .before) in simp (W .size-in, W .origin-in, axis-in (c .before .before), told (c .before .bad-constant .ensures) (c .if3 .taken)) refl
+returns-3 c = let W = taken (c .before .before .before .before) in simp (W .size-in, W .origin-in, axis-in (c .before .before), condition-is (c .before .bad-constant .ensures) (c .if3 .taken)) refl
 
 len-of-requires : tie.Need-len-of-requires
 len-of-requires c κs = search needs
@@ -65,10 +65,10 @@ bad-reach-requires : tie.Need-bad-reach-requires
 bad-reach-requires c κs = window-taken (c .before .before .before .before .before .before .before .before .args .size) refl (c .before .before .before .before .before .before .judge-size .ensures) (c .before .before .before .before .before .if1 .left) .origin-in
 
 returns-4 : tie.Need-returns-4
-returns-4 c = let W = taken (c .before .before .before .before .before .before .before) in simp (W .size-in, W .origin-in, axis-in (c .before .before .before .before .before), constant-in (c .before .before .before), told (reached (c .before)) (c .if4 .taken)) refl
+returns-4 c = let W = taken (c .before .before .before .before .before .before .before) in simp (W .size-in, W .origin-in, axis-in (c .before .before .before .before .before), constant-in (c .before .before .before), condition-is (reached (c .before)) (c .if4 .taken)) refl
 
 returns-5 : tie.Need-returns-5
-returns-5 c = let W = taken (c .before .before .before .before .before .before .before) in simp (W .size-in, W .origin-in, axis-in (c .before .before .before .before .before), constant-in (c .before .before .before), told (reached (c .before)) (c .if4 .left)) refl
+returns-5 c = let W = taken (c .before .before .before .before .before .before .before) in simp (W .size-in, W .origin-in, axis-in (c .before .before .before .before .before), constant-in (c .before .before .before), condition-is (reached (c .before)) (c .if4 .left)) refl
 
 pub judge-window-spec : {M : Type 1} → statement M
 judge-window-spec =

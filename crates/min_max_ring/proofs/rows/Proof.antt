@@ -3,13 +3,13 @@
 use mathlib.Core.Path.{refl}
 use Rattle.numbers.specs.Lists.{tabulate}
 use Rattle.numbers.specs.Windows.{windowOf}
-use Rattle.min_max_ring.specs.Firsts.{firsts, sweptBy}
-use Rattle.min_max_ring.specs.Ring.{placeOf, itemsFrom}
+use Rattle.min_max_ring.specs.Extremes.{extremes, sweptBy}
+use Rattle.min_max_ring.specs.Ring.{ringPlace, itemsFrom}
 use Rattle.min_max_ring.proofs.rows.Statement.{statement}
 use Rattle.min_max_ring.proofs.rows.Tie as tie
 
 returns : tie.Need-returns
-unfolding tabulate windowOf firsts sweptBy placeOf itemsFrom
+unfolding tabulate windowOf extremes sweptBy ringPlace itemsFrom
 returns c = record {
   orders = refl;
   least-three = refl;

@@ -15,10 +15,10 @@ returns c = record {
   accepted-fills = refl;
   scratch-zero = record { filled = record { number = refl; cells = refl }; cleared = refl };
   scratch-kept = record { filled = record { number = refl; cells = refl }; cleared = refl };
-  least-first = refl;
-  least-last = refl;
+  extreme-first = refl;
+  extreme-last = refl;
   greatest-inside = refl;
-  least-none = refl;
+  extreme-none = refl;
   table = refl;
   range = refl;
   some-member = refl;

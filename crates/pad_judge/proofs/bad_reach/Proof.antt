@@ -7,15 +7,15 @@ use borrow.Author.Needs.{needs}
 use denote.Ref.{now}
 use lib.ListN.{length, drop}
 use Rattle.numbers.specs.Lists.{tabulate, anyOf}
-use Rattle.numbers.proofs.Tests.{told}
-use Rattle.pad_spec.specs.Conditions.{badReachOn, badReach}
+use Rattle.numbers.proofs.Tests.{condition-is}
+use Rattle.pad_spec.specs.Conditions.{badPadReachOn, badPadReach}
 use Rattle.pad_spec.proofs.PairOf.{axis-hit, axis-miss, axis-end}
 use Rattle.pad_judge.proofs.bad_reach.Statement.{statement}
 use Rattle.pad_judge.proofs.bad_reach.Tie as tie
 
 abbrev Inv-loop : tie.InvT-loop
 Inv-loop mode shape pads count a₀ a =
-    (a ≤ length shape) × (anyOf (badReachOn mode shape pads count) (tabulate (λ k. k) 0 (length shape)) ≡ anyOf (badReachOn mode shape pads count) (drop a (tabulate (λ k. k) 0 (length shape))))
+    (a ≤ length shape) × (anyOf (badPadReachOn mode shape pads count) (tabulate (λ k. k) 0 (length shape)) ≡ anyOf (badPadReachOn mode shape pads count) (drop a (tabulate (λ k. k) 0 (length shape))))
 
 abbrev μ-loop : tie.MeasureT-loop
 μ-loop mode shape pads count a₀ a = length shape - a
@@ -27,10 +27,10 @@ bad-reach-on-requires : tie.Need-bad-reach-on-requires Inv-loop μ-loop
 bad-reach-on-requires c κs = search needs
 
 returns : tie.Need-returns Inv-loop μ-loop
-unfolding badReach
+unfolding badPadReach
 returns c =
     let l = c .before .before .before in
-    axis-hit _ (length (now (l .before .before .args .shape))) (l .loop .a) (omega arith) (l .loop .inv .1) (told (c .before .bad-reach-on .ensures) (c .if1 .taken))
+    axis-hit _ (length (now (l .before .before .args .shape))) (l .loop .a) (omega arith) (l .loop .inv .1) (condition-is (c .before .bad-reach-on .ensures) (c .if1 .taken))
 
 add-a : tie.Need-add-a Inv-loop μ-loop
 add-a c = search needs
@@ -41,10 +41,10 @@ loop-less c = search needs
 loop-again : tie.Need-loop-again Inv-loop μ-loop
 loop-again c =
     let l = c .before .before .before in
-    (search needs, axis-miss _ (length (now (l .before .before .args .shape))) (l .loop .a) (omega arith) (l .loop .inv .1) (told (c .before .bad-reach-on .ensures) (c .if1 .left)))
+    (search needs, axis-miss _ (length (now (l .before .before .args .shape))) (l .loop .a) (omega arith) (l .loop .inv .1) (condition-is (c .before .bad-reach-on .ensures) (c .if1 .left)))
 
 returns-2 : tie.Need-returns-2 Inv-loop μ-loop
-unfolding badReach
+unfolding badPadReach
 returns-2 c =
     let l = c .before in
     axis-end _ (length (now (l .before .before .args .shape))) (l .loop .a) (omega arith) (l .loop .inv .1)

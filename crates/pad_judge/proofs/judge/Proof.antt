@@ -5,7 +5,7 @@ use mathlib.Core.List.{[], _++_}
 use Prim.Native.Nat.{ℕ}
 use denote.Ref.{now}
 use Rattle.numbers.specs.Refusal.{Judged, refusalOf}
-use Rattle.numbers.proofs.Tests.{told}
+use Rattle.numbers.proofs.Tests.{condition-is}
 use Rattle.array_spec.specs.Conditions.{badLevel, gridJudged}
 use Rattle.array_spec.proofs.Judged.{PassedGrid, grid-passed, grid-refused, grid-accepted}
 use Rattle.pad_spec.specs.Conditions.{padsJudged}
@@ -39,7 +39,7 @@ bad-constant-requires : tie.Need-bad-constant-requires
 bad-constant-requires c κs = search needs
 
 returns-2 : tie.Need-returns-2
-returns-2 c = judged-on (c .before .before) (simp (told (c .before .bad-constant .ensures) (c .if2 .taken)))
+returns-2 c = judged-on (c .before .before) (simp (condition-is (c .before .bad-constant .ensures) (c .if2 .taken)))
 
 bad-pads-requires : tie.Need-bad-pads-requires
 bad-pads-requires c κs = grid-in (c .before .before) .shape
@@ -47,7 +47,7 @@ bad-pads-requires c κs = grid-in (c .before .before) .shape
 returns-3 : tie.Need-returns-3
 returns-3 c =
     judged-on (c .before .before .before .before)
-    (simp (told (c .before .before .before .bad-constant .ensures) (c .before .before .if2 .left), told (c .before .bad-pads .ensures) (c .if3 .taken)))
+    (simp (condition-is (c .before .before .before .bad-constant .ensures) (c .before .before .if2 .left), condition-is (c .before .bad-pads .ensures) (c .if3 .taken)))
 
 bad-reach-requires : tie.Need-bad-reach-requires
 bad-reach-requires c κs = search needs
@@ -55,15 +55,15 @@ bad-reach-requires c κs = search needs
 returns-4 : tie.Need-returns-4
 returns-4 c =
     judged-on (c .before .before .before .before .before .before)
-    (simp (told (c .before .before .before .before .before .bad-constant .ensures) (c .before .before .before .before .if2 .left), told (c .before .before .before .bad-pads .ensures) (c .before .before .if3 .left), told (c .before .bad-reach .ensures) (c .if4 .taken)))
+    (simp (condition-is (c .before .before .before .before .before .bad-constant .ensures) (c .before .before .before .before .if2 .left), condition-is (c .before .before .before .bad-pads .ensures) (c .before .before .if3 .left), condition-is (c .before .bad-reach .ensures) (c .if4 .taken)))
 
 returns-5 : tie.Need-returns-5
 returns-5 c =
     let a = c .before .before .before .before .before .before .before .before .before .before .args in
     let G = grid-in (c .before .before .before .before .before .before) in
-    let k = told (c .before .before .before .before .before .bad-constant .ensures) (c .before .before .before .before .if2 .left) in
+    let k = condition-is (c .before .before .before .before .before .bad-constant .ensures) (c .before .before .before .before .if2 .left) in
     judged-on (c .before .before .before .before .before .before)
-    (simp (k, told (c .before .before .before .bad-pads .ensures) (c .before .before .if3 .left), told (c .before .bad-reach .ensures) (c .if4 .left), no-bad-sums (a .mode) (now (a .shape)) (a .pads) (a .count) (now (a .«data»)) (G .shape) (G .levels) k))
+    (simp (k, condition-is (c .before .before .before .bad-pads .ensures) (c .before .before .if3 .left), condition-is (c .before .bad-reach .ensures) (c .if4 .left), no-bad-sums (a .mode) (now (a .shape)) (a .pads) (a .count) (now (a .«data»)) (G .shape) (G .levels) k))
 
 pub judge-spec : {M : Type 1} → statement M
 judge-spec =

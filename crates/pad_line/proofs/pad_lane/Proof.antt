@@ -4,7 +4,7 @@ use borrow.Author.Needs.{needs}
 use borrow.Author.Tests.{not-true, not-false}
 use denote.Ref.{now}
 use lib.IntN.{pos}
-use Rattle.numbers.proofs.Tests.{told}
+use Rattle.numbers.proofs.Tests.{condition-is}
 use Rattle.border.specs.Modes.{borderOf}
 use Rattle.pad_line.proofs.Serves.{bad-left-stays, bad-right-stays, lane-stays, Serves, served-from, lane-padded}
 use Rattle.pad_line.proofs.pad_lane.Statement.{statement}
@@ -31,9 +31,9 @@ returns-3 c = let a = c .before .before .before .before .before .before .args in
 -- every test has passed
 served : (c : tie.Else3) → let a = c .before .before .before .before .before .before .args in Serves (borderOf (a .mode)) (a .n) (a .stride) (a .lane) (a .left) (a .right) (now (a .grid)) (now (a .line))
 served c = record {
-  fits = told (c .before .lane-fits .ensures) (not-false _ (c .if3 .left));
-  fills-left = told (c .before .before .before .before .before .bad-pad .ensures) (c .before .before .before .before .if1 .left);
-  fills-right = told (c .before .before .before .bad-pad2 .ensures) (c .before .before .if2 .left);
+  fits = condition-is (c .before .lane-fits .ensures) (not-false _ (c .if3 .left));
+  fills-left = condition-is (c .before .before .before .before .before .bad-pad .ensures) (c .before .before .before .before .if1 .left);
+  fills-right = condition-is (c .before .before .before .bad-pad2 .ensures) (c .before .before .if2 .left);
 }
 
 first-place-requires : tie.Need-first-place-requires

@@ -9,7 +9,7 @@ use Rattle.statistics_spec.proofs.rows.Tie as tie
 returns : tie.Need-returns
 unfolding inserted sorted atMost meanOf medianOf unserved
 returns c = record {
-  least = refl;
+  extreme = refl;
   greatest = refl;
   mean-above = refl;
   mean-below = refl;

@@ -1,7 +1,7 @@
 -- `pattern` meets its contract: a NaN's pattern is a NaN, and of any other the machine makes the float.
 -- Assumes nothing.
 use mathlib.Core.Path.{refl, sym, ap, _∙_}
-use Rattle.numbers.proofs.Tests.{T-false, told}
+use Rattle.numbers.proofs.Tests.{T-false, condition-is}
 use Rattle.text_f64.specs.declared.Token.the-variants.{Is}
 use Rattle.text_f64.proofs.Patterns.{no-quotient, nan-pattern}
 use borrow.Author.Needs.{needs}
@@ -17,10 +17,10 @@ nan-bits-requires c κs = search needs
 returns : tie.Need-returns
 returns c =
     let g = c .before .before .before .bits .given in
-    rw (g .1) (ap Is (no-quotient ∙ sym (nan-pattern (g .0 .0) (told (c .before .nan-bits .ensures) (c .if1 .taken)))))
+    rw (g .1) (ap Is (no-quotient ∙ sym (nan-pattern (g .0 .0) (condition-is (c .before .nan-bits .ensures) (c .if1 .taken)))))
 
 float-from-bits-t6 : tie.Need-float-from-bits-t6
-float-from-bits-t6 c = T-false (told (c .before .nan-bits .ensures) (c .if1 .left))
+float-from-bits-t6 c = T-false (condition-is (c .before .nan-bits .ensures) (c .if1 .left))
 
 enum-told : tie.Need-enum-told
 enum-told c = search needs

@@ -43,10 +43,10 @@ loop-less c = search needs
 loop-again : tie.Need-loop-again Inv-loop μ-loop
 loop-again c =
     let l = c .before .before .before .before .loop in
-    let told = sym (c .before .bad-level-f64 .ensures) in
+    let condition-is = sym (c .before .bad-level-f64 .ensures) in
     ⊎-elim
-    (λ a. (search needs, omega (arith, a .1), seen-hit (l .inv .2) nan (search needs) (a .1) (told ∙ a .0 .taken)))
-    (λ a. (search needs, omega (arith, a .1), seen-miss (l .inv .2) nan (search needs) (a .1) (told ∙ a .0 .left)))
+    (λ a. (search needs, omega (arith, a .1), seen-hit (l .inv .2) nan (search needs) (a .1) (condition-is ∙ a .0 .taken)))
+    (λ a. (search needs, omega (arith, a .1), seen-miss (l .inv .2) nan (search needs) (a .1) (condition-is ∙ a .0 .left)))
     (c .if1 .came)
 
 returns : tie.Need-returns Inv-loop μ-loop

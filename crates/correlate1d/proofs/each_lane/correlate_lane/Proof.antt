@@ -10,7 +10,7 @@ use denote.Ref.{now}
 use Rattle.symmetry_spec.specs.declared.SymmetryState.the-variants.{NonSymmetric}
 use Rattle.pad_line.proofs.OneLane.{front-is, lane-filtered}
 use Rattle.correlate_spec.specs.Weighed.{wholeOps, weighedLine}
-use Rattle.correlate_spec.specs.Sizes.{Weighable}
+use Rattle.correlate_spec.specs.Sizes.{LineSumNeeds}
 use Rattle.correlate_line.specs.Narrow.{Narrow}
 use Rattle.correlate1d.proofs.LaneSums.{lane-weighed}
 use borrow.Author.Needs.{needs}
@@ -36,7 +36,7 @@ correlate-line-requires : tie.Need-correlate-line-requires
 correlate-line-requires c κs =
     let s = c .before .before .before .before .before in
     let w = now (s .args .weights) in
-    subst (λ (p : List ℤ). Weighable w p (length (now (s .args .row))) × (5 ≤ length w → Narrow p))
+    subst (λ (p : List ℤ). LineSumNeeds w p (length (now (s .args .row))) × (5 ≤ length w → Narrow p))
     (sym (front-is (pos 0) (s .pre .0) (c .before .before .before .pad-from .ensures))) (lane-weighed (s .pre .0) (s .pre .1) (s .pre .2))
 
 same-length : tie.Need-same-length

@@ -16,10 +16,10 @@ use Rattle.correlate1d.proofs.reversal.reverse.Statement.{statement}
 use Rattle.correlate1d.proofs.reversal.reverse.Tie as tie
 
 abbrev Inv-loop : tie.InvT-loop
-Inv-loop weights turned₀ n i₀ turned i = (i ≤ n) × (n ≡ length weights) × Stored (pos 0) (λ k. ltb k i) (λ k. getD weights (length weights - 1 - k) (pos 0)) turned₀ turned
+Inv-loop weights reversed₀ n i₀ reversed i = (i ≤ n) × (n ≡ length weights) × Stored (pos 0) (λ k. ltb k i) (λ k. getD weights (length weights - 1 - k) (pos 0)) reversed₀ reversed
 
 abbrev μ-loop : tie.MeasureT-loop
-μ-loop weights turned₀ n i₀ turned i = n - i
+μ-loop weights reversed₀ n i₀ reversed i = n - i
 
 loop-holds : tie.Need-loop-holds Inv-loop μ-loop
 loop-holds c = (search needs, c .pre, front-none (pos 0) _ _)

@@ -5,7 +5,7 @@ use mathlib.Core.Bool.{Bool}
 use Prim.Native.Nat.{ℕ}
 use denote.Ref.{now}
 use Rattle.numbers.specs.Lists.{anyOf}
-use Rattle.numbers.proofs.Tests.{told}
+use Rattle.numbers.proofs.Tests.{condition-is}
 use Rattle.correlate_spec.specs.Kernel.{sideOf}
 use Rattle.correlate_judge.specs.KernelJudge.{badSide}
 use Rattle.correlate_judge.proofs.Equal.{axes-differ, side-differs, count-asked}
@@ -29,7 +29,7 @@ bad-sides-requires c κs = search needs
 returns-2 : tie.Need-returns-2
 returns-2 c =
     let a = c .before .before .before .before .before .before .args in
-    side-differs (now (a .shape)) (now (a .sides)) (a .count) (c .before .before .before .if1 .left) (told (sides-told (c .before)) (c .if2 .taken))
+    side-differs (now (a .shape)) (now (a .sides)) (a .count) (c .before .before .before .if1 .left) (condition-is (sides-told (c .before)) (c .if2 .taken))
 
 bad-length-requires : tie.Need-bad-length-requires
 bad-length-requires c κs = search needs
@@ -37,7 +37,7 @@ bad-length-requires c κs = search needs
 returns-3 : tie.Need-returns-3
 returns-3 c =
     let s = c .before .before .before .before .before .before .before in
-    count-asked (now (s .args .shape)) (now (s .args .sides)) (s .args .count) (c .before .before .before .before .if1 .left) (s .pre) (told (sides-told (c .before .before)) (c .before .if2 .left)) (c .bad-length .ensures)
+    count-asked (now (s .args .shape)) (now (s .args .sides)) (s .args .count) (c .before .before .before .before .if1 .left) (s .pre) (condition-is (sides-told (c .before .before)) (c .before .if2 .left)) (c .bad-length .ensures)
 
 pub bad-kernel-spec : {M : Type 1} → statement M
 bad-kernel-spec =

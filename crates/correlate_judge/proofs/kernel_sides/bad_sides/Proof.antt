@@ -6,7 +6,7 @@ use lib.ListN.{length, drop}
 use denote.Ref.{now}
 use Rattle.numbers.specs.Lists.{anyOf}
 use Rattle.numbers.proofs.Any.{any-hit, any-miss, any-end}
-use Rattle.numbers.proofs.Tests.{told}
+use Rattle.numbers.proofs.Tests.{condition-is}
 use Rattle.correlate_judge.specs.KernelJudge.{badSide}
 use borrow.Author.Needs.{needs}
 use Rattle.correlate_judge.proofs.kernel_sides.bad_sides.Statement.{statement}
@@ -34,7 +34,7 @@ returns : tie.Need-returns Inv-loop μ-loop
 returns c =
     let s = c .before .before .before .before .before .before in
     let l = c .before .before .before .before .loop in
-    sym (any-hit (badSide (s .args .first)) 0 (l .a) (now (s .args .sides)) (search needs) (l .inv .1) (told (c .before .bad-side .ensures) (c .if1 .taken)))
+    sym (any-hit (badSide (s .args .first)) 0 (l .a) (now (s .args .sides)) (search needs) (l .inv .1) (condition-is (c .before .bad-side .ensures) (c .if1 .taken)))
 
 add-a : tie.Need-add-a Inv-loop μ-loop
 add-a c = search needs
@@ -46,7 +46,7 @@ loop-again : tie.Need-loop-again Inv-loop μ-loop
 loop-again c =
     let s = c .before .before .before .before .before .before in
     let l = c .before .before .before .before .loop in
-    (search needs, any-miss (badSide (s .args .first)) 0 (l .a) (now (s .args .sides)) (search needs) (l .inv .1) (told (c .before .bad-side .ensures) (c .if1 .left)))
+    (search needs, any-miss (badSide (s .args .first)) 0 (l .a) (now (s .args .sides)) (search needs) (l .inv .1) (condition-is (c .before .bad-side .ensures) (c .if1 .left)))
 
 returns-2 : tie.Need-returns-2 Inv-loop μ-loop
 returns-2 c =

@@ -7,7 +7,7 @@ use mathlib.Core.List.{List, [], _∷_}
 use lib.IntN.{ℤ, pos}
 use denote.Ref.{now}
 use Rattle.numbers.specs.Lists.{anyOf}
-use Rattle.numbers.proofs.Tests.{told}
+use Rattle.numbers.proofs.Tests.{condition-is}
 use Rattle.array_spec.specs.Conditions.{badLevel, badAxis}
 use Rattle.border.specs.Border.{Border}
 use Rattle.border.specs.Modes.{borderOf, badConstantBy}
@@ -29,10 +29,10 @@ pads-one b (n ∷ ns) = (λ j. twice (badPad b n 1) j || pads-one b ns j)
 
 -- what has been told where a condition does not hold
 axis-in : (c : tie.Else1) → let a = c .before .before .before .args in badAxis (now (a .shape)) (a .axis) ≡ false
-axis-in c = told (c .before .bad-axis .ensures) (c .if1 .left)
+axis-in c = condition-is (c .before .bad-axis .ensures) (c .if1 .left)
 
 constant-in : (c : tie.Else2) → badConstantBy badLevel (borderOf (c .before .before .before .before .before .args .mode)) ≡ false
-constant-in c = told (c .before .bad-constant .ensures) (c .if2 .left)
+constant-in c = condition-is (c .before .bad-constant .ensures) (c .if2 .left)
 
 reached : (c : tie.After-bad-reach-any) → let a = c .before .before .before .before .before .before .args in c .bad-reach-any .result ≡ anyOf (λ n. badPad (borderOf (a .mode)) n 1) (now (a .shape))
 reached c = let a = c .before .before .before .before .before .before .args in c .bad-reach-any .ensures ∙ pads-one (borderOf (a .mode)) (now (a .shape))
@@ -41,23 +41,23 @@ bad-axis-requires : tie.Need-bad-axis-requires
 bad-axis-requires c κs = search needs
 
 returns : tie.Need-returns
-returns c = simp (told (c .before .bad-axis .ensures) (c .if1 .taken)) refl
+returns c = simp (condition-is (c .before .bad-axis .ensures) (c .if1 .taken)) refl
 
 bad-constant-requires : tie.Need-bad-constant-requires
 bad-constant-requires c κs = search needs
 
 returns-2 : tie.Need-returns-2
-returns-2 c = simp (axis-in (c .before .before), told (c .before .bad-constant .ensures) (c .if2 .taken)) refl
+returns-2 c = simp (axis-in (c .before .before), condition-is (c .before .bad-constant .ensures) (c .if2 .taken)) refl
 
 bad-reach-any-requires : tie.Need-bad-reach-any-requires
 unfolding badOrigin
 bad-reach-any-requires c κs = refl
 
 returns-3 : tie.Need-returns-3
-returns-3 c = simp (axis-in (c .before .before .before .before), constant-in (c .before .before), told (reached (c .before)) (c .if3 .taken)) refl
+returns-3 c = simp (axis-in (c .before .before .before .before), constant-in (c .before .before), condition-is (reached (c .before)) (c .if3 .taken)) refl
 
 returns-4 : tie.Need-returns-4
-returns-4 c = simp (axis-in (c .before .before .before .before), constant-in (c .before .before), told (reached (c .before)) (c .if3 .left)) refl
+returns-4 c = simp (axis-in (c .before .before .before .before), constant-in (c .before .before), condition-is (reached (c .before)) (c .if3 .left)) refl
 
 pub judge-passes-spec : {M : Type 1} → statement M
 judge-passes-spec =

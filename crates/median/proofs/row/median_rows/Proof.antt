@@ -6,7 +6,7 @@ use Prim.Native.Nat.{_-_, _*_, _≤_}
 use native.Mathlib.Omega.{arith}
 use lib.Dec.{ltb}
 use Rattle.numbers.proofs.Stored.{Stored}
-use Rattle.median_spec.specs.ByRows.{medianOf}
+use Rattle.median_spec.specs.ByRows.{medianOfPlace}
 use Rattle.median_spec.proofs.Spans.{rows-count}
 use Rattle.median_spec.proofs.EveryRow.{rows-none, rows-more, rows-all}
 use borrow.Author.Needs.{needs}
@@ -14,7 +14,7 @@ use Rattle.median.proofs.row.median_rows.Statement.{statement}
 use Rattle.median.proofs.row.median_rows.Tie as tie
 
 abbrev Inv-loop : tie.InvT-loop
-Inv-loop mask planes rows n out₀ count r₀ out r = (r ≤ count) × Stored false (λ k. ltb k (r * n)) (medianOf planes rows n mask) out₀ out
+Inv-loop mask planes rows n out₀ count r₀ out r = (r ≤ count) × Stored false (λ k. ltb k (r * n)) (medianOfPlace planes rows n mask) out₀ out
 
 abbrev μ-loop : tie.MeasureT-loop
 μ-loop mask planes rows n out₀ count r₀ out r = count - r

@@ -4,7 +4,7 @@ use mathlib.Core.Path.{sym, ap, subst, _∙_}
 use Prim.Native.Nat.{ℕ, _*_}
 use denote.Ref.{now}
 use lib.Seq.{length-take-le}
-use Rattle.median_spec.specs.ByRows.{setRow, medianOf, Laid}
+use Rattle.median_spec.specs.ByRows.{setRow, medianOfPlace, MaskNeeds}
 use Rattle.median_spec.proofs.Spans.{blank-part}
 use borrow.Author.Needs.{needs}
 use Rattle.median.proofs.row.set_row.Statement.{statement}
@@ -19,7 +19,7 @@ slice-aggregate-median-row c = sym (length-take-le (c .before .before .before .a
 median-row-requires : tie.Need-median-row-requires
 median-row-requires c κs =
     let s = c .before .before .before .before in
-    (subst (λ (n : ℕ). Laid (s .args .planes) (s .args .rows) n (now (s .args .mask))) (slice-aggregate-median-row (c .before)) (s .pre .0), s .pre .1, s .pre .2, blank-part (s .args .n) 1024)
+    (subst (λ (n : ℕ). MaskNeeds (s .args .planes) (s .args .rows) n (now (s .args .mask))) (slice-aggregate-median-row (c .before)) (s .pre .0), s .pre .1, s .pre .2, blank-part (s .args .n) 1024)
 
 same-length : tie.Need-same-length
 same-length c = search needs
@@ -28,7 +28,7 @@ returns : tie.Need-returns
 returns c =
     let s = c .before .before .before .before .before .before .before .before in
     c .before .before .before .median-row .ensures
-    ∙ ap (λ (n : ℕ). setRow (s .args .r * n) n (medianOf (s .args .planes) (s .args .rows) n (now (s .args .mask))) (now (s .args .out))) (sym (slice-aggregate-median-row (c .before .before .before .before .before)))
+    ∙ ap (λ (n : ℕ). setRow (s .args .r * n) n (medianOfPlace (s .args .planes) (s .args .rows) n (now (s .args .mask))) (now (s .args .out))) (sym (slice-aggregate-median-row (c .before .before .before .before .before)))
 
 pub set-row-spec : {M : Type 1} → statement M
 set-row-spec =

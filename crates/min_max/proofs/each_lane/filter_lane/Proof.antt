@@ -8,8 +8,8 @@ use lib.ListN.{length}
 use lib.Seq.{length-take-le}
 use denote.Ref.{now}
 use Rattle.pad_line.proofs.OneLane.{front-is, lane-filtered}
-use Rattle.min_max_ring.specs.Firsts.{Served}
-use Rattle.min_max.specs.Lane.{orderOf, firstsBy}
+use Rattle.min_max_ring.specs.Extremes.{RingNeeds}
+use Rattle.min_max.specs.Lane.{orderOf, extremesBy}
 use Rattle.min_max.proofs.OnePass.{lane-served}
 use borrow.Author.Needs.{needs}
 use Rattle.min_max.proofs.each_lane.filter_lane.Statement.{statement}
@@ -39,7 +39,7 @@ slice-aggregate-filter-line c = sym (length-take-le _ _ (slice-reshare-prefix-fi
 filter-line-requires : tie.Need-filter-line-requires
 filter-line-requires c κs =
     let s = c .before .before .before .before .before in
-    subst (λ (p : List ℤ). Served (length p) (s .args .left + s .args .right + 1) (length (now (s .args .row))))
+    subst (λ (p : List ℤ). RingNeeds (length p) (s .args .left + s .args .right + 1) (length (now (s .args .row))))
     (sym (front-is (pos 0) (s .pre .0) (c .before .before .before .pad-from .ensures))) (lane-served (s .pre .0) (s .pre .1))
 
 same-length : tie.Need-same-length
@@ -52,7 +52,7 @@ returns : tie.Need-returns
 returns c =
     let s = c .before .before .before .before .before .before .before in
     lane-filtered (pos 0) (s .pre .0) (c .before .before .before .before .before .pad-from .ensures)
-    (firstsBy (orderOf (s .args .extreme)) (s .args .left + s .args .right + 1)) (c .before .filter-line .ensures)
+    (extremesBy (orderOf (s .args .extreme)) (s .args .left + s .args .right + 1)) (c .before .filter-line .ensures)
 
 pub filter-lane-spec : {M : Type 1} → statement M
 filter-lane-spec =

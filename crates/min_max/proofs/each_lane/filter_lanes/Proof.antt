@@ -6,14 +6,14 @@ use native.Mathlib.Omega.{arith}
 use lib.IntN.{pos}
 use Rattle.border.specs.Modes.{borderOf}
 use Rattle.pad_line.proofs.ColumnLoop.{ColumnLoop, column-none, column-needs, column-write, column-step, column-more, column-row, column-all}
-use Rattle.min_max.specs.Lane.{orderOf, firstsBy}
+use Rattle.min_max.specs.Lane.{orderOf, extremesBy}
 use borrow.Author.Needs.{needs}
 use Rattle.min_max.proofs.each_lane.filter_lanes.Statement.{statement}
 use Rattle.min_max.proofs.each_lane.filter_lanes.Tie as tie
 
 abbrev Inv-loop : tie.InvT-loop
 Inv-loop extreme mode «data» shape axis left right line₀ swept₀ out₀ n stride count start₀ lane₀ line swept out start lane =
-    ColumnLoop (pos 0) (firstsBy (orderOf extreme) (left + right + 1)) (borderOf mode) shape axis left right «data» out₀ n stride count line swept out start lane
+    ColumnLoop (pos 0) (extremesBy (orderOf extreme) (left + right + 1)) (borderOf mode) shape axis left right «data» out₀ n stride count line swept out start lane
 
 abbrev μ-loop : tie.MeasureT-loop
 μ-loop extreme mode «data» shape axis left right line₀ swept₀ out₀ n stride count start₀ lane₀ line swept out start lane = count - lane

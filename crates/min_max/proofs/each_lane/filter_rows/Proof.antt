@@ -6,14 +6,14 @@ use native.Mathlib.Omega.{arith}
 use lib.IntN.{pos}
 use Rattle.border.specs.Modes.{borderOf}
 use Rattle.pad_line.proofs.RowLoop.{RowLoop, row-none, row-in-grid, row-small, row-needs, row-more, row-all}
-use Rattle.min_max.specs.Lane.{orderOf, firstsBy}
+use Rattle.min_max.specs.Lane.{orderOf, extremesBy}
 use borrow.Author.Needs.{needs}
 use Rattle.min_max.proofs.each_lane.filter_rows.Statement.{statement}
 use Rattle.min_max.proofs.each_lane.filter_rows.Tie as tie
 
 abbrev Inv-loop : tie.InvT-loop
 Inv-loop extreme mode «data» shape axis left right line₀ out₀ n count base₀ lane₀ line out base lane =
-    RowLoop (pos 0) (firstsBy (orderOf extreme) (left + right + 1)) (borderOf mode) shape axis left right «data» out₀ n count line out base lane
+    RowLoop (pos 0) (extremesBy (orderOf extreme) (left + right + 1)) (borderOf mode) shape axis left right «data» out₀ n count line out base lane
 
 abbrev μ-loop : tie.MeasureT-loop
 μ-loop extreme mode «data» shape axis left right line₀ out₀ n count base₀ lane₀ line out base lane = count - lane

@@ -5,7 +5,7 @@ use mathlib.Core.Path.{sym, ap, _∙_}
 use Prim.Native.Nat.{ℕ}
 use lib.ListN.{length}
 use Rattle.numbers.specs.Order.{atLeast}
-use Rattle.min_max_ring.specs.Firsts.{firsts}
+use Rattle.min_max_ring.specs.Extremes.{extremes}
 use Rattle.min_max_line.proofs.maximum.maximum_windows.Statement.{statement}
 use Rattle.min_max_line.proofs.maximum.maximum_windows.Tie as tie
 
@@ -18,7 +18,7 @@ same-length c = search needs
 returns : tie.Need-returns
 returns c =
     let a = c .before .before .before .before .args in
-    c .before .three-cells .ensures ∙ ap (λ (k : ℕ). firsts atLeast (a .line .now) k (length (a .out .now))) (sym (c .before .before .before .if1 .taken))
+    c .before .three-cells .ensures ∙ ap (λ (k : ℕ). extremes atLeast (a .line .now) k (length (a .out .now))) (sym (c .before .before .before .if1 .taken))
 
 maximum-cells-requires : tie.Need-maximum-cells-requires
 maximum-cells-requires c κs = search needs

@@ -6,9 +6,9 @@ use mathlib.Core.Path.{_≡_, _∙_}
 use mathlib.Core.Bool.{true}
 use lib.Signed.{leZ}
 use lib.ListN.{length}
-use Rattle.numbers.proofs.Tests.{told}
-use Rattle.min_max_ring.specs.Firsts.{serving}
-use Rattle.min_max_ring.proofs.Served.{served, swept-served, swept-else}
+use Rattle.numbers.proofs.Tests.{condition-is}
+use Rattle.min_max_ring.specs.Extremes.{serving}
+use Rattle.min_max_ring.proofs.RingNeeds.{served, swept-served, swept-else}
 use Rattle.min_max_line.proofs.minimum.minimum_line.Statement.{statement}
 use Rattle.min_max_line.proofs.minimum.minimum_line.Tie as tie
 
@@ -18,10 +18,10 @@ serves-requires c κs = search needs
 returns : tie.Need-returns
 returns c =
     let a = c .before .before .args in
-    swept-else leZ (a .line .now) (a .len) (a .out .now) (told (c .before .serves .ensures) (not-true _ (c .if1 .taken)))
+    swept-else leZ (a .line .now) (a .len) (a .out .now) (condition-is (c .before .serves .ensures) (not-true _ (c .if1 .taken)))
 
 serves-it : (c : tie.Else1) → let a = c .before .before .args in serving (length (a .line .now)) (a .len) (length (a .out .now)) ≡ true
-serves-it c = told (c .before .serves .ensures) (not-false _ (c .if1 .left))
+serves-it c = condition-is (c .before .serves .ensures) (not-false _ (c .if1 .left))
 
 minimum-windows-requires : tie.Need-minimum-windows-requires
 minimum-windows-requires c κs = served _ _ _ (serves-it (c .before))

@@ -5,7 +5,7 @@ use mathlib.Core.Path.{sym, ap, _∙_}
 use Prim.Native.Nat.{ℕ}
 use lib.Signed.{leZ}
 use lib.ListN.{length}
-use Rattle.min_max_ring.specs.Firsts.{firsts}
+use Rattle.min_max_ring.specs.Extremes.{extremes}
 use Rattle.min_max_line.proofs.minimum.minimum_windows.Statement.{statement}
 use Rattle.min_max_line.proofs.minimum.minimum_windows.Tie as tie
 
@@ -18,7 +18,7 @@ same-length c = search needs
 returns : tie.Need-returns
 returns c =
     let a = c .before .before .before .before .args in
-    c .before .three-cells .ensures ∙ ap (λ (k : ℕ). firsts leZ (a .line .now) k (length (a .out .now))) (sym (c .before .before .before .if1 .taken))
+    c .before .three-cells .ensures ∙ ap (λ (k : ℕ). extremes leZ (a .line .now) k (length (a .out .now))) (sym (c .before .before .before .if1 .taken))
 
 minimum-cells-requires : tie.Need-minimum-cells-requires
 minimum-cells-requires c κs = search needs

@@ -9,11 +9,11 @@ use lib.IntN.{pos}
 use lib.ListN.{length, getD}
 use mir.Syntax.{w64}
 use mir.Val.{toZ}
-use Rattle.numbers.specs.Order.{least}
+use Rattle.numbers.specs.Order.{extreme}
 use Rattle.numbers.specs.Windows.{windowOf}
 use Rattle.numbers.proofs.Read.{read}
 use Rattle.numbers.proofs.Stored.{Stored, front-none, front-more, front-all}
-use Rattle.min_max_ring.specs.Firsts.{firsts, orderOf}
+use Rattle.min_max_ring.specs.Extremes.{extremes, orderBy}
 use Rattle.min_max_line.proofs.Three.{three-read}
 use borrow.Author.Needs.{needs}
 use Rattle.min_max_line.proofs.three_cells.three_cells.Statement.{statement}
@@ -22,7 +22,7 @@ use Rattle.min_max_line.proofs.three_cells.three_cells.Tie as tie
 abbrev Inv-loop : tie.InvT-loop
 Inv-loop greatest line out₀ n x0₀ x1₀ i₀ out x0 x1 i =
     (i ≤ n) × (n ≡ length out₀) × (toZ w64 x0 ≡ getD line i (pos 0)) × (toZ w64 x1 ≡ getD line (i + 1) (pos 0))
-    × Stored (pos 0) (λ k. ltb k i) (λ k. least (orderOf greatest) (pos 0) (windowOf line k 3)) out₀ out
+    × Stored (pos 0) (λ k. ltb k i) (λ k. extreme (orderBy greatest) (pos 0) (windowOf line k 3)) out₀ out
 
 abbrev μ-loop : tie.MeasureT-loop
 μ-loop greatest line out₀ n x0₀ x1₀ i₀ out x0 x1 i = n - i
@@ -74,14 +74,14 @@ loop-again c =
       l .inv .3,
       read z (ap (λ (k : ℕ). getD (s .args .line .now) k (pos 0)) (sym (add-assoc (l .i) 1 1))),
       front-more (pos 0) _ _ (omega arith) (l .inv .4)
-          (three-read (orderOf (s .args .greatest)) (s .args .line .now) (l .i) (omega arith) (l .inv .2) (l .inv .3) (read z refl) (two .ok) (c .first-of2 .ok) (two .ensures) (c .first-of2 .ensures)),
+          (three-read (orderBy (s .args .greatest)) (s .args .line .now) (l .i) (omega arith) (l .inv .2) (l .inv .3) (read z refl) (two .ok) (c .first-of2 .ok) (two .ensures) (c .first-of2 .ensures)),
     )
 
 same-length : tie.Need-same-length Inv-loop μ-loop
 same-length c = c .before .loop .inv .4 .kept
 
 returns : tie.Need-returns Inv-loop μ-loop
-unfolding firsts
+unfolding extremes
 returns c = front-all (pos 0) _ (omega arith) (c .before .loop .inv .4)
 
 pub three-cells-spec : {M : Type 1} → statement M

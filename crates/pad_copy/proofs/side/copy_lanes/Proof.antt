@@ -5,7 +5,7 @@ use Prim.Native.Nat.{ℕ, _+_, _-_, _*_, _≤_, _<_}
 use native.Mathlib.Omega.{arith}
 use borrow.Author.Needs.{needs}
 use lib.ListN.{length}
-use Rattle.border.specs.declared.Along.{Along}
+use Rattle.border.specs.declared.CellBorder.{CellBorder}
 use Rattle.pad_spec.specs.Runs.{Runs, InRim}
 use Rattle.pad_copy.specs.Steps.{StepsOf}
 use Rattle.pad_copy.proofs.LaneByLane.{LanesStored, lanes-none, lanes-all, lanes-more, lane-in, lane-stepped}
@@ -16,7 +16,7 @@ use Rattle.pad_copy.proofs.side.copy_lanes.Tie as tie
 -- the loop does not know the mode, only its steps
 abbrev Inv-loop : tie.InvT-loop
 Inv-loop up down from p blocks left n a count out₀ lane₀ out lane =
-    ((m : Along) → Runs m p 1 blocks left n (length out₀) → ((k : ℕ) → a ≤ k → k < a + count → InRim left n p k) → StepsOf m left n a from up down → LanesStored m p left n a count out₀ out lane)
+    ((m : CellBorder) → Runs m p 1 blocks left n (length out₀) → ((k : ℕ) → a ≤ k → k < a + count → InRim left n p k) → StepsOf m left n a from up down → LanesStored m p left n a count out₀ out lane)
     × (length out ≡ length out₀)
 
 abbrev μ-loop : tie.MeasureT-loop

@@ -3,7 +3,7 @@
 use mathlib.Core.Path.{_≡_, sym, ap}
 use Prim.Native.Nat.{_≤_, _<_}
 use native.Mathlib.Omega.{arith}
-use Rattle.border.specs.declared.Along.{Along}
+use Rattle.border.specs.declared.CellBorder.{CellBorder}
 use Rattle.pad_line.specs.Steps.{stepUp, stepDown}
 use Rattle.pad_copy.specs.Steps.{StepsOf}
 use Rattle.pad_copy.proofs.CopiedRims.{rim-none, rim-all}
@@ -21,7 +21,7 @@ read-from-requires : tie.Need-read-from-requires
 read-from-requires c κs = let s = c .before in (s .pre .0 .room, s .pre .0 .short, s .pre .1 (s .args .a) (omega arith) (omega (arith, some c)))
 
 -- the steps of a mode that is told
-steps : (c : tie.After-read-from) {m : Along} → let a = c .before .before .args in a .mode ≡ m → StepsOf (a .mode) (a .left) (a .n) (a .a) (c .read-from .result) (stepUp m) (stepDown m)
+steps : (c : tie.After-read-from) {m : CellBorder} → let a = c .before .before .args in a .mode ≡ m → StepsOf (a .mode) (a .left) (a .n) (a .a) (c .read-from .result) (stepUp m) (stepDown m)
 steps c e = record { first = c .read-from .ensures; on = sym (ap stepUp e); back = sym (ap stepDown e) }
 
 enum-told : tie.Need-enum-told

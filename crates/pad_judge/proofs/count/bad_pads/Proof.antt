@@ -5,7 +5,7 @@ use mathlib.Core.Bool.{not}
 use Prim.Native.Nat.{ℕ}
 use borrow.Author.Tests.{lt-ltb, le-ltb}
 use lib.Dec.{eqb}
-use Rattle.numbers.proofs.Tests.{told}
+use Rattle.numbers.proofs.Tests.{condition-is}
 use Rattle.pad_spec.specs.Conditions.{badPads}
 use borrow.Author.Needs.{needs}
 use Rattle.pad_judge.proofs.count.bad_pads.Statement.{statement}
@@ -16,27 +16,27 @@ bad-count-requires c κs = search needs
 
 returns : tie.Need-returns
 unfolding badPads
-returns c = simp (told (c .before .bad-count .ensures) (c .if1 .taken))
+returns c = simp (condition-is (c .before .bad-count .ensures) (c .if1 .taken))
 
 over-pads-requires : tie.Need-over-pads-requires
 over-pads-requires c κs = search needs
 
 returns-2 : tie.Need-returns-2
 unfolding badPads
-returns-2 c = simp (told (c .before .before .before .bad-count .ensures) (c .before .before .if1 .left), told (c .before .over-pads .ensures) (c .if2 .taken))
+returns-2 c = simp (condition-is (c .before .before .before .bad-count .ensures) (c .before .before .if1 .left), condition-is (c .before .over-pads .ensures) (c .if2 .taken))
 
 padded-cells-requires : tie.Need-padded-cells-requires
-padded-cells-requires c κs = (c .before .before .before .before .before .pre, told (c .before .before .before .bad-count .ensures) (c .before .before .if1 .left), told (c .before .over-pads .ensures) (c .if2 .left))
+padded-cells-requires c κs = (c .before .before .before .before .before .pre, condition-is (c .before .before .before .bad-count .ensures) (c .before .before .if1 .left), condition-is (c .before .over-pads .ensures) (c .if2 .left))
 
 returns-3 : tie.Need-returns-3
 unfolding badPads
-returns-3 c = simp (told (c .before .before .before .before .before .bad-count .ensures) (c .before .before .before .before .if1 .left), told (c .before .before .before .over-pads .ensures) (c .before .before .if2 .left), lt-ltb _ _ (rw (c .before .padded-cells .ensures) at (c .if3 .taken)))
+returns-3 c = simp (condition-is (c .before .before .before .before .before .bad-count .ensures) (c .before .before .before .before .if1 .left), condition-is (c .before .before .before .over-pads .ensures) (c .before .before .if2 .left), lt-ltb _ _ (rw (c .before .padded-cells .ensures) at (c .if3 .taken)))
 
 returns-4 : tie.Need-returns-4
 unfolding badPads
 returns-4 c =
     let a = c .before .before .before .before .before .before .before .args in
-    simp (told (c .before .before .before .before .before .bad-count .ensures) (c .before .before .before .before .if1 .left), told (c .before .before .before .over-pads .ensures) (c .before .before .if2 .left), le-ltb _ _ (rw (c .before .padded-cells .ensures) at (c .if3 .left)))
+    simp (condition-is (c .before .before .before .before .before .bad-count .ensures) (c .before .before .before .before .if1 .left), condition-is (c .before .before .before .over-pads .ensures) (c .before .before .if2 .left), le-ltb _ _ (rw (c .before .padded-cells .ensures) at (c .if3 .left)))
     (ap (λ (m : ℕ). not (eqb (a .out) m)) (c .before .padded-cells .ensures))
 
 pub bad-pads-spec : {M : Type 1} → statement M

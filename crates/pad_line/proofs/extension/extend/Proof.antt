@@ -7,7 +7,7 @@ use lib.IntN.{ℤ, pos}
 use mir.Syntax.{w64}
 use mir.Val.{toZ, ofZ}
 use Rattle.border.specs.Border.{constant}
-use Rattle.border.specs.declared.Along.the-variants.{Nearest, Mirror, Reflect, Wrap}
+use Rattle.border.specs.declared.CellBorder.the-variants.{Nearest, Mirror, Reflect, Wrap}
 use Rattle.pad_line.specs.Line.{padMiddle}
 use Rattle.pad_line.proofs.RimSteps.{rimmed}
 use Rattle.pad_line.proofs.extension.extend.Statement.{statement}

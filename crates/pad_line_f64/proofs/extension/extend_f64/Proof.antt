@@ -1,7 +1,7 @@
 -- `pad_line_f64::extension::extend_f64` meets its contract: each arm is what the constant's or the cells' extension ensures.
 -- Assumes nothing.
 use borrow.Author.Needs.{needs}
-use Rattle.border.specs.declared.Along.the-variants.{Nearest, Mirror, Reflect, Wrap}
+use Rattle.border.specs.declared.CellBorder.the-variants.{Nearest, Mirror, Reflect, Wrap}
 use Rattle.pad_line.proofs.RimSteps.{rimmed}
 use Rattle.pad_line_f64.proofs.extension.extend_f64.Statement.{statement}
 use Rattle.pad_line_f64.proofs.extension.extend_f64.Tie as tie

@@ -5,14 +5,14 @@ use Prim.Native.Nat.{ℕ, _-_, _<_}
 use native.Mathlib.Omega.{arith}
 use lib.ListN.{length}
 use Rattle.pad_spec.proofs.Room.{padded-few, axis-length}
-use Rattle.pad_statistic.proofs.Lanes.{OnAxis, Along, on-axis, axis-full, along-none, along-more, along-all}
+use Rattle.pad_statistic.proofs.Lanes.{OnAxis, CellBorder, on-axis, axis-full, along-none, along-more, along-all}
 use borrow.Author.Needs.{needs}
 use Rattle.pad_statistic.proofs.axis.fill_axis.Statement.{statement}
 use Rattle.pad_statistic.proofs.axis.fill_axis.Tie as tie
 
 abbrev Inv-loop : tie.InvT-loop
 Inv-loop statistic shape lefts padded axis line₀ out₀ p s count lane₀ line out lane =
-    OnAxis padded axis p s count × Along statistic shape lefts padded axis out₀ lane out × (length line ≡ length line₀)
+    OnAxis padded axis p s count × CellBorder statistic shape lefts padded axis out₀ lane out × (length line ≡ length line₀)
 
 abbrev μ-loop : tie.MeasureT-loop
 μ-loop statistic shape lefts padded axis line₀ out₀ p s count lane₀ line out lane = count - lane

@@ -9,13 +9,13 @@ use lib.ListN.{length, drop}
 use mir.Syntax.{w64}
 use mir.Val.{toZ}
 use mir.ValLaws.{toZ-ofZ}
-use Rattle.numbers.specs.Order.{atLeast, leastFrom}
-use Rattle.statistics.proofs.Running.{next-read, least-more, least-last}
+use Rattle.numbers.specs.Order.{atLeast, extremeFrom}
+use Rattle.statistics.proofs.Running.{next-read, extreme-more, extreme-last}
 use Rattle.statistics.proofs.extremes.greatest_from.Statement.{statement}
 use Rattle.statistics.proofs.extremes.greatest_from.Tie as tie
 
 abbrev Inv-loop : tie.InvT-loop
-Inv-loop line from first greatest₀ i₀ greatest i = leastFrom atLeast (toZ w64 greatest) (drop i line) ≡ leastFrom atLeast (toZ w64 first) (drop from line)
+Inv-loop line from first greatest₀ i₀ greatest i = extremeFrom atLeast (toZ w64 greatest) (drop i line) ≡ extremeFrom atLeast (toZ w64 first) (drop from line)
 
 abbrev μ-loop : tie.MeasureT-loop
 μ-loop line from first greatest₀ i₀ greatest i = length line - i
@@ -42,11 +42,11 @@ loop-again : tie.Need-loop-again Inv-loop μ-loop
 loop-again c =
     let k = c .before .before .before in
     let l = k .before .args .line .now in
-    least-more atLeast (pos 0) l (k .loop .i) _ _ (k .loop .inv) (next-read atLeast l (k .loop .i) (c .before .x .given) (c .greater .ok) (c .greater .ensures)) (search needs)
+    extreme-more atLeast (pos 0) l (k .loop .i) _ _ (k .loop .inv) (next-read atLeast l (k .loop .i) (c .before .x .given) (c .greater .ok) (c .greater .ensures)) (search needs)
 
 returns : tie.Need-returns Inv-loop μ-loop
 returns c = let s = c .before .before in
-    least-last atLeast (pos 0) _ _ _ _ (c .before .loop .inv) (c .loop-test .left) ∙ ap (λ z. leastFrom atLeast z (drop (s .args .from) (s .args .line .now))) (toZ-ofZ w64 (s .args .first) (s .fits .first))
+    extreme-last atLeast (pos 0) _ _ _ _ (c .before .loop .inv) (c .loop-test .left) ∙ ap (λ z. extremeFrom atLeast z (drop (s .args .from) (s .args .line .now))) (toZ-ofZ w64 (s .args .first) (s .fits .first))
 
 pub greatest-from-spec : {M : Type 1} → statement M
 greatest-from-spec =

@@ -10,13 +10,13 @@ use lib.Signed.{leZ}
 use mir.Syntax.{w64}
 use mir.Val.{toZ}
 use mir.ValLaws.{toZ-ofZ}
-use Rattle.numbers.specs.Order.{leastFrom}
-use Rattle.statistics.proofs.Running.{next-read, least-more, least-last}
+use Rattle.numbers.specs.Order.{extremeFrom}
+use Rattle.statistics.proofs.Running.{next-read, extreme-more, extreme-last}
 use Rattle.statistics.proofs.extremes.least_from.Statement.{statement}
 use Rattle.statistics.proofs.extremes.least_from.Tie as tie
 
 abbrev Inv-loop : tie.InvT-loop
-Inv-loop line from first least₀ i₀ least i = leastFrom leZ (toZ w64 least) (drop i line) ≡ leastFrom leZ (toZ w64 first) (drop from line)
+Inv-loop line from first least₀ i₀ least i = extremeFrom leZ (toZ w64 least) (drop i line) ≡ extremeFrom leZ (toZ w64 first) (drop from line)
 
 abbrev μ-loop : tie.MeasureT-loop
 μ-loop line from first least₀ i₀ least i = length line - i
@@ -43,11 +43,11 @@ loop-again : tie.Need-loop-again Inv-loop μ-loop
 loop-again c =
     let k = c .before .before .before in
     let l = k .before .args .line .now in
-    least-more leZ (pos 0) l (k .loop .i) _ _ (k .loop .inv) (next-read leZ l (k .loop .i) (c .before .x .given) (c .lesser .ok) (c .lesser .ensures)) (search needs)
+    extreme-more leZ (pos 0) l (k .loop .i) _ _ (k .loop .inv) (next-read leZ l (k .loop .i) (c .before .x .given) (c .lesser .ok) (c .lesser .ensures)) (search needs)
 
 returns : tie.Need-returns Inv-loop μ-loop
 returns c = let s = c .before .before in
-    least-last leZ (pos 0) _ _ _ _ (c .before .loop .inv) (c .loop-test .left) ∙ ap (λ z. leastFrom leZ z (drop (s .args .from) (s .args .line .now))) (toZ-ofZ w64 (s .args .first) (s .fits .first))
+    extreme-last leZ (pos 0) _ _ _ _ (c .before .loop .inv) (c .loop-test .left) ∙ ap (λ z. extremeFrom leZ z (drop (s .args .from) (s .args .line .now))) (toZ-ofZ w64 (s .args .first) (s .fits .first))
 
 pub least-from-spec : {M : Type 1} → statement M
 least-from-spec =

@@ -11,8 +11,8 @@ use mir.Val.{toZ, ofZ}
 use Rattle.numbers.proofs.IntOrder.{total-≥}
 use Rattle.numbers.proofs.Lesser.{lesser}
 use Rattle.numbers.proofs.Read.{read}
-use Rattle.numbers.specs.Order.{atLeast, leastFrom}
-use Rattle.statistics.proofs.Running.{next-read, least-none, four, Four, four-first, four-more}
+use Rattle.numbers.specs.Order.{atLeast, extremeFrom}
+use Rattle.statistics.proofs.Running.{next-read, extreme-none, four, Four, four-first, four-more}
 use Rattle.statistics.proofs.extremes.maximum.Statement.{statement}
 use Rattle.statistics.proofs.extremes.maximum.Tie as tie
 
@@ -23,7 +23,7 @@ abbrev μ-loop : tie.MeasureT-loop
 μ-loop line n a₀ b₀ c₀ d₀ i₀ a b c d i = length line - i
 
 returns : tie.Need-returns Inv-loop μ-loop
-returns c = least-none atLeast (pos 0) (c .before .args .line .now) (search needs)
+returns c = extreme-none atLeast (pos 0) (c .before .args .line .now) (search needs)
 
 shared-slice-copy-out-a : tie.Need-shared-slice-copy-out-a Inv-loop μ-loop
 shared-slice-copy-out-a c = search needs
@@ -124,7 +124,7 @@ returns-2 c =
     let left : toZ w64 (ofZ w64 (j .before .before .greater5 .result)) ≡ lesser atLeast (toZ w64 (k .loop .a)) (toZ w64 (k .loop .b)) = read (j .before .before .greater5 .ok) (j .before .before .greater5 .ensures) in
     let right : toZ w64 (ofZ w64 (j .before .greater6 .result)) ≡ lesser atLeast (toZ w64 (k .loop .c)) (toZ w64 (k .loop .d)) = read (j .before .greater6 .ok) (j .before .greater6 .ensures) in
     let both : toZ w64 (ofZ w64 (j .greater7 .result)) ≡ four atLeast (pos 0) (toZ w64 (k .loop .a)) (toZ w64 (k .loop .b)) (toZ w64 (k .loop .c)) (toZ w64 (k .loop .d)) = read (j .greater7 .ok) (j .greater7 .ensures ∙ (λ t. lesser atLeast (left t) (right t))) in
-    read (c .greatest-from .ok) (c .greatest-from .ensures ∙ ap (λ z. leastFrom atLeast z (drop (k .loop .i) l)) both) ∙ k .loop .inv .2 .is
+    read (c .greatest-from .ok) (c .greatest-from .ensures ∙ ap (λ z. extremeFrom atLeast z (drop (k .loop .i) l)) both) ∙ k .loop .inv .2 .is
 
 pub maximum-spec : {M : Type 1} → statement M
 maximum-spec =

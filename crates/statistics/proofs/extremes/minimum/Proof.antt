@@ -12,8 +12,8 @@ use mir.Val.{toZ, ofZ}
 use Rattle.numbers.proofs.IntOrder.{total-≤}
 use Rattle.numbers.proofs.Lesser.{lesser}
 use Rattle.numbers.proofs.Read.{read}
-use Rattle.numbers.specs.Order.{leastFrom}
-use Rattle.statistics.proofs.Running.{next-read, least-none, four, Four, four-first, four-more}
+use Rattle.numbers.specs.Order.{extremeFrom}
+use Rattle.statistics.proofs.Running.{next-read, extreme-none, four, Four, four-first, four-more}
 use Rattle.statistics.proofs.extremes.minimum.Statement.{statement}
 use Rattle.statistics.proofs.extremes.minimum.Tie as tie
 
@@ -24,7 +24,7 @@ abbrev μ-loop : tie.MeasureT-loop
 μ-loop line n a₀ b₀ c₀ d₀ i₀ a b c d i = length line - i
 
 returns : tie.Need-returns Inv-loop μ-loop
-returns c = least-none leZ (pos 0) (c .before .args .line .now) (search needs)
+returns c = extreme-none leZ (pos 0) (c .before .args .line .now) (search needs)
 
 shared-slice-copy-out-a : tie.Need-shared-slice-copy-out-a Inv-loop μ-loop
 shared-slice-copy-out-a c = search needs
@@ -125,7 +125,7 @@ returns-2 c =
     let left : toZ w64 (ofZ w64 (j .before .before .lesser5 .result)) ≡ lesser leZ (toZ w64 (k .loop .a)) (toZ w64 (k .loop .b)) = read (j .before .before .lesser5 .ok) (j .before .before .lesser5 .ensures) in
     let right : toZ w64 (ofZ w64 (j .before .lesser6 .result)) ≡ lesser leZ (toZ w64 (k .loop .c)) (toZ w64 (k .loop .d)) = read (j .before .lesser6 .ok) (j .before .lesser6 .ensures) in
     let both : toZ w64 (ofZ w64 (j .lesser7 .result)) ≡ four leZ (pos 0) (toZ w64 (k .loop .a)) (toZ w64 (k .loop .b)) (toZ w64 (k .loop .c)) (toZ w64 (k .loop .d)) = read (j .lesser7 .ok) (j .lesser7 .ensures ∙ (λ t. lesser leZ (left t) (right t))) in
-    read (c .least-from .ok) (c .least-from .ensures ∙ ap (λ z. leastFrom leZ z (drop (k .loop .i) l)) both) ∙ k .loop .inv .2 .is
+    read (c .least-from .ok) (c .least-from .ensures ∙ ap (λ z. extremeFrom leZ z (drop (k .loop .i) l)) both) ∙ k .loop .inv .2 .is
 
 pub minimum-spec : {M : Type 1} → statement M
 minimum-spec =

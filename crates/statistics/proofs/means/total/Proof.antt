@@ -7,7 +7,7 @@ use denote.Ref.{now}
 use borrow.Author.Needs.{needs}
 use Rattle.numbers.specs.Sums.{sumOf}
 use Rattle.numbers.proofs.Read.{read}
-use Rattle.numbers.proofs.Tests.{told}
+use Rattle.numbers.proofs.Tests.{condition-is}
 use Rattle.statistics_spec.specs.Statistics.{unserved}
 use Rattle.statistics_spec.proofs.Served.{unserved-short, answered-served, answered-unserved}
 use Rattle.statistics.specs.NearSum.{NearSum}
@@ -43,12 +43,12 @@ returns-2 : tie.Need-returns-2
 returns-2 c =
     let s = c .before .before .before .before in
     let l = now (s .args .line) in
-    answered-unserved sumOf l (told (unserved-short l (s .pre) (sym (c .before .any-over .ensures))) (c .if2 .taken))
+    answered-unserved sumOf l (condition-is (unserved-short l (s .pre) (sym (c .before .any-over .ensures))) (c .if2 .taken))
 
 served : (c : tie.Else2) → let s = c .before .before .before .before in unserved (now (s .args .line)) ≡ false
 served c =
     let s = c .before .before .before .before in
-    told (unserved-short (now (s .args .line)) (s .pre) (sym (c .before .any-over .ensures))) (c .if2 .left)
+    condition-is (unserved-short (now (s .args .line)) (s .pre) (sym (c .before .any-over .ensures))) (c .if2 .left)
 
 sum-requires : tie.Need-sum-requires
 sum-requires c κs = served c

@@ -11,14 +11,14 @@ use mir.Syntax.{w32}
 use mir.Val.{toZ, ofZ}
 use mir.ValLaws.{toZ-ofZ}
 use Rattle.numbers.proofs.IntOrder.{total-≤}
-use Rattle.numbers.specs.Order.{leastFrom}
+use Rattle.numbers.specs.Order.{extremeFrom}
 use Rattle.statistics_spec.specs.Sorting.{past, leastAbove}
 use Rattle.statistics_spec.proofs.NextRank.{above-read, above-last}
 use Rattle.statistics.proofs.middle.least_above.Statement.{statement}
 use Rattle.statistics.proofs.middle.least_above.Tie as tie
 
 abbrev Inv-loop : tie.InvT-loop
-Inv-loop levels z top least₀ i₀ least i = leastFrom leZ (toZ w32 least) (map (past leZ (toZ w32 z) (toZ w32 top)) (drop i levels)) ≡ leastAbove leZ (toZ w32 z) (toZ w32 top) levels
+Inv-loop levels z top least₀ i₀ least i = extremeFrom leZ (toZ w32 least) (map (past leZ (toZ w32 z) (toZ w32 top)) (drop i levels)) ≡ leastAbove leZ (toZ w32 z) (toZ w32 top) levels
 
 abbrev μ-loop : tie.MeasureT-loop
 μ-loop levels z top least₀ i₀ least i = length levels - i

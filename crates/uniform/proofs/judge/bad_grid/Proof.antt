@@ -6,7 +6,7 @@ use denote.Ref.{now}
 use lib.ListN.{length, drop}
 use Rattle.numbers.specs.Lists.{anyOf}
 use Rattle.numbers.proofs.Any.{any-hit, any-miss, any-end}
-use Rattle.numbers.proofs.Tests.{told}
+use Rattle.numbers.proofs.Tests.{condition-is}
 use Rattle.border.specs.Modes.{borderOf}
 use Rattle.uniform_spec.specs.Judge.{badGridReach}
 use borrow.Author.Needs.{needs}
@@ -35,7 +35,7 @@ returns : tie.Need-returns Inv-loop μ-loop
 returns c =
     let a = c .before .before .before .before .before .before .args in
     let l = c .before .before .before .before .loop in
-    sym (any-hit (badGridReach (borderOf (a .mode)) (a .size)) 0 (l .a) (now (a .shape)) (search needs) (l .inv .1) (told (c .before .bad-grid-window .ensures) (c .if1 .taken)))
+    sym (any-hit (badGridReach (borderOf (a .mode)) (a .size)) 0 (l .a) (now (a .shape)) (search needs) (l .inv .1) (condition-is (c .before .bad-grid-window .ensures) (c .if1 .taken)))
 
 add-a : tie.Need-add-a Inv-loop μ-loop
 add-a c = search needs
@@ -47,7 +47,7 @@ loop-again : tie.Need-loop-again Inv-loop μ-loop
 loop-again c =
     let a = c .before .before .before .before .before .before .args in
     let l = c .before .before .before .before .loop in
-    (search needs, any-miss (badGridReach (borderOf (a .mode)) (a .size)) 0 (l .a) (now (a .shape)) (search needs) (l .inv .1) (told (c .before .bad-grid-window .ensures) (c .if1 .left)))
+    (search needs, any-miss (badGridReach (borderOf (a .mode)) (a .size)) 0 (l .a) (now (a .shape)) (search needs) (l .inv .1) (condition-is (c .before .bad-grid-window .ensures) (c .if1 .left)))
 
 returns-2 : tie.Need-returns-2 Inv-loop μ-loop
 returns-2 c =

@@ -6,7 +6,7 @@ use denote.Ref.{now}
 use Rattle.array_spec.specs.Conditions.{badLevel}
 use Rattle.array_spec.proofs.Judged.{grid-refused, grid-ends}
 use Rattle.border.specs.Modes.{borderOf}
-use Rattle.uniform_spec.specs.Judge.{axesJudged, badSumsFrom, uniformJudged}
+use Rattle.uniform_spec.specs.Judge.{uniformAxesJudged, badUniformSumsFrom, uniformJudged}
 use Rattle.uniform_spec.proofs.Sums.{no-bad-sums-from}
 use borrow.Author.Needs.{needs}
 use Rattle.uniform.proofs.judge.judge_uniform.Statement.{statement}
@@ -31,8 +31,8 @@ returns-2 : tie.Need-returns-2
 returns-2 c =
     let a = c .before .before .before .before .before .args in
     let b = borderOf (a .mode) in
-    grid-ends badLevel (now (a .shape)) (now (a .«data»)) (a .out ∷ a .second ∷ []) (axesJudged b (a .size) (now (a .shape)))
-    (badSumsFrom b (a .size) (now (a .shape)) 0 (length (now (a .shape))) (now (a .«data»))) 12 (tt, (tt, (tt, tt))) (c .before .before .judge-grid .ensures) (c .before .if1 .left) (c .judge-axes .ensures)
+    grid-ends badLevel (now (a .shape)) (now (a .«data»)) (a .out ∷ a .second ∷ []) (uniformAxesJudged b (a .size) (now (a .shape)))
+    (badUniformSumsFrom b (a .size) (now (a .shape)) 0 (length (now (a .shape))) (now (a .«data»))) 12 (tt, (tt, (tt, tt))) (c .before .before .judge-grid .ensures) (c .before .if1 .left) (c .judge-axes .ensures)
     (λ G p. no-bad-sums-from b (a .size) (now (a .shape)) (now (a .«data»)) (G .levels) (p .1 .0) (p .0) 0 (length (now (a .shape))))
 
 pub judge-uniform-spec : {M : Type 1} → statement M

@@ -6,7 +6,7 @@ use denote.Ref.{now}
 use Rattle.array_spec.specs.Conditions.{badLevel}
 use Rattle.array_spec.proofs.Judged.{grid-refused, grid-ends}
 use Rattle.border.specs.Modes.{borderOf}
-use Rattle.uniform_spec.specs.Judge.{alongJudged, badSums, uniform1dJudged}
+use Rattle.uniform_spec.specs.Judge.{uniformAlongJudged, badUniformSums, uniform1dJudged}
 use Rattle.uniform_spec.proofs.Sums.{no-bad-sums}
 use borrow.Author.Needs.{needs}
 use Rattle.uniform.proofs.judge.judge_uniform1d.Statement.{statement}
@@ -31,8 +31,8 @@ returns-2 : tie.Need-returns-2
 returns-2 c =
     let a = c .before .before .before .before .before .args in
     let b = borderOf (a .mode) in
-    grid-ends badLevel (now (a .shape)) (now (a .«data»)) (a .out ∷ []) (alongJudged b (a .size) (now (a .shape)) (a .axis))
-    (badSums b (a .size) (now (a .shape)) (a .axis) (now (a .«data»))) 12 (tt, (tt, (tt, (tt, tt)))) (c .before .before .judge-grid .ensures) (c .before .if1 .left) (c .judge-along .ensures)
+    grid-ends badLevel (now (a .shape)) (now (a .«data»)) (a .out ∷ []) (uniformAlongJudged b (a .size) (now (a .shape)) (a .axis))
+    (badUniformSums b (a .size) (now (a .shape)) (a .axis) (now (a .«data»))) 12 (tt, (tt, (tt, (tt, tt)))) (c .before .before .judge-grid .ensures) (c .before .if1 .left) (c .judge-along .ensures)
     (λ G p. no-bad-sums b (a .size) (now (a .shape)) (now (a .«data»)) (G .levels) (p .1 .1 .0) (p .0) (a .axis))
 
 pub judge-uniform1d-spec : {M : Type 1} → statement M

@@ -7,10 +7,10 @@ use denote.Ref.{now}
 use lib.IntN.{ℤ, pos}
 use lib.Seq.{length-take-le}
 use Rattle.lanes.specs.Lanes.{withLane}
-use Rattle.uniform_spec.specs.Mean.{Averaged}
+use Rattle.uniform_spec.specs.Mean.{MeanLineNeeds}
 use Rattle.pad_line.proofs.OneLane.{front-is, lane-filtered}
-use Rattle.uniform.specs.Averaging.{meansBy}
-use Rattle.uniform.proofs.Averaged.{lane-averaged}
+use Rattle.uniform.specs.MeanAxisNeeds.{meansBy}
+use Rattle.uniform.proofs.MeanLineNeeds.{lane-averaged}
 use borrow.Author.Needs.{needs}
 use Rattle.uniform.proofs.lane_loop.average_lane.Statement.{statement}
 use Rattle.uniform.proofs.lane_loop.average_lane.Tie as tie
@@ -40,7 +40,7 @@ uniform-lane-requires : tie.Need-uniform-lane-requires
 uniform-lane-requires c κs =
     let s = c .before .before .before .before .before in
     let a = s .args in (
-      subst (λ (p : List ℤ). Averaged p (a .left + a .right + 1) (a .n))
+      subst (λ (p : List ℤ). MeanLineNeeds p (a .left + a .right + 1) (a .n))
           (sym (front-is (pos 0) (s .pre .0) (c .before .before .before .pad-from .ensures))) (lane-averaged (s .pre .0) (s .pre .1)),
       s .pre .0 .padding .some,
       s .pre .2,

@@ -7,7 +7,7 @@ use lib.IntN.{pos}
 use Rattle.lanes.specs.Starts.{Starts}
 use Rattle.border.specs.Modes.{borderOf}
 use Rattle.pad_line.proofs.EveryLane.{axis-lanes, axis-starts, Sweeping, sweeping-none, lane-needs, write-needs, start-needs, sweeping-more, sweeping-all}
-use Rattle.uniform.specs.Averaging.{meansBy}
+use Rattle.uniform.specs.MeanAxisNeeds.{meansBy}
 use borrow.Author.Needs.{needs}
 use Rattle.uniform.proofs.lane_loop.average_lanes.Statement.{statement}
 use Rattle.uniform.proofs.lane_loop.average_lanes.Tie as tie

@@ -6,15 +6,15 @@ use lib.ListN.{length, drop}
 use denote.Ref.{now}
 use Rattle.numbers.specs.Lists.{anyOf}
 use Rattle.numbers.proofs.Any.{any-hit, any-miss, any-end}
-use Rattle.numbers.proofs.Tests.{told}
+use Rattle.numbers.proofs.Tests.{condition-is}
 use Rattle.border.specs.Modes.{borderOf}
-use Rattle.window.specs.Window.{badPads}
+use Rattle.window.specs.Window.{badEitherPad}
 use borrow.Author.Needs.{needs}
 use Rattle.window.proofs.conditions.bad_pads_any.Statement.{statement}
 use Rattle.window.proofs.conditions.bad_pads_any.Tie as tie
 
 abbrev Inv-loop : tie.InvT-loop
-Inv-loop mode left right shape a₀ a = (a ≤ length shape) × (anyOf (badPads (borderOf mode) left right) shape ≡ anyOf (badPads (borderOf mode) left right) (drop a shape))
+Inv-loop mode left right shape a₀ a = (a ≤ length shape) × (anyOf (badEitherPad (borderOf mode) left right) shape ≡ anyOf (badEitherPad (borderOf mode) left right) (drop a shape))
 
 abbrev μ-loop : tie.MeasureT-loop
 μ-loop mode left right shape a₀ a = length shape - a
@@ -35,7 +35,7 @@ returns : tie.Need-returns Inv-loop μ-loop
 returns c =
     let s = c .before .before .before .before .before .before in
     let l = c .before .before .before .before .loop in
-    sym (any-hit (badPads (borderOf (s .args .mode)) (s .args .left) (s .args .right)) 0 (l .a) (now (s .args .shape)) (search needs) (l .inv .1) (told (c .before .bad-pads .ensures) (c .if1 .taken)))
+    sym (any-hit (badEitherPad (borderOf (s .args .mode)) (s .args .left) (s .args .right)) 0 (l .a) (now (s .args .shape)) (search needs) (l .inv .1) (condition-is (c .before .bad-pads .ensures) (c .if1 .taken)))
 
 add-a : tie.Need-add-a Inv-loop μ-loop
 add-a c = search needs
@@ -47,13 +47,13 @@ loop-again : tie.Need-loop-again Inv-loop μ-loop
 loop-again c =
     let s = c .before .before .before .before .before .before in
     let l = c .before .before .before .before .loop in
-    (search needs, any-miss (badPads (borderOf (s .args .mode)) (s .args .left) (s .args .right)) 0 (l .a) (now (s .args .shape)) (search needs) (l .inv .1) (told (c .before .bad-pads .ensures) (c .if1 .left)))
+    (search needs, any-miss (badEitherPad (borderOf (s .args .mode)) (s .args .left) (s .args .right)) 0 (l .a) (now (s .args .shape)) (search needs) (l .inv .1) (condition-is (c .before .bad-pads .ensures) (c .if1 .left)))
 
 returns-2 : tie.Need-returns-2 Inv-loop μ-loop
 returns-2 c =
     let s = c .before .before .before in
     let l = c .before .loop in
-    sym (any-end (badPads (borderOf (s .args .mode)) (s .args .left) (s .args .right)) (l .a) (now (s .args .shape)) (search needs) (l .inv .1))
+    sym (any-end (badEitherPad (borderOf (s .args .mode)) (s .args .left) (s .args .right)) (l .a) (now (s .args .shape)) (search needs) (l .inv .1))
 
 pub bad-pads-any-spec : {M : Type 1} → statement M
 bad-pads-any-spec =

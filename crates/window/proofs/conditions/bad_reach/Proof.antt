@@ -4,7 +4,7 @@ use mathlib.Core.Path.{_≡_, ap, _∙_}
 use mir.Syntax.{w64}
 use mir.Val.{toZ, ofZ}
 use borrow.Author.Needs.{needs}
-use Rattle.window.specs.Window.{leftOf, rightOf, leftPad, rightPad, badPads}
+use Rattle.window.specs.Window.{leftOf, rightOf, leftPad, rightPad, badEitherPad}
 use Rattle.window.proofs.Reach.{single-cell, origin-refused, reach-is}
 use Rattle.border.specs.Modes.{borderOf}
 use Rattle.window.specs.Origin.{originPads}
@@ -19,7 +19,7 @@ checked c =
     c .origin-check .ensures ∙ ap (originPads (a .size) (leftOf (a .size)) (rightOf (a .size))) e
 
 returns : tie.Need-returns
-returns c = let a = c .before .args in single-cell (a .size) (badPads (borderOf (a .mode)) (leftPad (a .size) (a .origin)) (rightPad (a .size) (a .origin)) (a .n)) (c .if1 .taken)
+returns c = let a = c .before .args in single-cell (a .size) (badEitherPad (borderOf (a .mode)) (leftPad (a .size) (a .origin)) (rightPad (a .size) (a .origin)) (a .n)) (c .if1 .taken)
 
 origin-check-requires : tie.Need-origin-check-requires
 origin-check-requires c κs = search needs

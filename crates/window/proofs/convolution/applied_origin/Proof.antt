@@ -11,11 +11,11 @@ use Rattle.window.proofs.convolution.applied_origin.Statement.{statemen
 use Rattle.window.proofs.convolution.applied_origin.Tie as tie
 
 -- the answer of a convolution
-turned-is : (s : tie.Start) → s .args .turned ≡ true → appliedOrigin (s .args .turned) (s .args .len) (s .args .origin) ≡ changedOrigin (s .args .len) (s .args .origin)
-turned-is s t = ap (λ (u : Bool). appliedOrigin u (s .args .len) (s .args .origin)) t
+convolution-is : (s : tie.Start) → s .args .convolution ≡ true → appliedOrigin (s .args .convolution) (s .args .len) (s .args .origin) ≡ changedOrigin (s .args .len) (s .args .origin)
+convolution-is s t = ap (λ (u : Bool). appliedOrigin u (s .args .len) (s .args .origin)) t
 
 returns : tie.Need-returns
-returns c = let s = c .before .before in even-read (s .args .len) (s .args .origin) (s .fits .origin) (s .fits .len .fits) (s .pre) (c .if2 .taken) ∙ sym (turned-is s (c .before .if1 .taken))
+returns c = let s = c .before .before in even-read (s .args .len) (s .args .origin) (s .fits .origin) (s .fits .len .fits) (s .pre) (c .if2 .taken) ∙ sym (convolution-is s (c .before .if1 .taken))
 
 sub-result : tie.Need-sub-result
 sub-result c = let s = c .before .before in negation-fits (s .args .len) (s .args .origin) (s .fits .origin) (s .fits .len .fits) (s .pre)
@@ -27,7 +27,7 @@ sub-result-3 : tie.Need-sub-result-3
 sub-result-3 c = let s = c .before .before in negation-fits (s .args .len) (s .args .origin) (s .fits .origin) (s .fits .len .fits) (s .pre)
 
 returns-2 : tie.Need-returns-2
-returns-2 c = let s = c .before .before in odd-read (s .args .len) (s .args .origin) (s .fits .origin) (s .fits .len .fits) (s .pre) (c .if2 .left) ∙ sym (turned-is s (c .before .if1 .taken))
+returns-2 c = let s = c .before .before in odd-read (s .args .len) (s .args .origin) (s .fits .origin) (s .fits .len .fits) (s .pre) (c .if2 .left) ∙ sym (convolution-is s (c .before .if1 .taken))
 
 returns-3 : tie.Need-returns-3
 returns-3 c =

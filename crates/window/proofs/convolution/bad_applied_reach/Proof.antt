@@ -8,7 +8,7 @@ use lib.Dec.{eqb}
 use lib.IntN.{ℤ}
 use Rattle.border.specs.Modes.{borderOf}
 use Rattle.window.specs.Origin.{badOrigin}
-use Rattle.window.specs.Window.{badPads, leftPad, rightPad, badWindowOrigin, badReach, appliedOrigin}
+use Rattle.window.specs.Window.{badEitherPad, leftPad, rightPad, badWindowOrigin, badReach, appliedOrigin}
 use Rattle.window.proofs.Reach.{single-cell, origin-accepted}
 use Rattle.window.proofs.Changed.{applied-range}
 use borrow.Author.Needs.{needs}
@@ -16,15 +16,15 @@ use Rattle.window.proofs.convolution.bad_applied_reach.Statement.{state
 use Rattle.window.proofs.convolution.bad_applied_reach.Tie as tie
 
 -- the origin as the judge of the pads is handed it
-applied : (c : tie.After-applied-origin) → let a = c .before .before .args in toZ w64 (ofZ w64 (c .applied-origin .result)) ≡ appliedOrigin (a .turned) (a .len) (a .origin)
+applied : (c : tie.After-applied-origin) → let a = c .before .before .args in toZ w64 (ofZ w64 (c .applied-origin .result)) ≡ appliedOrigin (a .convolution) (a .len) (a .origin)
 applied c =
     let a = c .before .before .args in
     let e : toZ w64 (ofZ w64 (a .origin)) ≡ a .origin = search needs in
     let k : toZ w64 (ofZ w64 (c .applied-origin .result)) ≡ c .applied-origin .result = search needs in
-    k ∙ c .applied-origin .ensures ∙ ap (appliedOrigin (a .turned) (a .len)) e
+    k ∙ c .applied-origin .ensures ∙ ap (appliedOrigin (a .convolution) (a .len)) e
 
 returns : tie.Need-returns
-returns c = let a = c .before .args in single-cell (a .len) (badPads (borderOf (a .mode)) (leftPad (a .len) (appliedOrigin (a .turned) (a .len) (a .origin))) (rightPad (a .len) (appliedOrigin (a .turned) (a .len) (a .origin))) (a .n)) (c .if1 .taken)
+returns c = let a = c .before .args in single-cell (a .len) (badEitherPad (borderOf (a .mode)) (leftPad (a .len) (appliedOrigin (a .convolution) (a .len) (a .origin))) (rightPad (a .len) (appliedOrigin (a .convolution) (a .len) (a .origin))) (a .n)) (c .if1 .taken)
 
 applied-origin-requires : tie.Need-applied-origin-requires
 applied-origin-requires c κs =
@@ -36,7 +36,7 @@ bad-reach-requires : tie.Need-bad-reach-requires
 bad-reach-requires c κs =
     let s = c .before .before in
     let more = c .before .if1 .left in
-    ap (badWindowOrigin (s .args .len)) (applied c) ∙ ap (λ (t : Bool). not (eqb (s .args .len) 1) && t) (applied-range (s .args .turned) (s .args .len) (s .args .origin) ∙ origin-accepted (s .args .len) (s .args .origin) more (s .pre))
+    ap (badWindowOrigin (s .args .len)) (applied c) ∙ ap (λ (t : Bool). not (eqb (s .args .len) 1) && t) (applied-range (s .args .convolution) (s .args .len) (s .args .origin) ∙ origin-accepted (s .args .len) (s .args .origin) more (s .pre))
     ∙ and-false (not (eqb (s .args .len) 1))
 
 returns-2 : tie.Need-returns-2

@@ -10,23 +10,23 @@ use Rattle.numbers.specs.Lists.{anyOf}
 use Rattle.border.specs.Modes.{borderOf}
 use Rattle.window.specs.Origin.{badOrigin, originPads}
 use Rattle.window.proofs.Answered.{not-refused, left-is, right-is}
-use Rattle.window.specs.Window.{appliedOrigin, badPads}
+use Rattle.window.specs.Window.{appliedOrigin, badEitherPad}
 use Rattle.window.proofs.Changed.{applied-range}
 use borrow.Author.Needs.{needs}
 use Rattle.window.proofs.convolution.bad_kernel_reach.Statement.{statement}
 use Rattle.window.proofs.convolution.bad_kernel_reach.Tie as tie
 
 -- the origin as it is applied, which is accepted
-accepted : (s : tie.Start) → badOrigin (s .args .side) (appliedOrigin (s .args .turned) (s .args .side) (s .args .origin)) ≡ false
-accepted s = applied-range (s .args .turned) (s .args .side) (s .args .origin) ∙ s .pre
+accepted : (s : tie.Start) → badOrigin (s .args .side) (appliedOrigin (s .args .convolution) (s .args .side) (s .args .origin)) ≡ false
+accepted s = applied-range (s .args .convolution) (s .args .side) (s .args .origin) ∙ s .pre
 
 -- the answer to it
-checked : (c : tie.After-kernel-origin-check) → let a = c .before .before .before .args in c .kernel-origin-check .result ≡ originPads (a .side) (a .side / 2) (a .side / 2) (appliedOrigin (a .turned) (a .side) (a .origin))
+checked : (c : tie.After-kernel-origin-check) → let a = c .before .before .before .args in c .kernel-origin-check .result ≡ originPads (a .side) (a .side / 2) (a .side / 2) (appliedOrigin (a .convolution) (a .side) (a .origin))
 checked c =
     let a = c .before .before .before .args in
     let e : toZ w64 (ofZ w64 (a .origin)) ≡ a .origin = search needs in
     let k : toZ w64 (ofZ w64 (c .before .applied-origin .result)) ≡ c .before .applied-origin .result = search needs in
-    c .kernel-origin-check .ensures ∙ ap (originPads (a .side) (a .side / 2) (a .side / 2)) (k ∙ c .before .applied-origin .ensures ∙ ap (appliedOrigin (a .turned) (a .side)) e)
+    c .kernel-origin-check .ensures ∙ ap (originPads (a .side) (a .side / 2) (a .side / 2)) (k ∙ c .before .applied-origin .ensures ∙ ap (appliedOrigin (a .convolution) (a .side)) e)
 
 applied-origin-requires : tie.Need-applied-origin-requires
 applied-origin-requires c κs =
@@ -56,7 +56,7 @@ returns-2 c =
     let s = c .before .before .before .before .before .before .before in
     let l = left-is (s .args .side) (s .args .side / 2) (s .args .side / 2) _ (accepted s) (checked (c .before .before .before .before)) (c .before .before .left .given .1) in
     let r = right-is (s .args .side) (s .args .side / 2) (s .args .side / 2) _ (accepted s) (checked (c .before .before .before .before)) (c .before .before .left .given .1) in
-    c .bad-pads-any .ensures ∙ (λ j. anyOf (badPads (borderOf (s .args .mode)) (l j) (r j)) (now (s .args .shape)))
+    c .bad-pads-any .ensures ∙ (λ j. anyOf (badEitherPad (borderOf (s .args .mode)) (l j) (r j)) (now (s .args .shape)))
 
 pub bad-kernel-reach-spec : {M : Type 1} → statement M
 bad-kernel-reach-spec =

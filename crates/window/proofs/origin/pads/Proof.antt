@@ -5,7 +5,7 @@ use native.Mathlib.Omega.{arith}
 use borrow.Author.Needs.{needs}
 use lib.IntN.{pos, negsuc}
 use Rattle.window.specs.declared.origin.Shift.{Shift}
-use Rattle.window.specs.Origin.{badOrigin, signedOf}
+use Rattle.window.specs.Origin.{badOrigin, originOf}
 use Rattle.window.proofs.Origins.{accepted-on, accepted-back, pads-on, pads-back}
 use Rattle.window.proofs.origin.pads.Statement.{statement}
 use Rattle.window.proofs.origin.pads.Tie as tie
@@ -14,12 +14,12 @@ use Rattle.window.proofs.origin.pads.Tie as tie
 on : (c : tie.After-known-told) → badOrigin (c .before .before .before .before .before .args .len) (pos (c .before .origin .given .0 .0)) ≡ false
 on c =
     let r = c .before .before .before .before in
-    ap (λ (s : Shift). badOrigin (r .before .args .len) (signedOf s)) (sym (c .before .origin .given .1)) ∙ sym (r .refuses .ensures) ∙ c .before .before .before .if1 .left
+    ap (λ (s : Shift). badOrigin (r .before .args .len) (originOf s)) (sym (c .before .origin .given .1)) ∙ sym (r .refuses .ensures) ∙ c .before .before .before .if1 .left
 
 back : (c : tie.After-known-told2) → badOrigin (c .before .before .before .before .before .args .len) (negsuc (c .before .origin2 .given .0 .0)) ≡ false
 back c =
     let r = c .before .before .before .before in
-    ap (λ (s : Shift). badOrigin (r .before .args .len) (signedOf s)) (sym (c .before .origin2 .given .1)) ∙ sym (r .refuses .ensures) ∙ c .before .before .before .if1 .left
+    ap (λ (s : Shift). badOrigin (r .before .args .len) (originOf s)) (sym (c .before .origin2 .given .1)) ∙ sym (r .refuses .ensures) ∙ c .before .before .before .if1 .left
 
 refuses-requires : tie.Need-refuses-requires
 refuses-requires c κs = search needs

@@ -2,13 +2,13 @@
 use mathlib.Core.Path.{sym}
 use native.Mathlib.Omega.{arith}
 use borrow.Author.Needs.{needs}
-use Rattle.window.specs.Origin.{signedOf}
+use Rattle.window.specs.Origin.{originOf}
 use Rattle.window.proofs.Origins.{origin-none, origin-on, origin-back}
 use Rattle.window.proofs.origin.refuses.Statement.{statement}
 use Rattle.window.proofs.origin.refuses.Tie as tie
 
 returns : tie.Need-returns
-returns c = rw (c .if1 .taken) (sym (origin-none (signedOf (c .before .args .origin))))
+returns c = rw (c .if1 .taken) (sym (origin-none (originOf (c .before .args .origin))))
 
 enum-known-origin : tie.Need-enum-known-origin
 enum-known-origin c = search needs

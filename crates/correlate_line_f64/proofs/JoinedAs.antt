@@ -7,5 +7,5 @@ use Rattle.correlate_spec.specs.Weighed.{floatOps}
 use Rattle.correlate_spec.specs.Joined.{joinedBy}
 
 -- the cells x and y, joined as m says, times v: m is what the code tested for
-pub told : (m minus : Bool) (x y v : Float) → m ≡ minus → floatOps .product (joinedBy floatOps minus x y) v ≡ floatOps .product (joinedBy floatOps m x y) v
-told m minus x y v e = ap (λ b. floatOps .product (joinedBy floatOps b x y) v) (sym e)
+pub joined-as : (m minus : Bool) (x y v : Float) → m ≡ minus → floatOps .product (joinedBy floatOps minus x y) v ≡ floatOps .product (joinedBy floatOps m x y) v
+joined-as m minus x y v e = ap (λ b. floatOps .product (joinedBy floatOps b x y) v) (sym e)

@@ -12,11 +12,11 @@ use Rattle.pad_line.specs.Line.{paddedLine}
 use Rattle.pad_line.specs.Lane.{LineNeeds}
 use Rattle.pad_line.proofs.EveryPadded.{any-padded}
 use Rattle.pad_line.proofs.OneLane.{length-line}
-use Rattle.uniform_spec.specs.Mean.{Averaged}
-use Rattle.uniform.specs.Averaging.{Averaging}
+use Rattle.uniform_spec.specs.Mean.{MeanLineNeeds}
+use Rattle.uniform.specs.MeanAxisNeeds.{MeanAxisNeeds}
 
-pub lane-averaged : {b : Border ℤ} {n s base left right : ℕ} {g line₀ : List ℤ} → LineNeeds b n s base left right g line₀ → Averaging (left + right + 1) b g
-    → Averaged (paddedLine (pos 0) b left right (laneAt (pos 0) g base s n)) (left + right + 1) n
+pub lane-averaged : {b : Border ℤ} {n s base left right : ℕ} {g line₀ : List ℤ} → LineNeeds b n s base left right g line₀ → MeanAxisNeeds (left + right + 1) b g
+    → MeanLineNeeds (paddedLine (pos 0) b left right (laneAt (pos 0) g base s n)) (left + right + 1) n
 unfolding badLevel
 lane-averaged {b} {n} {s} {base} {left} {right} {g} R S = record {
   some = omega arith;
