@@ -1,6 +1,8 @@
 // Conditions 1, 2, 3 and 8 of a refusal, a function for each, for every argument there is.
 ghost use mathlib.Core.Path.{_≡_};
+ghost use mathlib.Core.Bool.{not};
 ghost use mathlib.Core.List.{[], _∷_};
+ghost use lib.Dec.{eqb};
 ghost use Rattle.numbers.specs.Lists.{anyOf};
 ghost use Rattle.numbers.specs.Refusal.{refusalOf};
 ghost use Rattle.array_spec.specs.Conditions.{badShape, badLength, badLevel, badFloat, badAxis, gridJudgedBy, gridJudged};
@@ -22,13 +24,10 @@ pub fn bad_length(shape: &[usize], len: usize) -> bool
     len != cell_count(shape)
 }
 
-// Condition 2 of several grids: one of them does not have the shape's cell count. Of 2 3 the lengths 6 6 pass, 6 5 do not.
-//
-// * `lent` - the length of each grid.
-pub fn bad_lengths(shape: &[usize], lent: &[usize]) -> bool
-    ensures { λ r. ⌜ r ≡ anyOf (badLength (now (shape .entry))) (now (lent .entry)) ⌝ }
+// Whether one of the lengths is not the count.
+fn any_other(lent: &[usize], count: usize) -> bool
+    ensures { λ r. ⌜ r ≡ anyOf (λ len. not (eqb len count)) (now (lent .entry)) ⌝ }
 {
-    let count = cell_count(shape);
     let mut k = 0;
     while k < lent.len() {
         if lent[k] != count {
@@ -37,6 +36,15 @@ pub fn bad_lengths(shape: &[usize], lent: &[usize]) -> bool
         k += 1;
     }
     false
+}
+
+// Condition 2 of several grids: one of them does not have the shape's cell count. Of 2 3 the lengths 6 6 pass, 6 5 do not.
+//
+// * `lent` - the length of each grid.
+pub fn bad_lengths(shape: &[usize], lent: &[usize]) -> bool
+    ensures { λ r. ⌜ r ≡ anyOf (badLength (now (shape .entry))) (now (lent .entry)) ⌝ }
+{
+    any_other(lent, cell_count(shape))
 }
 
 // Condition 3 of one whole level: outside -(2^31 - 1)..2^31 - 1. -2147483648 is outside.
@@ -91,17 +99,19 @@ pub fn bad_axis(shape: &[usize], axis: usize) -> bool
     shape.len() <= axis
 }
 
-// Conditions 1 and 2 in rising order, of a grid of `len` cells and the lent grids.
+// Conditions 1 and 2 in rising order, of a grid of `len` cells and the lent grids; the cells are counted once.
 fn judge_lengths(shape: &[usize], len: usize, lent: &[usize]) -> u8
-    ensures { λ r. ⌜ r ≡ refusalOf ((badShape (now (shape .entry)), 1) ∷ (anyOf (badLength (now (shape .entry))) (len ∷ now (lent .entry)), 2) ∷ []) ⌝ }
+    ensures { λ r. ⌜ r ≡ refusalOf
+        ((badShape (now (shape .entry)), 1) ∷ (anyOf (badLength (now (shape .entry))) (len ∷ now (lent .entry)), 2) ∷ []) ⌝ }
 {
-    if bad_shape(shape) {
+    let count = cell_count(shape);
+    if count == 0 {
         return numbers::SHAPE;
     }
-    if bad_length(shape, len) {
+    if len != count {
         return numbers::LENGTH;
     }
-    if bad_lengths(shape, lent) {
+    if any_other(lent, count) {
         return numbers::LENGTH;
     }
     numbers::ACCEPTED

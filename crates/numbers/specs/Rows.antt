@@ -2,16 +2,17 @@
 --   minus n       −n
 --   wholes ns     the natural numbers ns as whole numbers
 --   NumbersRows   the rows
-use Prim.Native.Nat.{ℕ, _-_, _*_, _^_}
+use Prim.Native.Nat.{ℕ, _+_, _-_, _*_, _^_}
 use mathlib.Core.Path.{_≡_}
 use mathlib.Core.Bool.{true, false}
 use mathlib.Core.List.{List, [], _∷_, map}
 use lib.Dec.{eqb}
 use lib.IntN.{ℤ, pos, negsuc, negℤ}
 use lib.Signed.{leZ, quotZ}
+use Rattle.numbers.specs.Limits.{longestAxis, mostCells, largestLevel, largestBetween, longestWindow, longestSide, largestWeight, longestPad, longestLine, longestPaddedAxis, mostPaddedCells}
 use Rattle.numbers.specs.Lists.{tabulate, upFrom, anyOf}
 use Rattle.numbers.specs.Order.{atLeast, extreme}
-use Rattle.numbers.specs.Ranges.{outside, outsideZ, beyond}
+use Rattle.numbers.specs.Ranges.{outside, outsideZ, over, beyond}
 use Rattle.numbers.specs.Refusal.{refusalOf, leftIn, ScratchAnswers}
 use Rattle.numbers.specs.Sums.{sumOf}
 use Rattle.numbers.specs.Windows.{windowOf}
@@ -46,8 +47,14 @@ pub record NumbersRows : Type 0 where
   pub no-member : anyOf (eqb 4) (1 ∷ 2 ∷ 3 ∷ []) ≡ false
   -- a window that ends with its line, one that passes its end, and one of no cells past it
   pub windows : windowOf (wholes (1 ∷ 2 ∷ 3 ∷ [])) 1 2 ∷ windowOf (wholes (1 ∷ 2 ∷ 3 ∷ [])) 2 2 ∷ windowOf (wholes (1 ∷ 2 ∷ 3 ∷ [])) 4 0 ∷ [] ≡ wholes (2 ∷ 3 ∷ []) ∷ [] ∷ [] ∷ []
+  -- the limits of document 01; a line is an axis and the pads of a window, a padded axis an axis and two pads
+  pub limits : longestAxis ∷ mostCells ∷ longestWindow ∷ longestSide ∷ largestWeight ∷ longestPad ∷ mostPaddedCells ∷ []
+      ≡ 1024 ∷ 8192 ∷ 65 ∷ 7 ∷ 65535 ∷ 64 ∷ 32768 ∷ []
+  pub limits-lines : longestLine ∷ longestPaddedAxis ∷ [] ≡ (longestAxis + (longestWindow - 1)) ∷ (longestPad + longestAxis + longestPad) ∷ []
+  pub limits-levels : largestLevel ∷ largestBetween ∷ [] ≡ 2147483647 ∷ 274877906944 ∷ []
   -- both ends of a range are inside
   pub ends : map (outside 1 3) (0 ∷ 1 ∷ 3 ∷ 4 ∷ []) ≡ true ∷ false ∷ false ∷ true ∷ []
+  pub sizes : map (over 2) (minus 3 ∷ minus 2 ∷ pos 2 ∷ pos 3 ∷ []) ≡ true ∷ false ∷ false ∷ true ∷ []
   pub signed-ends : map (outsideZ (minus 2) (pos 1)) (minus 3 ∷ minus 2 ∷ pos 1 ∷ pos 2 ∷ []) ≡ true ∷ false ∷ false ∷ true ∷ []
   -- −2^63 − 1, −2^63, 2^63 − 1, 2^63
   pub bits : map beyond (negsuc (2 ^ 63) ∷ minus (2 ^ 63) ∷ pos (2 ^ 63 - 1) ∷ pos (2 ^ 63) ∷ []) ≡ true ∷ false ∷ false ∷ true ∷ []

@@ -1,85 +1,24 @@
--- `bad_lengths` meets its contract: no length before the one that the loop has reached differs from the count, which is condition 2's own.
+-- `bad_lengths` meets its contract: the count that the code compares with is condition 2's.
 -- Assumes nothing.
-use mathlib.Core.Path.{_≡_, refl, sym, ap, _∙_}
-use mathlib.Core.Bool.{Bool, not}
-use mathlib.Core.List.{List}
-use Prim.Native.Nat.{ℕ, _≤_, _-_}
-use native.Mathlib.Omega.{arith}
-use borrow.Author.Tests.{eq-eqb, ne-eqb}
+use mathlib.Core.Path.{ap, _∙_}
+use mathlib.Core.Bool.{not}
 use denote.Ref.{now}
 use lib.Dec.{eqb}
-use lib.ListN.{length, getD, drop}
 use Rattle.numbers.specs.Lists.{anyOf}
-use Rattle.numbers.proofs.Any.{any-hit, any-miss, any-end}
-use Rattle.array_spec.specs.Conditions.{gridCount, badLength}
 use borrow.Author.Needs.{needs}
 use Rattle.array.proofs.conditions.bad_lengths.Statement.{statement}
 use Rattle.array.proofs.conditions.bad_lengths.Tie as tie
 
--- the test of one length, as the code makes it
-abbrev differs : ℕ → ℕ → Bool
-differs count len = not (eqb len count)
-
-abbrev Inv-loop : tie.InvT-loop
-Inv-loop shape lent count k₀ k = (k ≤ length lent) × (anyOf (differs count) lent ≡ anyOf (differs count) (drop k lent))
-
-abbrev μ-loop : tie.MeasureT-loop
-μ-loop shape lent count k₀ k = length lent - k
-
-cell-count-requires : tie.Need-cell-count-requires Inv-loop μ-loop
+cell-count-requires : tie.Need-cell-count-requires
 cell-count-requires c κs = search needs
 
-loop-holds : tie.Need-loop-holds Inv-loop μ-loop
-loop-holds c = (search needs, refl)
+any-other-requires : tie.Need-any-other-requires
+any-other-requires c κs = search needs
 
-mul-if1 : tie.Need-mul-if1 Inv-loop μ-loop
-mul-if1 c = search needs
-
-shared-slice-read-if1 : tie.Need-shared-slice-read-if1 Inv-loop μ-loop
-shared-slice-read-if1 c = search needs
-
--- the count that the code compares with is condition 2's
-counted : (ns lent : List ℕ) {count : ℕ} → count ≡ gridCount ns → anyOf (differs count) lent ≡ anyOf (badLength ns) lent
-counted ns lent e = ap (λ n. anyOf (differs n) lent) e
-
-returns : tie.Need-returns Inv-loop μ-loop
+returns : tie.Need-returns
 returns c =
-    let l = c .before .before .before .loop in
-    let n = c .before .before .before .before .cell-count in
-    let a = c .before .before .before .before .before .before .before .args in
-    sym (any-hit (differs (n .result)) 0 (l .k) (now (a .lent)) (search needs) (l .inv .1) (ap not (ne-eqb (getD (now (a .lent)) (l .k) 0) (n .result) (λ e. omega (arith, c .if1 .taken))))) ∙ counted (now (a .shape)) (now (a .lent)) (n .ensures)
-
-add-k : tie.Need-add-k Inv-loop μ-loop
-add-k c = search needs
-
-loop-less : tie.Need-loop-less Inv-loop μ-loop
-loop-less c = search needs
-
-loop-again : tie.Need-loop-again Inv-loop μ-loop
-loop-again c =
-    let l = c .before .before .before .loop in
-    let n = c .before .before .before .before .cell-count .result in
-    (search needs, any-miss (differs n) 0 (l .k) (now (c .before .before .before .before .before .before .before .args .lent)) (search needs) (l .inv .1) (ap not (eq-eqb _ n (c .if1 .left))))
-
-returns-2 : tie.Need-returns-2 Inv-loop μ-loop
-returns-2 c =
-    let l = c .before .loop in
-    let n = c .before .before .cell-count in
-    let a = c .before .before .before .before .before .args in
-    sym (any-end (differs (n .result)) (l .k) (now (a .lent)) (search needs) (l .inv .1)) ∙ counted (now (a .shape)) (now (a .lent)) (n .ensures)
+    let b = c .before in
+    c .any-other .ensures ∙ ap (λ n. anyOf (λ len. not (eqb len n)) (now (b .before .before .before .args .lent))) (b .cell-count .ensures)
 
 pub bad-lengths-spec : {M : Type 1} → statement M
-bad-lengths-spec =
-    tie.close
-    (tie.spec
-    Inv-loop
-    μ-loop
-    cell-count-requires
-    loop-holds
-    mul-if1
-    shared-slice-read-if1
-    returns
-    add-k
-    loop-less
-    loop-again
-    returns-2)
+bad-lengths-spec = tie.close (tie.spec cell-count-requires any-other-requires returns)
