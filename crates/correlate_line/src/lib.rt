@@ -1,4 +1,5 @@
-// The weighted sums of a whole line: four weights a pass where they are five or more (raised_line), else added to a row of 0, three a pass (plain_line).
+// The weighted sums of a whole line: four weights a pass where they are five or more (raised.rt), else added to a row
+// of 0, three a pass (plain.rt).
 ghost use mathlib.Core.Path.{_≡_};
 ghost use Prim.Native.Nat.{_≤_};
 ghost use lib.ListN.{length};

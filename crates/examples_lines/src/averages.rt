@@ -1,4 +1,4 @@
-// The examples of `line_extremes`, `line_mean` and `line_median`.
+// The examples of `statistics`.
 use examples_print::level_line;
 
 // What a line has.

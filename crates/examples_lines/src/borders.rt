@@ -1,4 +1,4 @@
-// The examples of `border` and `origin`.
+// The examples of `border` and `window`.
 use border::BorderMode;
 use border::BorderModeF64;
 use border::PadMode;

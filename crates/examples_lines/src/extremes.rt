@@ -1,4 +1,4 @@
-// The examples of `minlist`, `minimum_line` and `maximum_line`.
+// The examples of `min_max_ring` and `min_max_line`.
 use examples_print::levels;
 use examples_print::line;
 use examples_print::test;

@@ -1,4 +1,4 @@
-// The examples of `filter_judge`; those of `min_max1d` and `min_max` are requests of `ndimage`.
+// The examples of `min_max_judge`; those of `min_max` are requests of `ndimage`.
 use border::BorderMode;
 use examples_print::line;
 use examples_print::test;

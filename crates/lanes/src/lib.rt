@@ -1,4 +1,4 @@
-// The lanes of an axis: how long, how far apart and how many they are, and where a lane starts. `lane_cells` and `lane_cells_f64` read and write them.
+// The lanes of an axis: how long, how far apart and how many they are, and where a lane starts. `lane_cells` reads and write them.
 ghost use mathlib.Core.Path.{_≡_};
 ghost use mathlib.Core.Bool.{cond};
 ghost use Prim.Native.Nat.{ℕ, _+_, _≤_, _<_};

@@ -1,4 +1,4 @@
-// The median of a mask, row by row: how many rows around are true at each place of a row, then the votes along it (`median_votes`).
+// The median of a mask, row by row: how many rows around are true at each place of a row, then the votes along it (votes.rt).
 ghost use mathlib.Core.Path.{_≡_};
 ghost use mathlib.Core.Bool.{false};
 ghost use mathlib.Core.List.{[], _∷_};

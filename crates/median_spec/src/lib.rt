@@ -1,5 +1,5 @@
 // The median of a mask of three axes: its definitions, cell by cell and row by row, and their laws.
-// `median_row` has the code.
+// `median` has the code.
 ghost use Rattle.median_spec.specs.Rows.{MedianSpecRows};
 
 // The coordinates from `from` to `to`, `to` not included.

@@ -1,4 +1,5 @@
-// Minimum and maximum filters along every axis (src/filters/min_max.rs; SciPy's minimum_filter and maximum_filter), by the passes of `min_max1d`.
+// Minimum and maximum filters along one axis and along every axis (src/filters/min_max.rs; SciPy's minimum_filter1d,
+// maximum_filter1d, minimum_filter and maximum_filter).
 ghost use Rattle.min_max.specs.Rows.{MinMaxRows};
 
 mod each_lane;

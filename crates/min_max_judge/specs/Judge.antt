@@ -1,4 +1,4 @@
--- The conditions of the minimum and maximum filters, one-axis and grid forms. Which number a one-axis call gets stands in `sweeps`;
+-- The conditions of the minimum and maximum filters, one-axis and grid forms. Which number a one-axis call gets stands in `min_max_spec`;
 -- here is how the arguments of the program's calls make such a call, and which number a grid call gets.
 --   callOf ns size a m o held   the one-axis call of these arguments, `held` the lent output as it stands
 --   sizeJudged size o           conditions 5 and 7 of a window

@@ -1,5 +1,5 @@
 // The least of each window of a line, by MINLIST: Richard Harter, "The minimum on a sliding window algorithm"; what a
-// window holds is SciPy's page on minimum_filter1d. The ring of pairs is `minlist`'s, an array of 65 with its start and
+// window holds is SciPy's page on minimum_filter1d. The ring of pairs is `min_max_ring`'s, an array of 65 with its start and
 // its count. All of it stays in the locals of one function, and the front is kept beside it: a ring that is passed on
 // is copied at each cell.
 ghost use mathlib.Core.Path.{_≡_};

@@ -1,5 +1,5 @@
 // What the ring of MINLIST rests on: its pair, its places, and the lines that it serves. The two hot functions over it are in
-// crates of their own, `minimum_line` and `maximum_line`, and keep the ring in their locals.
+// `min_max_line` and keep the ring in their locals.
 //
 // MINLIST: Richard Harter, "The minimum on a sliding window algorithm". The ring holds levels of the window, each with the cell
 // at which it dies, from the front, the least of the window, to the back, the cell read last.

@@ -1,4 +1,4 @@
-// Padding of grids: `pad` fills the rim, `pad_to` under Constant keeps what was lent there. The workers on padded grids stand in `pad_frame`, `pad_middle` and `pad_grid`.
+// Padding of grids: `pad` fills the rim, `pad_to` under Constant keeps what was lent there.
 ghost use Rattle.pad.specs.Rows.{PadRows};
 
 mod around;

@@ -1,5 +1,5 @@
 // Conditions 9 and 11 on the pads of a grid, and the judge of `pad` and `pad_to`: what both refuse, before anything
-// is stored. Condition 10 is `padded_count`'s.
+// is stored. Condition 10 stands in count.rt.
 ghost use mathlib.Core.Path.{_≡_};
 ghost use Rattle.numbers.specs.Refusal.{refusalOf};
 ghost use Rattle.pad_spec.specs.Conditions.{badConstant, badPadReachOn, badPadReach, padJudged};

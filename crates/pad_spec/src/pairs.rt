@@ -1,4 +1,4 @@
-// Padded grids as definitions: the pads of each axis, the level at each padded place, what `pad` and `pad_to` refuse. `pad_judge` judges, `pad_grid` fills.
+// The pads of an axis.
 ghost use mathlib.Core.Path.{_≡_};
 ghost use Rattle.pad_spec.specs.Pads.{pairOf};
 

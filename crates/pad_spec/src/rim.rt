@@ -1,5 +1,5 @@
-// What the padding modes fill the rims of a lane with, and condition 11 of a lane by padding's names. `lane_level` and
-// `lane_rims` fill a lane with a statistic of its cells, in the grid itself.
+// What the padding modes fill the rims of a lane with, and condition 11 of a lane by padding's names. `pad_statistic`
+// fills a lane with a statistic of its cells, in the grid itself.
 ghost use mathlib.Core.Path.{_≡_};
 ghost use mathlib.Core.List.{[]};
 ghost use Rattle.border.specs.Reach.{badPad};

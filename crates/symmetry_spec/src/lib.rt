@@ -1,5 +1,5 @@
 // The symmetry class of a kernel: whether its weights mirror each other around the middle one. Here are the definitions and their laws;
-// `symmetry_state` has the code.
+// `symmetry` has the code.
 ghost use Rattle.symmetry_spec.specs.Rows.{SymmetrySpecRows};
 
 pub enum SymmetryState {

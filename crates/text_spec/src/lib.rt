@@ -1,5 +1,5 @@
 // Whole numbers as text in ASCII: what a token is, and which digits a number has: the definitions and their laws.
-// `read_text` and `write_text` have the code.
+// `text` has the code.
 ghost use Rattle.text_spec.specs.Back.{ReadsBack};
 ghost use Rattle.text_spec.specs.Rows.{TextSpecRows};
 

@@ -1,4 +1,4 @@
--- `bad_levels` meets its contract: condition 3 of a level is the range that `level_range` asks about.
+-- `bad_levels` meets its contract: condition 3 of a level is the range that level_range.rt asks about.
 -- Assumes nothing.
 use borrow.Author.Needs.{needs}
 use Rattle.array_spec.specs.Conditions.{badLevel}

@@ -1,4 +1,4 @@
--- `kernel_judge::sides::bad_kernel` meets its contract: each return has the answers of the tests on its way, and the product is that of an accepted shape.
+-- `correlate_judge::kernel_sides::bad_kernel` meets its contract: each return has the answers of the tests on its way, and the product is that of an accepted shape.
 -- Assumes nothing.
 use mathlib.Core.Path.{_≡_, ap, _∙_}
 use mathlib.Core.Bool.{Bool}

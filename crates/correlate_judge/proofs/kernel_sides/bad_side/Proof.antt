@@ -1,4 +1,4 @@
--- `kernel_judge::sides::bad_side` meets its contract: each return has the answers of the tests on its way.
+-- `correlate_judge::kernel_sides::bad_side` meets its contract: each return has the answers of the tests on its way.
 -- Assumes nothing.
 use mathlib.Core.Path.{refl}
 use borrow.Author.Tests.{lt-ltb, le-ltb}

@@ -1,4 +1,4 @@
--- `kernel_judge::sides::bad_sides` meets its contract: no side before the one that the loop has reached is bad.
+-- `correlate_judge::kernel_sides::bad_sides` meets its contract: no side before the one that the loop has reached is bad.
 -- Assumes nothing.
 use Prim.Native.Nat.{_≤_, _-_}
 use mathlib.Core.Path.{_≡_, refl, sym}

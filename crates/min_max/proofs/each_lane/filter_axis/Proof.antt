@@ -1,4 +1,4 @@
--- `min_max1d::each_lane::filter_axis` meets its contract: neighbouring cells are 1 apart, and both ways leave the filtered lanes.
+-- `min_max::each_lane::filter_axis` meets its contract: neighbouring cells are 1 apart, and both ways leave the filtered lanes.
 -- Assumes nothing.
 use Rattle.pad_line.proofs.EveryLane.{stride-needs}
 use borrow.Author.Needs.{needs}

@@ -1,4 +1,4 @@
--- `min_max1d::each_lane::filter_columns` meets its contract: an axis of an accepted shape has at most 1,024 cells.
+-- `min_max::each_lane::filter_columns` meets its contract: an axis of an accepted shape has at most 1,024 cells.
 -- Assumes nothing.
 use mathlib.Core.Path.{sym, _∙_}
 use lib.Seq.{length-take-le}

@@ -1,4 +1,4 @@
--- `min_max1d::each_lane::filter_lane` meets its contract: the padded lane, filtered.
+-- `min_max::each_lane::filter_lane` meets its contract: the padded lane, filtered.
 -- Assumes nothing.
 use mathlib.Core.Path.{sym, subst}
 use mathlib.Core.List.{List}

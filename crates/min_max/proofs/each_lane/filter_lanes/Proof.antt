@@ -1,4 +1,4 @@
--- `min_max1d::each_lane::filter_lanes` meets its contract: the lanes below the one that the loop has reached are written.
+-- `min_max::each_lane::filter_lanes` meets its contract: the lanes below the one that the loop has reached are written.
 -- Assumes nothing.
 use Prim.Native.Nat.{_+_, _-_}
 use mathlib.Core.Path.{refl, sym, _∙_}

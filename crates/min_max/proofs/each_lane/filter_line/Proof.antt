@@ -1,4 +1,4 @@
--- `min_max1d::each_lane::filter_line` meets its contract: each arm calls the worker of its order.
+-- `min_max::each_lane::filter_line` meets its contract: each arm calls the worker of its order.
 -- Assumes nothing.
 use borrow.Author.Needs.{needs}
 use Rattle.min_max.proofs.each_lane.filter_line.Statement.{statement}

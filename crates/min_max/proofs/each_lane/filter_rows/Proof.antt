@@ -1,4 +1,4 @@
--- `min_max1d::each_lane::filter_rows` meets its contract: the lanes below the one that the loop has reached are written, each as a part of out.
+-- `min_max::each_lane::filter_rows` meets its contract: the lanes below the one that the loop has reached are written, each as a part of out.
 -- Assumes nothing.
 use Prim.Native.Nat.{_+_, _-_}
 use mathlib.Core.Path.{refl, sym, _∙_}

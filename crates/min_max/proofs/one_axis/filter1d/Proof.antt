@@ -1,4 +1,4 @@
--- `min_max1d::one_axis::filter1d` meets its contract: refused by the judge's number, or the answer of an accepted call.
+-- `min_max::one_axis::filter1d` meets its contract: refused by the judge's number, or the answer of an accepted call.
 -- Assumes nothing.
 use mathlib.Core.Path.{_≡_, ap, sym, _∙_}
 use denote.Ref.{now}

@@ -1,4 +1,4 @@
--- `min_max1d::one_axis::maximum_filter1d` meets its contract: the worker's, in the order of the greatest.
+-- `min_max::one_axis::maximum_filter1d` meets its contract: the worker's, in the order of the greatest.
 -- Assumes nothing.
 use mathlib.Core.Path.{_≡_}
 use mir.Syntax.{w64}

@@ -1,4 +1,4 @@
--- `min_max1d::one_axis::pass` meets its contract: a window of one cell copies, any other has the pads of its accepted origin.
+-- `min_max::one_axis::pass` meets its contract: a window of one cell copies, any other has the pads of its accepted origin.
 -- Assumes nothing.
 use Prim.Native.Nat.{_-_, _/_}
 use mathlib.Core.Path.{_≡_, ap, _∙_}

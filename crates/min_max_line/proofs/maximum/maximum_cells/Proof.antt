@@ -1,4 +1,4 @@
--- `maximum_cells` meets its contract, from minlist's laws at the order ≥: the ring covers the cells of the window, so its front is the greatest.
+-- `maximum_cells` meets its contract, from the ring's laws at the order ≥: the ring covers the cells of the window, so its front is the greatest.
 -- The answers stand in the order of the code; `search needs` closes the bounds of indexes and sums.
 -- Assumes nothing.
 use borrow.Author.Count.{falls-down}

@@ -1,4 +1,4 @@
--- `maximum_line` meets its contract: what minlist serves is filled by `maximum_windows`, all else stays.
+-- `maximum_line` meets its contract: what the ring serves is filled by `maximum_windows`, all else stays.
 -- Assumes nothing.
 use borrow.Author.Needs.{needs}
 use borrow.Author.Tests.{not-true, not-false}

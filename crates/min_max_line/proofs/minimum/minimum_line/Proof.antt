@@ -1,4 +1,4 @@
--- `minimum_line` meets its contract: what minlist serves is filled by `minimum_windows`, all else stays.
+-- `minimum_line` meets its contract: what the ring serves is filled by `minimum_windows`, all else stays.
 -- Assumes nothing.
 use borrow.Author.Needs.{needs}
 use borrow.Author.Tests.{not-true, not-false}

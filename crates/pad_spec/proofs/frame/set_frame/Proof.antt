@@ -1,4 +1,4 @@
--- `pad_frame::frame::set_frame` meets its contract: axis by axis, the pad before it and its padded length.
+-- `pad_spec::frame::set_frame` meets its contract: axis by axis, the pad before it and its padded length.
 -- Assumes nothing.
 use mathlib.Core.Path.{_≡_, ap, _∙_}
 use Prim.Native.Nat.{_+_, _-_, _≤_}
