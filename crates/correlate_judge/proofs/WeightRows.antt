@@ -2,6 +2,7 @@
 -- Assumes nothing.
 use mathlib.Core.Path.{refl}
 use Rattle.numbers.specs.Lists.{tabulate}
+use Rattle.array_spec.specs.Grid.{placeOf, coordinate}
 use Rattle.array_spec.specs.Conditions.{badShape, gridCount, badLevel}
 use Rattle.lanes.specs.Lanes.{laneAt, alongAxis}
 use Rattle.border.specs.Border.{cellFor, extendedLane}
@@ -13,7 +14,7 @@ use Rattle.correlate_judge.specs.Judge.{badWeight}
 use Rattle.correlate_judge.specs.WeightRows.{WeightRows}
 
 pub weight-rows : WeightRows
-unfolding badOrigin badShape gridCount badLevel badWeight tabulate laneAt alongAxis cellFor extendedLane paddedAt paddedLine summed correlatedBy
+unfolding badOrigin badShape gridCount badLevel badWeight tabulate laneAt alongAxis cellFor extendedLane paddedAt paddedLine summed correlatedBy placeOf coordinate
 weight-rows = record {
   counts = refl;
   weights = refl;

@@ -6,7 +6,9 @@
 --   withLane d n s l line g  the grid g with the line written to lane l
 --   laneInside n s l count   whether lane l is inside a grid of that many cells, of at most 32,768
 --   readLane d s l g line    what reading lane l leaves in the line: nothing changes where the lane is not inside
---   alongAxis d f ns a g     f on every lane of axis a of the grid g of shape ns
+--   laneThrough d ns a g k   the lane along axis a through the cell at place k of a grid g of shape ns: the cells that differ
+--                            from it in their coordinate on that axis alone
+--   alongAxis d f ns a g     f on every lane of axis a: each cell is the cell of f of its lane at its own coordinate
 --   lanesOf ns a             length, stride and number of the lanes of axis a; all 0 where condition 1 holds
 use Prim.Native.Nat.{ℕ, _+_, _-_, _*_, _/_, _%_}
 use mathlib.Core.Bool.{Bool, _&&_, cond}
@@ -15,7 +17,7 @@ use lib.Dec.{leb, ltb, eqb}
 use lib.ListN.{length, getD}
 use Rattle.numbers.specs.Limits.{mostPaddedCells}
 use Rattle.numbers.specs.Lists.{tabulate}
-use Rattle.array_spec.specs.Grid.{cellCount, lengthOf, strideOf}
+use Rattle.array_spec.specs.Grid.{cellCount, lengthOf, strideOf, coordinate, moved, levelAt}
 use Rattle.array_spec.specs.Conditions.{badShape}
 use Rattle.lanes.specs.declared.Lanes.{Lanes}
 
@@ -40,11 +42,11 @@ laneInside n s l count = leb count mostPaddedCells && leb 1 n && leb 1 s && leb 
 abbrev pub readLane : {A : Type 0} → A → ℕ → ℕ → List A → List A → List A
 readLane d s l g line = cond (laneInside (length line) s l (length g)) (lane d (length line) s l g) line
 
+abbrev pub laneThrough : {A : Type 0} → A → List ℕ → ℕ → List A → ℕ → List A
+laneThrough d ns a g k = tabulate (λ i. levelAt d ns g (moved a i (coordinate ns k))) 0 (lengthOf ns a)
+
 unfoldable pub alongAxis : {A : Type 0} → A → (List A → List A) → List ℕ → ℕ → List A → List A
-alongAxis d f ns a g =
-    let n = lengthOf ns a in
-    let s = strideOf ns a in
-    tabulate (λ k. getD (f (lane d n s (laneOf n s k) g)) (k / s % n) d) 0 (length g)
+alongAxis d f ns a g = tabulate (λ k. getD (f (laneThrough d ns a g k)) (coordinate ns k a) d) 0 (length g)
 
 abbrev pub lanesOf : List ℕ → ℕ → Lanes
 lanesOf ns a =

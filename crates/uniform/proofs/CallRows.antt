@@ -2,6 +2,7 @@
 -- Assumes nothing.
 use mathlib.Core.Path.{refl}
 use Rattle.numbers.specs.Lists.{tabulate}
+use Rattle.array_spec.specs.Grid.{placeOf, coordinate}
 use Rattle.array_spec.specs.Conditions.{badShape, gridCount, badLevel}
 use Rattle.lanes.specs.Lanes.{laneAt, alongAxis}
 use Rattle.border.specs.Border.{cellFor, extendedLane}
@@ -10,7 +11,7 @@ use Rattle.correlate_spec.specs.Weighed.{summed}
 use Rattle.uniform.specs.CallRows.{CallRows}
 
 pub call-rows : CallRows
-unfolding badShape gridCount badLevel tabulate laneAt alongAxis cellFor extendedLane paddedAt paddedLine summed
+unfolding badShape gridCount badLevel tabulate laneAt alongAxis cellFor extendedLane paddedAt paddedLine summed placeOf coordinate
 call-rows = record {
   t6-line = refl;
   t6-grid = refl;

@@ -2,6 +2,7 @@
 -- Assumes nothing.
 use mathlib.Core.Path.{refl}
 use Rattle.numbers.specs.Lists.{tabulate}
+use Rattle.array_spec.specs.Grid.{placeOf, coordinate}
 use Rattle.lanes.specs.Lanes.{laneAt, alongAxis}
 use Rattle.border.specs.Border.{cellFor, extendedLane}
 use Rattle.pad_line.specs.Line.{paddedAt, paddedLine}
@@ -9,5 +10,5 @@ use Rattle.correlate_spec.specs.Weighed.{summed}
 use Rattle.uniform.specs.LaneRows.{LaneRows}
 
 pub lane-rows : LaneRows
-unfolding tabulate laneAt alongAxis cellFor extendedLane paddedAt paddedLine summed
+unfolding tabulate laneAt alongAxis cellFor extendedLane paddedAt paddedLine summed placeOf coordinate
 lane-rows = record { mean = refl; down = refl }

@@ -2,6 +2,7 @@
 -- Assumes nothing.
 use mathlib.Core.Path.{refl}
 use Rattle.numbers.specs.Lists.{tabulate}
+use Rattle.array_spec.specs.Grid.{placeOf, coordinate}
 use Rattle.array_spec.specs.Conditions.{badShape, gridCount, badLevel}
 use Rattle.lanes.specs.Lanes.{laneAt, alongAxis}
 use Rattle.border.specs.Border.{cellFor, extendedLane}
@@ -13,7 +14,7 @@ use Rattle.gradient_spec.proofs.rows.Statement.{statement}
 use Rattle.gradient_spec.proofs.rows.Tie as tie
 
 returns : tie.Need-returns
-unfolding gradientTo correlatedBy summed alongAxis laneAt paddedLine paddedAt extendedLane cellFor tabulate badShape gridCount badLevel
+unfolding gradientTo correlatedBy summed alongAxis laneAt paddedLine paddedAt extendedLane cellFor tabulate badShape gridCount badLevel placeOf coordinate
 returns c = record {
   weights = (record { three = refl; small = refl }, record { three = refl; small = refl }, record { three = refl; small = refl });
   t7-nearest = refl;

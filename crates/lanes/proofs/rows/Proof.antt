@@ -2,13 +2,14 @@
 -- Assumes nothing.
 use mathlib.Core.Path.{refl}
 use Rattle.numbers.specs.Lists.{tabulate}
+use Rattle.array_spec.specs.Grid.{placeOf, coordinate}
 use Rattle.array_spec.specs.Conditions.{badShape}
 use Rattle.lanes.specs.Lanes.{laneAt, withLane, laneInside, alongAxis}
 use Rattle.lanes.proofs.rows.Statement.{statement}
 use Rattle.lanes.proofs.rows.Tie as tie
 
 returns : tie.Need-returns
-unfolding tabulate badShape laneAt withLane laneInside alongAxis
+unfolding tabulate badShape laneAt withLane laneInside alongAxis placeOf coordinate
 returns c = record {
   lanes-down = refl;
   lanes-across = refl;
@@ -20,6 +21,8 @@ returns c = record {
   insides = refl;
   read-in = refl;
   read-out = refl;
+  through = refl;
+  turned-middle = refl;
   turned-down = refl;
   turned-across = refl;
   turned-both = refl;
