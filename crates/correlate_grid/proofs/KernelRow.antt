@@ -1,16 +1,15 @@
 -- One kernel row on a row of the grid: its weights are a part of the kernel's, the row that it reads is in the grid, and the sums of the padded row are added.
 -- Assumes nothing.
-use mathlib.Core.Path.{_≡_, refl, ap, _∙_}
-use mathlib.Core.Bool.{Bool, false}
-use mathlib.Core.List.{List, [], _∷_}
-use Prim.Native.Nat.{ℕ, zero, suc, _+_, _-_, _*_, _≤_, _<_}
+use mathlib.Core.Path.{_≡_, ap, _∙_}
+use mathlib.Core.List.{List}
+use Prim.Native.Nat.{ℕ, _+_, _-_, _*_, _≤_, _<_}
 use native.Mathlib.Nat.{mul-le-mul, le-refl}
 use native.Mathlib.Omega.{arith}
 use lib.IntN.{ℤ, pos, _+ℤ_, _*ℤ_}
 use lib.ListN.{length, getD, take, drop, length-take, length-drop}
 use lib.Seq.{getD-take, getD-drop}
-use Rattle.numbers.specs.Lists.{tabulate, anyOf}
-use Rattle.numbers.proofs.Tests.{or-false, or-no}
+use Rattle.numbers.specs.Lists.{tabulate}
+use Rattle.numbers.proofs.Any.{any-none, none-any, every-drop, every-take}
 use Rattle.numbers.proofs.Tabulate.{tabulate-agree}
 use Rattle.lanes.proofs.Cells.{step-le}
 use Rattle.border.specs.Border.{Border}
@@ -21,17 +20,6 @@ use Rattle.correlate_grid.specs.declared.axes.Axis.{Axis}
 use Rattle.correlate_grid.specs.Axes.{KernelNeeds}
 use Rattle.correlate_grid.specs.ByRows.{rowLine, lineSum, Reading}
 use Rattle.correlate_grid.proofs.RowLine.{row-weighable}
-
--- ---- a test that fails of a list fails of its parts
-any-drop : {A : Type 0} (t : A → Bool) (s : List A) (k : ℕ) → anyOf t s ≡ false → anyOf t (drop k s) ≡ false
-any-drop t s zero e = e
-any-drop t [] (suc k) e = refl
-any-drop t (x ∷ s) (suc k) e = any-drop t s k (or-false (t x) (anyOf t s) e .1)
-
-any-take : {A : Type 0} (t : A → Bool) (s : List A) (k : ℕ) → anyOf t s ≡ false → anyOf t (take k s) ≡ false
-any-take t s zero e = refl
-any-take t [] (suc k) e = refl
-any-take t (x ∷ s) (suc k) e = let p = or-false (t x) (anyOf t s) e in or-no (t x) (anyOf t (take k s)) (p .0) (any-take t s k (p .1))
 
 -- ---- how many rows and weights there are
 pub side-few : (a : Axis) → a .side ≤ a .left + a .right + 1 → a .left + a .right ≤ 7 → a .side ≤ 8
@@ -70,7 +58,7 @@ module _ {b : Border ℤ} {x y z : Axis} {w cells : List ℤ} (L : KernelNeeds b
       row-addable = record {
         line =
             row-weighable L (x .len * y .len) row weightsOf s (length out) weights-many
-            (any-take _ (drop (q * z .side) w) (q * z .side + z .side - q * z .side) (any-drop _ w (q * z .side) (L .weights))) e (R .out-long);
+            (none-any _ weightsOf (every-take _ (drop (q * z .side) w) (q * z .side + z .side - q * z .side) (every-drop _ w (q * z .side) (any-none _ w (L .weights))))) e (R .out-long);
         small = R .small;
       }
 

@@ -1,6 +1,6 @@
 -- One turn of the loop that sets a row to where its sums start, on the machine: the sum of the window, times by, is taken from the base; each step fits 64 bits.
 -- Assumes nothing.
-use Prim.Native.Nat.{ℕ, _+_, _-_, _*_, _^_, _≤_}
+use Prim.Native.Nat.{ℕ, _+_, _-_, _*_, _^_, _≤_, _<_}
 use mathlib.Core.Path.{_≡_, sym, ap, _∙_}
 use mathlib.Core.List.{List}
 use native.Mathlib.Omega.{arith}
@@ -10,7 +10,7 @@ use Rattle.numbers.specs.Lists.{tabulate, Every}
 use Rattle.numbers.proofs.Size.{Size, Sized, size-add, size-neg, size-mul, size-le, member-sized, tested-sized}
 use Rattle.correlate_spec.specs.WindowSum.{windowSum}
 use Rattle.correlate_spec.proofs.Sliding.{sum-enters, sum-size}
-use Rattle.correlate_spec.specs.Sizes.{LineSumNeeds, SumNeeds}
+use Rattle.correlate_spec.specs.Sizes.{LineSumNeeds}
 use Rattle.correlate_line.specs.Narrow.{Raised, Narrow}
 use Rattle.correlate_line.specs.Raised.{raisedBase, raisedStart, Liftable, RaiseNeeds}
 use Rattle.correlate_spec.proofs.Computed.{read, Computed, size-pos, computed-level, computed-read, computed}
@@ -28,9 +28,6 @@ raisable-kept e A = raisable e (A .weighable) (A .cells) (A .low, A .weights)
 module _ {by : ℕ} {w s : List ℤ} {n : ℕ} (A : RaiseNeeds by w s n) where
   pub liftable : Liftable by w
   liftable = record { few = A .weighable .few; weights = A .weighable .weights; low = A .low }
-
-  pub first-summable : SumNeeds s (length w - 1)
-  first-summable = record { few = omega (arith, A .weighable .few); long = omega (arith, A .weighable .some, A .weighable .long); cells = A .weighable .cells }
 
   sized : Sized (2 ^ 38) s
   sized = tested-sized (2 ^ 38) s (A .weighable .cells)
@@ -63,8 +60,8 @@ module _ {by : ℕ} {w s : List ℤ} {n : ℕ} (A : RaiseNeeds by w s n) where
         → Computed (read base -ℤ read (read (t +ℤ read (getD s m (pos 0))) *ℤ read (pos by))) (raisedBase by w -ℤ (windowSum s (length w - 1) i +ℤ getD s m (pos 0)) *ℤ pos by)
     lowered m = computed _-ℤ_ base-held (times-computed m) (size-add (base-small liftable) (size-neg (total-small i m))) (omega arith)
 
-    pub lowered-read : read (read base -ℤ read (read (t +ℤ read (getD s (i + (length w - 1)) (pos 0))) *ℤ read (pos by))) ≡ raisedStart by w s i
-    lowered-read = computed-read (lowered (i + (length w - 1))) ∙ ap (λ (x : ℤ). raisedBase by w -ℤ x *ℤ pos by) (sum-enters s (length w - 1) i ∙ ap (λ k. windowSum s k i) whole)
+    pub lowered-read : i < n → read (read base -ℤ read (read (t +ℤ read (getD s (i + (length w - 1)) (pos 0))) *ℤ read (pos by))) ≡ raisedStart by w s i
+    lowered-read h = computed-read (lowered (i + (length w - 1))) ∙ ap (λ (x : ℤ). raisedBase by w -ℤ x *ℤ pos by) (sum-enters s (length w - 1) i (omega (arith, A .weighable .some, A .weighable .long)) ∙ ap (λ k. windowSum s k i) whole)
       where
         whole : length w - 1 + 1 ≡ length w
         whole = omega (arith, A .weighable .some)

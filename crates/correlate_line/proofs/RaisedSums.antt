@@ -1,19 +1,21 @@
 -- The sum of the raised terms, from where it starts, is the plain sum: what raising adds is what the start takes away.
 -- Assumes nothing.
-use Prim.Native.Nat.{ℕ, _+_}
+use Prim.Native.Nat.{ℕ, _+_, _≤_}
 use mathlib.Core.Path.{_≡_, sym, ap, subst, _∙_}
 use mathlib.Core.List.{List}
-use native.Mathlib.Nat.{zero-add}
+use native.Mathlib.Omega.{arith}
 use lib.IntN.{ℤ, pos, negℤ, _+ℤ_, _-ℤ_, _*ℤ_, *ℤ-comm, +ℤ-assoc, +ℤ-comm, +ℤ-idl, negℤ-+ℤ, +ℤ-negℤ-cancel}
 use lib.ListN.{length, getD}
 use Rattle.numbers.specs.Lists.{tabulate}
-use Rattle.numbers.proofs.Tabulate.{length-tabulate}
+use Rattle.numbers.specs.Sums.{sumOf}
+use Rattle.numbers.proofs.Tabulate.{length-tabulate, tabulate-agree}
 use Rattle.numbers.proofs.IntProduct.{*ℤ-distrib-right, *ℤ-distrib-left}
 use Rattle.correlate_spec.specs.Weighed.{summed, wholeOps, plainAt}
 use Rattle.correlate_spec.specs.WindowSum.{windowSum}
 use Rattle.correlate_spec.proofs.Along.{Row, row-start, row-end}
 use Rattle.correlate_spec.proofs.Folded.{start-moved}
 use Rattle.correlate_spec.proofs.Linear.{summed-plus, summed-times, summed-same}
+use Rattle.correlate_spec.proofs.Sliding.{sum-places, window-places}
 use Rattle.correlate_spec.proofs.Summed.{summed-agree}
 use Rattle.correlate_line.specs.Raised.{raisedStart, raisedTerm, raisedTo, RaiseNeeds}
 use Rattle.correlate_line.proofs.RaisedStart.{raisable-kept}
@@ -40,12 +42,12 @@ taken p c d = ap (λ (z : ℤ). p +ℤ (c +ℤ d) +ℤ z) (ap (λ (z : ℤ). z -
 
 -- ---- a line and its weights
 module _ (by : ℕ) (w s : List ℤ) where
-  pub raised-plain : (i : ℕ) → raisedTo by w s (length w) i ≡ plainAt wholeOps w s i
-  raised-plain i =
+  pub raised-plain : (i : ℕ) → i + length w ≤ length s → raisedTo by w s (length w) i ≡ plainAt wholeOps w s i
+  raised-plain i h =
       ap (λ (z : ℤ). summed _+ℤ_ z (raisedTerm by w s i) (length w)) (sym (+ℤ-idl (raisedStart by w s i)))
       ∙ start-moved (pos 0) (raisedStart by w s i) (raisedTerm by w s i) (length w)
-      ∙ ap (λ (z : ℤ). z +ℤ raisedStart by w s i) (raised-sum cell weight (pos by) (pos 2147483648) (length w) ∙ weights-from-zero)
-      ∙ taken (plainAt wholeOps w s i) (windowSum s (length w) i *ℤ pos by) ((windowSum w (length w) 0 +ℤ pos (length w) *ℤ pos by) *ℤ pos 2147483648)
+      ∙ ap (λ (z : ℤ). z +ℤ raisedStart by w s i) (raised-sum cell weight (pos by) (pos 2147483648) (length w) ∙ by-windows)
+      ∙ taken (plainAt wholeOps w s i) (windowSum s (length w) i *ℤ pos by) ((sumOf w +ℤ pos (length w) *ℤ pos by) *ℤ pos 2147483648)
     where
       cell : ℕ → ℤ
       cell j = getD s (i + j) (pos 0)
@@ -53,18 +55,18 @@ module _ (by : ℕ) (w s : List ℤ) where
       weight : ℕ → ℤ
       weight j = getD w j (pos 0)
 
-      weights-from-zero : plainAt wholeOps w s i +ℤ (windowSum s (length w) i *ℤ pos by +ℤ (Σ weight (length w) +ℤ pos (length w) *ℤ pos by) *ℤ pos 2147483648)
-          ≡ plainAt wholeOps w s i +ℤ (windowSum s (length w) i *ℤ pos by +ℤ (windowSum w (length w) 0 +ℤ pos (length w) *ℤ pos by) *ℤ pos 2147483648)
-      weights-from-zero =
-          ap (λ (z : ℤ). plainAt wholeOps w s i +ℤ (windowSum s (length w) i *ℤ pos by +ℤ (z +ℤ pos (length w) *ℤ pos by) *ℤ pos 2147483648))
-          (summed-agree _+ℤ_ (pos 0) weight (λ j. getD w (0 + j) (pos 0)) (length w) (λ j h. ap (λ k. getD w k (pos 0)) (sym (zero-add j))))
+      by-windows : plainAt wholeOps w s i +ℤ (Σ cell (length w) *ℤ pos by +ℤ (Σ weight (length w) +ℤ pos (length w) *ℤ pos by) *ℤ pos 2147483648)
+          ≡ plainAt wholeOps w s i +ℤ (windowSum s (length w) i *ℤ pos by +ℤ (sumOf w +ℤ pos (length w) *ℤ pos by) *ℤ pos 2147483648)
+      by-windows t = plainAt wholeOps w s i +ℤ (sym (window-places s (length w) i h) t *ℤ pos by +ℤ (sym (sum-places w) t +ℤ pos (length w) *ℤ pos by) *ℤ pos 2147483648)
 
   -- the row that the loop over the weights begins with, and the row that it ends with
   pub raised-begin : (n : ℕ) {l : List ℤ} → l ≡ tabulate (raisedStart by w s) 0 n → Row (raisedTo by w s 0) (length l) l
   raised-begin n e = row-start _+ℤ_ (raisedStart by w s) (raisedTerm by w s) n e
 
-  pub raised-end : {j n m : ℕ} {l : List ℤ} → Row (raisedTo by w s j) n l → j ≡ length w → n ≡ m → l ≡ tabulate (plainAt wholeOps w s) 0 m
-  raised-end {m = m} r p q = row-end _+ℤ_ (raisedStart by w s) (raisedTerm by w s) r p q ∙ ap (λ (g : ℕ → ℤ). tabulate g 0 m) (λ t i. raised-plain i t)
+  pub raised-end : {j n m : ℕ} {l : List ℤ} → RaiseNeeds by w s m → Row (raisedTo by w s j) n l → j ≡ length w → n ≡ m → l ≡ tabulate (plainAt wholeOps w s) 0 m
+  raised-end {m = m} A r p q =
+      row-end _+ℤ_ (raisedStart by w s) (raisedTerm by w s) r p q
+      ∙ tabulate-agree (raisedTo by w s (length w)) (plainAt wholeOps w s) 0 m (λ i h. raised-plain (0 + i) (omega (arith, A .weighable .some, A .weighable .long)))
 
 -- ---- the row of starts is made of a line s, which is then known as t
 module _ {by : ℕ} {w s t out : List ℤ} {n : ℕ} (e : t ≡ s) (A : RaiseNeeds by w s n) (p : out ≡ tabulate (raisedStart by w s) 0 n) where

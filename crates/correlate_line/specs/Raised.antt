@@ -15,13 +15,14 @@ use lib.ListN.{length, getD}
 use Rattle.numbers.specs.Limits.{largestWeight, longestWindow}
 use Rattle.numbers.specs.Lists.{anyOf, Every}
 use Rattle.numbers.specs.Ranges.{over}
+use Rattle.numbers.specs.Sums.{sumOf}
 use Rattle.correlate_spec.specs.Weighed.{summed}
 use Rattle.correlate_spec.specs.WindowSum.{windowSum}
 use Rattle.correlate_spec.specs.Sizes.{LineSumNeeds}
 use Rattle.correlate_line.specs.Narrow.{Raised, Narrow}
 
 abbrev pub raisedBase : ℕ → List ℤ → ℤ
-raisedBase by w = pos 0 -ℤ (windowSum w (length w) 0 +ℤ pos (length w) *ℤ pos by) *ℤ pos 2147483648
+raisedBase by w = pos 0 -ℤ (sumOf w +ℤ pos (length w) *ℤ pos by) *ℤ pos 2147483648
 
 abbrev pub raisedStart : ℕ → List ℤ → List ℤ → ℕ → ℤ
 raisedStart by w s i = raisedBase by w -ℤ windowSum s (length w) i *ℤ pos by

@@ -15,10 +15,10 @@ mod plain;
 mod raised;
 mod raised_start;
 mod raised_terms;
-mod start;
+mod sums;
 
 pub use plain::add_line;
-pub use start::first_sum;
+pub use sums::sum_of;
 
 // Sets each cell of out to the weighted sum of its window of the padded line. From five weights on, raising them and the line pays; what the line then holds is of no use.
 pub fn correlate_line(weights: &[i64], line: &mut [i64], out: &mut [i64])

@@ -3,7 +3,8 @@ ghost use mathlib.Core.Path.{_≡_};
 ghost use lib.ListN.{length};
 ghost use Rattle.numbers.specs.Lists.{tabulate};
 ghost use Rattle.correlate_line.specs.Raised.{raisedBase, raisedStart, Liftable, RaiseNeeds};
-use crate::start::first_sum;
+use crate::sums::sum_of;
+use window::window;
 
 // What raising the cells adds to a sum, taken from 0.
 fn base_of(weights: &[i64], by: u32) -> i64
@@ -11,7 +12,7 @@ fn base_of(weights: &[i64], by: u32) -> i64
     ensures { λ r. ⌜ r ≡ raisedBase by (now (weights .entry)) ⌝ }
 {
     let n = weights.len();
-    let sum = first_sum(weights, n) + (n as i64) * (by as i64);
+    let sum = sum_of(weights) + (n as i64) * (by as i64);
     0 - sum * 2147483648
 }
 
@@ -34,7 +35,7 @@ fn lower_row(weights: &[i64], line: &[i64], by: u32, base: i64, out: &mut [i64])
 {
     let times = by as i64;
     let before = weights.len() - 1;
-    let mut sum = first_sum(line, before);
+    let mut sum = sum_of(window(line, 0, before));
     let n = out.len();
     let mut i = 0;
     while i < n {

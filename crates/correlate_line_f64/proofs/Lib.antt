@@ -1,4 +1,5 @@
--- Laws of the loops that take four weights a pass.
+-- Laws of the loops along a row.
+pub mod Parts
 pub mod Turns
 pub mod JoinedAs
 pub mod PairTurns

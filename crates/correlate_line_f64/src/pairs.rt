@@ -7,6 +7,7 @@ ghost use Rattle.correlate_spec.specs.Weighed.{floatOps, cellTerm, pairsTo, pai
 ghost use Rattle.correlate_spec.specs.Lengths.{Windows};
 ghost use Rattle.correlate_spec.specs.Joined.{joinedBy};
 use crate::terms::pair_term;
+use window::window_f64;
 
 // Sets every cell to cell j of its window times weight j.
 fn set_row(weights: &[f64], line: &[f64], j: usize, out: &mut [f64])
@@ -15,9 +16,10 @@ fn set_row(weights: &[f64], line: &[f64], j: usize, out: &mut [f64])
 {
     let weight = weights[j];
     let n = out.len();
+    let cells = window_f64(line, j, n); // cell j of every window, one after the other
     let mut i = 0;
     while i < n {
-        out[i] = line[i + j] * weight;
+        out[i] = cells[i] * weight;
         i += 1;
     }
 }

@@ -7,7 +7,7 @@
 use Prim.Native.Nat.{ℕ}
 use mathlib.Core.Path.{_≡_}
 use mathlib.Core.Bool.{true, false}
-use mathlib.Core.List.{List, [], _∷_}
+use mathlib.Core.List.{List, [], _∷_, map}
 use lib.Ieee.{Float, fin}
 use lib.IntN.{ℤ, pos, negsuc}
 use lib.ListN.{getD}
@@ -16,6 +16,7 @@ use Rattle.border.specs.declared.CellBorder.the-variants.{Nearest}
 use Rattle.numbers.specs.Rows.{wholes, minus}
 use Rattle.symmetry_spec.specs.declared.SymmetryState.the-variants.{NonSymmetric, Symmetric, AntiSymmetric}
 use Rattle.correlate_spec.specs.Weighed.{wholeOps, floatOps, weighedAt, weighedLine}
+use Rattle.correlate_spec.specs.WindowSum.{windowSum}
 use Rattle.correlate_spec.specs.Correlated.{correlate1dZ, convolve1dZ, correlate1dF, convolve1dF}
 use Rattle.correlate_spec.specs.Kernel.{sidesOf, sideOf, correlateZ, convolveZ}
 use Rattle.window.specs.Window.{kernelLeft, kernelRight}
@@ -41,6 +42,8 @@ nearly = one ∷ fin false 1 (pos 1) ∷ fin false 4503599627370497 (negsuc 51) 
 pub record CorrelateSpecRows : Type 0 where
   -- the line of T2, padded with the nearest cell
   pub padded : line (1 ∷ 2 ∷ 3 ∷ []) (1 ∷ 1 ∷ 2 ∷ 3 ∷ 3 ∷ []) 3 ≡ wholes (9 ∷ 14 ∷ 17 ∷ [])
+  -- windows of three cells of 1 2 4 8: the first, the last, and one that passes the end
+  pub window-sums : map (windowSum (wholes (1 ∷ 2 ∷ 4 ∷ 8 ∷ [])) 3) (0 ∷ 1 ∷ 2 ∷ []) ≡ wholes (7 ∷ 14 ∷ 0 ∷ [])
   -- the three ways of summing: 1 2 1 and −1 5 1 on 3 7 4
   pub symmetric : weighedAt wholeOps Symmetric (wholes (1 ∷ 2 ∷ 1 ∷ [])) (wholes (3 ∷ 7 ∷ 4 ∷ [])) 0 ≡ pos 21
   pub anti : weighedAt wholeOps AntiSymmetric (minus 1 ∷ pos 5 ∷ pos 1 ∷ []) (wholes (3 ∷ 7 ∷ 4 ∷ [])) 0 ≡ pos 36

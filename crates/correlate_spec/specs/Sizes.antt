@@ -1,6 +1,6 @@
 -- How large the cells and weights of a line may be, so that no sum leaves 64 bits: cells up to 2^38, weights up to 65,535, at most 65 of them.
 --   LineSumNeeds w s n    the weights w and the padded line s of n cells are so
---   SumNeeds s count   the first count cells of s are so
+--   SumNeeds s         the cells of s, at most 65, are so
 use Prim.Native.Nat.{ℕ, _+_, _-_, _^_, _≤_, _<_}
 use mathlib.Core.Path.{_≡_}
 use mathlib.Core.Bool.{false}
@@ -19,7 +19,6 @@ pub record LineSumNeeds (w s : List ℤ) (n : ℕ) : Type 0 where
   pub weights : anyOf (over largestWeight) w ≡ false
   pub cells : anyOf (over largestBetween) s ≡ false
 
-pub record SumNeeds (s : List ℤ) (count : ℕ) : Type 0 where
-  pub few : count ≤ longestWindow
-  pub long : count ≤ length s
+pub record SumNeeds (s : List ℤ) : Type 0 where
+  pub few : length s ≤ longestWindow
   pub cells : anyOf (over largestBetween) s ≡ false

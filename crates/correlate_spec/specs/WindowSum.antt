@@ -1,10 +1,10 @@
--- The sum of a window of whole numbers. s is a padded line; the window of cell i is its cells from place i on, size of them.
---   windowSum s size i   the sum of the window of cell i
-use Prim.Native.Nat.{ℕ, _+_}
+-- The sum of a window of whole numbers. s is a padded line.
+--   windowSum s size i   the sum of the window of cell i, which has size cells; 0 where it passes the end of s
+use Prim.Native.Nat.{ℕ}
 use mathlib.Core.List.{List}
-use lib.IntN.{ℤ, pos, _+ℤ_}
-use lib.ListN.{getD}
-use Rattle.correlate_spec.specs.Weighed.{summed}
+use lib.IntN.{ℤ}
+use Rattle.numbers.specs.Sums.{sumOf}
+use Rattle.numbers.specs.Windows.{windowOf}
 
 abbrev pub windowSum : List ℤ → ℕ → ℕ → ℤ
-windowSum s size i = summed _+ℤ_ (pos 0) (λ j. getD s (i + j) (pos 0)) size
+windowSum s size i = sumOf (windowOf s i size)

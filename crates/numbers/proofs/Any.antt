@@ -6,7 +6,7 @@ use mathlib.Core.Bool.{Bool, true, false, _&&_, _||_}
 use mathlib.Core.List.{List, [], _∷_, _++_, map, reverseAux, reverse, List·Memᴰ, List·Memᴰ·head, List·Memᴰ·tail}
 use native.Mathlib.Nat.{not-suc-le-zero, le-of-suc-le-suc}
 use native.Mathlib.Numerals.{add-one}
-use lib.ListN.{length, getD, drop, drop-of-length-le}
+use lib.ListN.{length, getD, take, drop, drop-of-length-le}
 use lib.Seq.{drop-cons}
 use Rattle.numbers.proofs.Tests.{or-false, or-no, or-assoc}
 use Rattle.numbers.specs.Lists.{anyOf, Every}
@@ -77,3 +77,14 @@ every-map P f (x ∷ xs) h = (h .0, every-map P f xs (h .1))
 pub every-mem : {A : Type 0} (P : A → Type 0) (s : List A) → ((x : A) → List·Memᴰ x s → P x) → Every P s
 every-mem P [] f = tt
 every-mem P (x ∷ xs) f = (f x (List·Memᴰ·head refl), every-mem P xs (λ y m. f y (List·Memᴰ·tail m)))
+
+-- every member of a part
+pub every-drop : {A : Type 0} (P : A → Type 0) (s : List A) (k : ℕ) → Every P s → Every P (drop k s)
+every-drop P s zero h = h
+every-drop P [] (suc k) h = tt
+every-drop P (x ∷ xs) (suc k) h = every-drop P xs k (h .1)
+
+pub every-take : {A : Type 0} (P : A → Type 0) (s : List A) (k : ℕ) → Every P s → Every P (take k s)
+every-take P s zero h = tt
+every-take P [] (suc k) h = tt
+every-take P (x ∷ xs) (suc k) h = (h .0, every-take P xs k (h .1))

@@ -2,16 +2,16 @@
 -- Assumes nothing.
 use mathlib.Core.Path.{refl}
 use Rattle.numbers.specs.Lists.{tabulate}
+use Rattle.numbers.specs.Windows.{windowOf}
 use Rattle.array_spec.specs.Grid.{placeOf, coordinate}
 use Rattle.array_spec.specs.Conditions.{badShape, gridCount, badLevel}
 use Rattle.lanes.specs.Lanes.{laneAt, alongAxis}
 use Rattle.border.specs.Border.{cellFor, extendedLane}
 use Rattle.pad_line.specs.Line.{paddedAt, paddedLine}
-use Rattle.correlate_spec.specs.Weighed.{summed}
 use Rattle.uniform.specs.CallRows.{CallRows}
 
 pub call-rows : CallRows
-unfolding badShape gridCount badLevel tabulate laneAt alongAxis cellFor extendedLane paddedAt paddedLine summed placeOf coordinate
+unfolding badShape gridCount badLevel tabulate windowOf laneAt alongAxis cellFor extendedLane paddedAt paddedLine placeOf coordinate
 call-rows = record {
   t6-line = refl;
   t6-grid = refl;

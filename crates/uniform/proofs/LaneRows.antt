@@ -2,13 +2,13 @@
 -- Assumes nothing.
 use mathlib.Core.Path.{refl}
 use Rattle.numbers.specs.Lists.{tabulate}
+use Rattle.numbers.specs.Windows.{windowOf}
 use Rattle.array_spec.specs.Grid.{placeOf, coordinate}
 use Rattle.lanes.specs.Lanes.{laneAt, alongAxis}
 use Rattle.border.specs.Border.{cellFor, extendedLane}
 use Rattle.pad_line.specs.Line.{paddedAt, paddedLine}
-use Rattle.correlate_spec.specs.Weighed.{summed}
 use Rattle.uniform.specs.LaneRows.{LaneRows}
 
 pub lane-rows : LaneRows
-unfolding tabulate laneAt alongAxis cellFor extendedLane paddedAt paddedLine summed placeOf coordinate
+unfolding tabulate windowOf laneAt alongAxis cellFor extendedLane paddedAt paddedLine placeOf coordinate
 lane-rows = record { mean = refl; down = refl }

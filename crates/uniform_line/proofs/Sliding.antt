@@ -1,5 +1,5 @@
 -- What a line that is averaged gives the loop of the running sum. Assumes nothing.
-use Prim.Native.Nat.{ℕ, _+_, _-_, _^_}
+use Prim.Native.Nat.{ℕ, _+_, _-_, _^_, _<_}
 use mathlib.Core.Path.{_≡_, ap, _∙_}
 use mathlib.Core.Bool.{false}
 use mathlib.Core.List.{List}
@@ -12,7 +12,6 @@ use Rattle.numbers.proofs.Any.{none-any, every-imp}
 use Rattle.numbers.proofs.Size.{Size, size-le, inside-sized}
 use Rattle.array_spec.proofs.Judged.{levels-sized}
 use Rattle.correlate_spec.specs.WindowSum.{windowSum}
-use Rattle.correlate_spec.specs.Sizes.{SumNeeds}
 use Rattle.correlate_spec.proofs.Computed.{read}
 use Rattle.correlate_spec.proofs.SlidingSum.{total-read}
 use Rattle.uniform_spec.specs.Mean.{cut, MeanLineNeeds}
@@ -22,11 +21,8 @@ module _ {s : List ℤ} {size n : ℕ} (A : MeanLineNeeds s size n) where
   pub cells : anyOf (outsideZ (negℤ (pos (2 ^ 38))) (pos (2 ^ 38))) s ≡ false
   cells = none-any _ s (every-imp (λ x. Size x 2147483647) _ s (λ x h. inside-sized (2 ^ 38) x (size-le h (omega arith))) (levels-sized s (A .levels)))
 
-  pub first-summable : SumNeeds s (size - 1)
-  first-summable = record { few = omega (arith, A .few); long = omega (arith, A .some, A .long); cells = cells }
-
-  pub mean-read : {t : ℤ} (i : ℕ) → t ≡ windowSum s (size - 1) i → cut (read (t +ℤ read (getD s (i + (size - 1)) (pos 0)))) size ≡ cut (windowSum s size i) size
-  mean-read i held = ap (λ (x : ℤ). cut x size) (total-read s cells (size - 1) i (omega (arith, A .few)) held ∙ ap (λ k. windowSum s k i) whole)
+  pub mean-read : {t : ℤ} (i : ℕ) → i < n → t ≡ windowSum s (size - 1) i → cut (read (t +ℤ read (getD s (i + (size - 1)) (pos 0)))) size ≡ cut (windowSum s size i) size
+  mean-read i h held = ap (λ (x : ℤ). cut x size) (total-read s cells (size - 1) i (omega (arith, A .few)) held (omega (arith, A .some, A .long)) ∙ ap (λ k. windowSum s k i) whole)
     where
       whole : size - 1 + 1 ≡ size
       whole = omega (arith, A .some)

@@ -8,7 +8,8 @@ ghost use lib.ListN.{length};
 ghost use Rattle.numbers.specs.Ranges.{outsideZ};
 ghost use Rattle.lanes.specs.Lanes.{laneBase, withLane};
 ghost use Rattle.uniform_spec.specs.Mean.{cut, means, MeanLineNeeds};
-use correlate_line::first_sum;
+use correlate_line::sum_of;
+use window::window;
 
 // The sum of a window over the number of its cells, cut toward zero.
 fn cut_wide(total: i64, size: usize) -> i64
@@ -55,7 +56,7 @@ pub fn uniform_lane(
     ensures { λ _. ⌜ now (out .exit) ≡ withLane (pos 0) n stride lane (means (now (line .entry)) size n) (now (out .entry)) ⌝ }
 {
     let before = size - 1;
-    let mut sum = first_sum(line, before);
+    let mut sum = sum_of(window(line, 0, before));
     let mut i = 0;
     while i < n {
         let total = sum + line[i + before];

@@ -2,9 +2,9 @@
 -- Assumes nothing.
 use mathlib.Core.Path.{refl}
 use Rattle.numbers.specs.Lists.{tabulate}
-use Rattle.correlate_spec.specs.Weighed.{summed}
+use Rattle.numbers.specs.Windows.{windowOf}
 use Rattle.uniform_spec.specs.MeanRows.{MeanRows}
 
 pub mean-rows : MeanRows
-unfolding tabulate summed
-mean-rows = record { sums = refl; cuts = refl; t6 = refl; alone = refl }
+unfolding tabulate windowOf
+mean-rows = record { cuts = refl; t6 = refl; alone = refl }

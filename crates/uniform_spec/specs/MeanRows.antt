@@ -3,13 +3,10 @@
 use mathlib.Core.Path.{_≡_}
 use mathlib.Core.List.{[], _∷_}
 use lib.IntN.{pos}
-use Rattle.numbers.specs.Rows.{wholes, minus}
-use Rattle.correlate_spec.specs.WindowSum.{windowSum}
+use Rattle.numbers.specs.Rows.{minus}
 use Rattle.uniform_spec.specs.Mean.{cut, means}
 
 pub record MeanRows : Type 0 where
-  -- the windows of three cells of 1 2 4 8
-  pub sums : windowSum (wholes (1 ∷ 2 ∷ 4 ∷ 8 ∷ [])) 3 0 ∷ windowSum (wholes (1 ∷ 2 ∷ 4 ∷ 8 ∷ [])) 3 1 ∷ [] ≡ wholes (7 ∷ 14 ∷ [])
   -- cut toward zero: 3, −3, −1 over 2 and −6 over 3
   pub cuts : cut (pos 3) 2 ∷ cut (minus 3) 2 ∷ cut (minus 1) 2 ∷ cut (minus 6) 3 ∷ [] ≡ pos 1 ∷ minus 1 ∷ pos 0 ∷ minus 2 ∷ []
   -- the padded line of T6, 0 −1 −2 −4 0, in windows of three; a window of one cell is the cell

@@ -3,6 +3,7 @@
 use mathlib.Core.Path.{refl}
 use lib.Ieee.{add, sub, mul, lt}
 use Rattle.numbers.specs.Lists.{tabulate}
+use Rattle.numbers.specs.Windows.{windowOf}
 use Rattle.array_spec.specs.Grid.{placeOf, coordinate}
 use Rattle.lanes.specs.Lanes.{laneAt, alongAxis}
 use Rattle.border.specs.Border.{cellFor, extendedLane, allInside, extendedGrid}
@@ -15,9 +16,10 @@ use Rattle.correlate_spec.proofs.rows.Statement.{statement}
 use Rattle.correlate_spec.proofs.rows.Tie as tie
 
 returns : tie.Need-returns
-unfolding tabulate summed add mul alongAxis laneAt paddedAt paddedLine extendedLane cellFor correlatedBy someDiffers exceeds sub lt placeOf coordinate allInside extendedGrid kernelSum kernelAnswer
+unfolding tabulate windowOf summed add mul alongAxis laneAt paddedAt paddedLine extendedLane cellFor correlatedBy someDiffers exceeds sub lt placeOf coordinate allInside extendedGrid kernelSum kernelAnswer
 returns c = record {
   padded = refl;
+  window-sums = refl;
   symmetric = refl;
   anti = refl;
   t2 = refl;

@@ -73,7 +73,7 @@ same-length c = row-length (c .before .loop2 .inv .2) ∙ row-length (c .before 
 returns : tie.Need-returns Inv-loop μ-loop Inv-loop2 μ-loop2
 returns c =
     let s = c .before .before .before .before in
-    raised-end (s .args .by) (now (s .args .weights)) (lowered (now (s .args .line))) (c .before .loop2 .inv .2) (omega arith) (row-length (c .before .before .before .loop .inv .2))
+    raised-end (s .args .by) (now (s .args .weights)) (lowered (now (s .args .line))) (s .pre .0) (c .before .loop2 .inv .2) (omega arith) (row-length (c .before .before .before .loop .inv .2))
 
 pub add-raised-spec : {M : Type 1} → statement M
 add-raised-spec =

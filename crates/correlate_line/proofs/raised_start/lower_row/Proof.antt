@@ -1,6 +1,6 @@
 -- `lower_row` meets its contract. The loop's invariant: `sum` is the sum of the cells that the windows before and at `i` share, and the
 -- starts before `i` are stored. Assumes nothing.
-use mathlib.Core.Path.{_≡_, refl}
+use mathlib.Core.Path.{_≡_, refl, sym, ap, subst, _∙_}
 use Prim.Native.Nat.{_-_, _≤_}
 use native.Mathlib.Omega.{arith}
 use denote.Ref.{now}
@@ -9,11 +9,14 @@ use lib.IntN.{pos}
 use lib.ListN.{length}
 use mir.Syntax.{w64}
 use mir.Val.{toZ}
+use Rattle.numbers.specs.Sums.{sumOf}
+use Rattle.numbers.proofs.Read.{read}
 use Rattle.numbers.proofs.Stored.{Stored, front-none, front-more, front-all}
+use Rattle.correlate_spec.specs.Sizes.{SumNeeds}
 use Rattle.correlate_spec.specs.WindowSum.{windowSum}
 use Rattle.correlate_line.specs.Raised.{raisedStart}
-use Rattle.correlate_line.proofs.RaisedStart.{first-summable, times-computed, lowered, lowered-read}
-use Rattle.correlate_spec.proofs.SlidingSum.{sum-computed, left-computed, left-read}
+use Rattle.correlate_line.proofs.RaisedStart.{times-computed, lowered, lowered-read}
+use Rattle.correlate_spec.proofs.SlidingSum.{window-summable, sum-computed, left-computed, left-read}
 use borrow.Author.Needs.{needs}
 use Rattle.correlate_line.proofs.raised_start.lower_row.Statement.{statement}
 use Rattle.correlate_line.proofs.raised_start.lower_row.Tie as tie
@@ -31,11 +34,17 @@ cast-times c = search needs
 sub-before : tie.Need-sub-before Inv-loop μ-loop
 sub-before c = search needs
 
-first-sum-requires : tie.Need-first-sum-requires Inv-loop μ-loop
-first-sum-requires c κs = first-summable (c .pre .0)
+window-requires : tie.Need-window-requires Inv-loop μ-loop
+window-requires c κs = search needs
+
+sum-of-requires : tie.Need-sum-of-requires Inv-loop μ-loop
+sum-of-requires c κs =
+    let s = c .before in
+    let A = s .pre .0 .weighable in
+    subst SumNeeds (sym (c .window .ensures)) (window-summable (now (s .args .line)) (A .cells) _ _ (omega (arith, A .few)))
 
 loop-holds : tie.Need-loop-holds Inv-loop μ-loop
-loop-holds c = (search needs, refl, search needs, front-none (pos 0) _ _)
+loop-holds c = (search needs, refl, read (c .sum-of .ok) (c .sum-of .ensures ∙ ap sumOf (c .before .window .ensures)), front-none (pos 0) _ _)
 
 add-total : tie.Need-add-total Inv-loop μ-loop
 add-total c = search needs
@@ -48,24 +57,24 @@ shared-slice-copy-out-total c = search needs
 
 add-total-2 : tie.Need-add-total-2 Inv-loop μ-loop
 add-total-2 c =
-    let s = c .before .before .before .before in
+    let s = c .before .before .before .before .before in
     let l = c .before .before .loop in
     sum-computed (now (s .args .line)) (s .pre .0 .weighable .cells) (length (now (s .args .weights)) - 1) (l .i) (omega (arith, s .pre .0 .weighable .few)) (l .inv .2) _ .fits
 
 mul-out : tie.Need-mul-out Inv-loop μ-loop
 mul-out c =
-    let s = c .before .before .before .before in
+    let s = c .before .before .before .before .before in
     let l = c .before .before .loop in
     times-computed (s .pre .0) (l .i) (record { fits = s .fits .base; is = s .pre .1 }) (l .inv .2) _ .fits
 
 sub-out : tie.Need-sub-out Inv-loop μ-loop
 sub-out c =
-    let s = c .before .before .before .before in
+    let s = c .before .before .before .before .before in
     let l = c .before .before .loop in
     lowered (s .pre .0) (l .i) (record { fits = s .fits .base; is = s .pre .1 }) (l .inv .2) _ .fits
 
-mul-t14 : tie.Need-mul-t14 Inv-loop μ-loop
-mul-t14 c = search needs
+mul-t15 : tie.Need-mul-t15 Inv-loop μ-loop
+mul-t15 c = search needs
 
 slice-set-from-out : tie.Need-slice-set-from-out Inv-loop μ-loop
 slice-set-from-out c = search needs
@@ -78,7 +87,7 @@ shared-slice-copy-out-sum c = search needs
 
 sub-sum : tie.Need-sub-sum Inv-loop μ-loop
 sub-sum c =
-    let s = c .before .before .before .before .before in
+    let s = c .before .before .before .before .before .before in
     let l = c .before .before .before .loop in
     left-computed (now (s .args .line)) (s .pre .0 .weighable .cells) (length (now (s .args .weights)) - 1) (l .i) (omega (arith, s .pre .0 .weighable .few)) (l .inv .2) _ _ .fits
 
@@ -90,9 +99,9 @@ loop-less c = search needs
 
 loop-again : tie.Need-loop-again Inv-loop μ-loop
 loop-again c =
-    let s = c .before .before .before .before .before in
+    let s = c .before .before .before .before .before .before in
     let l = c .before .before .before .loop in
-    (search needs, l .inv .1, left-read (now (s .args .line)) (s .pre .0 .weighable .cells) (length (now (s .args .weights)) - 1) (l .i) (omega (arith, s .pre .0 .weighable .few)) (l .inv .2), front-more (pos 0) _ _ (omega arith) (l .inv .3) (lowered-read (s .pre .0) (l .i) (record { fits = s .fits .base; is = s .pre .1 }) (l .inv .2)))
+    (search needs, l .inv .1, left-read (now (s .args .line)) (s .pre .0 .weighable .cells) (length (now (s .args .weights)) - 1) (l .i) (omega (arith, s .pre .0 .weighable .few)) (l .inv .2) (omega (arith, s .pre .0 .weighable .some, s .pre .0 .weighable .long)), front-more (pos 0) _ _ (omega arith) (l .inv .3) (lowered-read (s .pre .0) (l .i) (record { fits = s .fits .base; is = s .pre .1 }) (l .inv .2) (omega arith)))
 
 same-length : tie.Need-same-length Inv-loop μ-loop
 same-length c = c .before .loop .inv .3 .kept
@@ -108,7 +117,8 @@ lower-row-spec =
     μ-loop
     cast-times
     sub-before
-    first-sum-requires
+    window-requires
+    sum-of-requires
     loop-holds
     add-total
     mul-total
@@ -116,7 +126,7 @@ lower-row-spec =
     add-total-2
     mul-out
     sub-out
-    mul-t14
+    mul-t15
     slice-set-from-out
     mul-sum
     shared-slice-copy-out-sum
