@@ -3,7 +3,7 @@
 use Prim.Native.Nat.{ℕ, _+_, _*_, _^_, _<_, _≤_}
 use mathlib.Core.Path.{_≡_, refl, sym, ap, _∙_}
 use mathlib.Core.List.{List}
-use native.Mathlib.Nat.{add-assoc, mul-le-mul, le-refl}
+use native.Mathlib.Nat.{add-zero, mul-le-mul, le-refl}
 use native.Mathlib.Omega.{arith}
 use lib.IntN.{ℤ, pos, _+ℤ_, +ℤ-assoc, +ℤ-idr}
 use lib.ListN.{length, getD}
@@ -13,7 +13,7 @@ use Rattle.numbers.proofs.Size.{Size, size-add, size-le, member-sized, tested-s
 use Rattle.numbers.proofs.Tabulate.{length-tabulate, getD-tabulate, tabulate-agree, tabulate-unique, every-table}
 use Rattle.correlate_spec.specs.Weighed.{summed, wholeOps, cellTerm, plainTo}
 use Rattle.correlate_spec.proofs.Sizes.{size-plain}
-use Rattle.correlate_spec.proofs.Summed.{summed-more, summed-two}
+use Rattle.correlate_spec.proofs.Summed.{summed-more, summed-parts}
 use Rattle.correlate_spec.proofs.Terms.{weighable-kept, cell-size, weight-size}
 use Rattle.correlate_line.specs.Added.{plus, threeTerms, addedTo, Addable, Passed}
 
@@ -59,16 +59,15 @@ module _ {w s held : List ℤ} {n : ℕ} {out : List ℤ} (R : Adding w s held n
   one-more e = more (n + 1) (λ i. cellTerm wholeOps w s i n) (λ i. summed-more _+ℤ_ (pos 0) (cellTerm wholeOps w s i) n) e
 
   pub three-more : {new : List ℤ} → new ≡ tabulate (plus out (λ i. threeTerms w s i n)) 0 (length out) → Adding w s held (n + 3) new
-  three-more e = more (n + 3) (λ i. threeTerms w s i n) sums e
+  unfolding summed
+  three-more e = more (n + 3) (λ i. threeTerms w s i n) (λ i. sums i ∙ summed-parts _+ℤ_ (pos 0) (cellTerm wholeOps w s i) n 3) e
     where
-      sums : (i : ℕ) → plainTo wholeOps w s n i +ℤ threeTerms w s i n ≡ plainTo wholeOps w s (n + 3) i
-      sums i =
-          let f = cellTerm wholeOps w s i in
-          let t = plainTo wholeOps w s n i in
-          sym (+ℤ-assoc t (f n +ℤ f (n + 1)) (f (n + 2)))
-          ∙ ap (λ (x : ℤ). x +ℤ f (n + 2)) (sym (+ℤ-assoc t (f n) (f (n + 1))) ∙ summed-two _+ℤ_ (pos 0) f n)
-          ∙ summed-more _+ℤ_ (pos 0) f (n + 2)
-          ∙ ap (summed _+ℤ_ (pos 0) f) (add-assoc n 2 1)
+      apart : (a b c d : ℤ) → a +ℤ (b +ℤ c +ℤ d) ≡ a +ℤ b +ℤ c +ℤ d
+      apart a b c d = simp +ℤ-assoc
+
+      sums : (i : ℕ) → let f = cellTerm wholeOps w s i in plainTo wholeOps w s n i +ℤ threeTerms w s i n ≡ plainTo wholeOps w s n i +ℤ f (n + 0) +ℤ f (n + 1) +ℤ f (n + 2)
+      sums i = let f = cellTerm wholeOps w s i in let t = plainTo wholeOps w s n i in
+          apart t (f n) (f (n + 1)) (f (n + 2)) ∙ ap (λ k. t +ℤ f k +ℤ f (n + 1) +ℤ f (n + 2)) (sym (add-zero n))
 
   -- all of them
   pub adding-all : n ≡ length w → out ≡ tabulate (addedTo held w s (length w)) 0 (length held)

@@ -3,10 +3,9 @@
 use Prim.Native.Nat.{ℕ, _+_, _*_, _^_, _≤_, _<_}
 use mathlib.Core.List.{List}
 use mathlib.Core.Path.{_≡_, sym, ap, subst, _∙_}
-use native.Mathlib.Nat.{le-refl, le-trans, mul-le-mul}
+use native.Mathlib.Nat.{le-trans, mul-le-mul}
 use native.Mathlib.Omega.{arith}
-use borrow.Author.Tests.{le-ltb}
-use lib.Dec.{T, ltb}
+use lib.Dec.{T}
 use lib.IntN.{ℤ, pos, natAbs, _+ℤ_, _-ℤ_, _*ℤ_, +ℤ-negℤ-cancel, -ℤ-+ℤ-cancel}
 use lib.ListN.{length, getD, set, length-map, List·getD-map}
 use lib.Signed.{nonNeg}
@@ -14,9 +13,8 @@ use mir.Syntax.{w32, w64}
 use mir.Val.{Fits, SFits}
 use mir.ValLaws.{toZ-ofZ}
 use Rattle.numbers.proofs.Index.{getD-default}
-use Rattle.numbers.proofs.Stored.{Stored, front-more, front-all}
 use Rattle.numbers.proofs.Tabulate.{getD-tabulate, tabulate-members, tabulate-unique}
-use Rattle.numbers.proofs.Tests.{cond-no}
+use Rattle.correlate_spec.proofs.Along.{Pass, pass-more, pass-all, pass-old}
 use Rattle.correlate_line.specs.Narrow.{Raised, Narrow}
 use Rattle.correlate_spec.proofs.Computed.{read, computed-read}
 use Rattle.correlate_line.specs.Products.{lowered, product}
@@ -33,28 +31,25 @@ cell-lowered s k h = getD-default (lowered s) k (pos 0) (pos 0 -ℤ pos 21474836
 abbrev pub raisedCell : List ℤ → ℕ → ℤ
 raisedCell s k = getD s k (pos 0) +ℤ pos 2147483648
 
-module _ {s l : List ℤ} {i : ℕ} (N : Narrow s) (b : i < length s) (S : Stored (pos 0) (λ k. ltb k i) (raisedCell s) s l) where
+module _ {s l : List ℤ} {n i : ℕ} (N : Narrow s) (P : Pass (pos 0) (raisedCell s) s n i l) (b : i < n) where
   cell : Raised 2147483648 4294967295 (getD s i (pos 0))
   cell = raised-at s N (omega arith) i
 
-  held : getD l i (pos 0) ≡ getD s i (pos 0)
-  held = S .cells i b ∙ cond-no (ltb i i) (raisedCell s i) (getD s i (pos 0)) (le-ltb i i (le-refl i))
-
   -- whichever number is added, the sum fits
-  pub raise-fits : (n : ℕ) → n < 2 ^ 32 → SFits w64 (read (getD l i (pos 0)) +ℤ pos n)
-  raise-fits n h = subst (λ (x : ℤ). SFits w64 (read x +ℤ pos n)) (sym held) (plus-fits (omega arith) (omega arith) cell n h)
+  pub raise-fits : (m : ℕ) → m < 2 ^ 32 → SFits w64 (read (getD l i (pos 0)) +ℤ pos m)
+  raise-fits m h = subst (λ (x : ℤ). SFits w64 (read x +ℤ pos m)) (sym (pass-old P b)) (plus-fits (omega arith) (omega arith) cell m h)
 
-  pub raise-more : Stored (pos 0) (λ k. ltb k (i + 1)) (raisedCell s) s (set l i (read (read (getD l i (pos 0)) +ℤ pos 2147483648)))
-  raise-more = front-more (pos 0) (raisedCell s) _ b S (ap (λ (x : ℤ). read (read x +ℤ pos 2147483648)) held ∙ computed-read (raised-computed (omega arith) (omega arith) cell))
+  pub raise-more : Pass (pos 0) (raisedCell s) s n (i + 1) (set l i (read (read (getD l i (pos 0)) +ℤ pos 2147483648)))
+  raise-more = pass-more P b (ap (λ (x : ℤ). read (read x +ℤ pos 2147483648)) (pass-old P b) ∙ computed-read (raised-computed (omega arith) (omega arith) cell))
 
-pub raise-all : {s l : List ℤ} {i : ℕ} → length s ≤ i → Stored (pos 0) (λ k. ltb k i) (raisedCell s) s l → lowered l ≡ s
-raise-all {s} {l} h S =
-    tabulate-unique (pos 0) (λ k. getD s k (pos 0)) (lowered l) (length s) (length-lowered l ∙ S .kept)
-    (λ k b. cell-lowered l k (subst (λ (n : ℕ). k < n) (sym (S .kept)) b) ∙ ap (λ (x : ℤ). x -ℤ pos 2147483648) (at k b) ∙ +ℤ-negℤ-cancel (getD s k (pos 0)) (pos 2147483648))
+pub raise-all : {s l : List ℤ} {n i : ℕ} → Pass (pos 0) (raisedCell s) s n i l → n ≤ i → lowered l ≡ s
+raise-all {s} {l} P h =
+    tabulate-unique (pos 0) (λ k. getD s k (pos 0)) (lowered l) (length s) (length-lowered l ∙ P .stored .kept)
+    (λ k b. cell-lowered l k (subst (λ (n : ℕ). k < n) (sym (P .stored .kept)) b) ∙ ap (λ (x : ℤ). x -ℤ pos 2147483648) (at k b) ∙ +ℤ-negℤ-cancel (getD s k (pos 0)) (pos 2147483648))
     ∙ tabulate-members (pos 0) s
   where
     at : (k : ℕ) → k < length s → getD l k (pos 0) ≡ raisedCell s k
-    at k b = ap (λ (x : List ℤ). getD x k (pos 0)) (front-all (pos 0) (raisedCell s) h S) ∙ getD-tabulate (raisedCell s) (length s) k (pos 0) b
+    at k b = ap (λ (x : List ℤ). getD x k (pos 0)) (pass-all P h) ∙ getD-tabulate (raisedCell s) (length s) k (pos 0) b
 
 -- ---- the cell at place k of a raised line, times a raised weight v
 module _ (s : List ℤ) (N : Narrow (lowered s)) (k : ℕ) (b : k < length s) where

@@ -1,26 +1,22 @@
 -- Which lists may be raised: levels within condition 3, and weights that are not below 0 or are raised by 65,535.
 -- Assumes nothing.
-use Prim.Native.Nat.{ℕ, suc, _+_, _-_, _≤_, _<_, suc-le-suc}
-use mathlib.Core.Path.{_≡_, refl, subst}
-use mathlib.Core.Bool.{true, false, true≢false}
+use Prim.Native.Nat.{ℕ, suc, _+_, _-_, _^_, _≤_, _<_}
+use mathlib.Core.Path.{_≡_, refl, sym, ap, subst, _∙_}
+use mathlib.Core.Bool.{Bool, true, false, true≢false}
 use mathlib.Core.List.{List, [], _∷_}
 use native.Mathlib.Omega.{arith}
-use borrow.Author.Count.{below-more}
 use lib.IntN.{ℤ, pos, negsuc, negℤ}
-use lib.ListN.{length, getD}
-use lib.Signed.{ltZ}
+use lib.Signed.{ltZ, mag}
+use mir.Syntax.{w64}
+use mir.Val.{toZ, ofZ}
 use Rattle.numbers.specs.Lists.{anyOf, Every}
 use Rattle.numbers.specs.Ranges.{outsideZ}
 use Rattle.numbers.proofs.Any.{every-imp}
 use Rattle.numbers.proofs.IntSum.{minus-pos}
-use Rattle.numbers.proofs.Size.{Size, member-sized, tested-sized}
-use Rattle.correlate_line.specs.Narrow.{Raised, Narrow}
-use Rattle.correlate_spec.proofs.Computed.{read, computed-level, computed-read}
-
--- what holds at every place holds of every member
-every-place : {A : Type 0} (P : A → Type 0) (s : List A) (d : A) → ((k : ℕ) → k < length s → P (getD s k d)) → Every P s
-every-place P [] d h = tt
-every-place P (x ∷ xs) d h = (h 0 (omega arith), every-place P xs d (λ k b. h (suc k) (suc-le-suc b)))
+use Rattle.numbers.proofs.Read.{read}
+use Rattle.numbers.proofs.Size.{Size, tested-sized}
+use Rattle.numbers.proofs.Tests.{or-false, cond-yes, cond-no, cond-ind}
+use Rattle.correlate_line.specs.Narrow.{Raised, Narrow, raiseOf}
 
 -- ---- a level within condition 3 is 0 to 2^32 - 1, raised
 raised-level : (x : ℤ) → Size x 2147483647 → Raised 2147483648 4294967295 x
@@ -35,22 +31,40 @@ raised-up : (x : ℤ) → Size x 65535 → Raised 65535 131070 x
 raised-up (pos n) h = record { to = n + 65535; is = refl; small = omega (arith, h .size) }
 raised-up (negsuc n) h = record { to = 65535 - suc n; is = minus-pos 65535 (suc n) (h .size); small = omega arith }
 
-raised-none : (x : ℤ) → Size x 65535 → ltZ x (pos 0) ≡ false → Raised 0 131070 x
+abbrev pub below : ℤ → Bool
+below z = ltZ z (pos 0)
+
+raised-none : (x : ℤ) → Size x 65535 → below x ≡ false → Raised 0 131070 x
 raised-none (pos n) h e = record { to = n + 0; is = refl; small = omega (arith, h .size) }
 raised-none (negsuc n) h e = absurd (true≢false e)
 
-module _ (w : List ℤ) (sized : anyOf (outsideZ (negℤ (pos 65535)) (pos 65535)) w ≡ false) where
-  weight-size : (k : ℕ) → Size (getD w k (pos 0)) 65535
-  weight-size k = member-sized 65535 w (tested-sized 65535 w sized) k
+weights-up : (w : List ℤ) → Every (λ x. Size x 65535) w → Every (Raised 65535 131070) w
+weights-up w h = every-imp _ _ w raised-up h
 
-  pub weights-up : Every (Raised 65535 131070) w
-  weights-up = every-imp _ _ w raised-up (tested-sized 65535 w sized)
+weights-none : (w : List ℤ) → Every (λ x. Size x 65535) w → anyOf below w ≡ false → Every (Raised 0 131070) w
+weights-none [] h e = tt
+weights-none (x ∷ xs) h e = let p = or-false (below x) (anyOf below xs) e in (raised-none x (h .0) (p .0), weights-none xs (h .1) (p .1))
 
-  -- one weight more that is not below 0
-  pub none-more : (i : ℕ) → ((k : ℕ) → k < i → ltZ (getD w k (pos 0)) (pos 0) ≡ false) → ltZ (read (getD w i (pos 0))) (pos 0) ≡ false
-      → (k : ℕ) → k < i + 1 → ltZ (getD w k (pos 0)) (pos 0) ≡ false
-  none-more i h e =
-      below-more (λ k. ltZ (getD w k (pos 0)) (pos 0) ≡ false) i h (subst (λ (z : ℤ). ltZ z (pos 0) ≡ false) (computed-read (computed-level (weight-size i) (omega arith))) e)
+-- the machine's test of a weight that was read
+pub below-read : (z : ℤ) {t : Bool} → mag z < 2 ^ 63 → ltZ (toZ w64 (ofZ w64 z)) (pos 0) ≡ t → below z ≡ t
+below-read z h e = ap below (sym (read h (refl {a = z}))) ∙ e
 
-  pub weights-none : {i : ℕ} → length w ≤ i → ((k : ℕ) → k < i → ltZ (getD w k (pos 0)) (pos 0) ≡ false) → Every (Raised 0 131070) w
-  weights-none l h = every-place (Raised 0 131070) w (pos 0) (λ k b. raised-none (getD w k (pos 0)) (weight-size k) (h k (omega arith)))
+-- ---- by how much: as the code finds it, and that it serves
+pub raise-some : (w : List ℤ) → anyOf below w ≡ true → 65535 ≡ raiseOf w
+unfolding raiseOf
+raise-some w e = sym (cond-yes (anyOf below w) 65535 0 e)
+
+pub raise-none : (w : List ℤ) → anyOf below w ≡ false → 0 ≡ raiseOf w
+unfolding raiseOf
+raise-none w e = sym (cond-no (anyOf below w) 65535 0 e)
+
+pub raise-low : (w : List ℤ) → raiseOf w ≤ 65535
+unfolding raiseOf
+raise-low w = cond-ind (anyOf below w) 65535 0 (λ n. n ≤ 65535) (λ t. omega arith) (λ t. omega arith)
+
+pub raise-raised : (w : List ℤ) → anyOf (outsideZ (negℤ (pos 65535)) (pos 65535)) w ≡ false → Every (Raised (raiseOf w) 131070) w
+raise-raised w h = go (anyOf below w) refl
+  where
+    go : (t : Bool) → anyOf below w ≡ t → Every (Raised (raiseOf w) 131070) w
+    go true e = subst (λ n. Every (Raised n 131070) w) (raise-some w e) (weights-up w (tested-sized 65535 w h))
+    go false e = subst (λ n. Every (Raised n 131070) w) (raise-none w e) (weights-none w (tested-sized 65535 w h) e)

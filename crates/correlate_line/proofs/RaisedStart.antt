@@ -1,29 +1,37 @@
 -- One turn of the loop that sets a row to where its sums start, on the machine: the sum of the window, times by, is taken from the base; each step fits 64 bits.
 -- Assumes nothing.
 use Prim.Native.Nat.{ℕ, _+_, _-_, _*_, _^_, _≤_, _<_}
-use mathlib.Core.Path.{_≡_, sym, ap, _∙_}
+use mathlib.Core.Path.{_≡_, sym, ap, subst, _∙_}
 use mathlib.Core.List.{List}
 use native.Mathlib.Omega.{arith}
 use lib.IntN.{ℤ, pos, _+ℤ_, _-ℤ_, _*ℤ_, +ℤ-idr, *ℤ-zero}
-use lib.ListN.{length, getD}
+use lib.ListN.{length, getD, replicate}
 use Rattle.numbers.specs.Lists.{tabulate, Every}
 use Rattle.numbers.proofs.Size.{Size, Sized, size-add, size-neg, size-mul, size-le, member-sized, tested-sized}
+use Rattle.numbers.proofs.Tabulate.{tabulate-replicate, tabulate-agree}
 use Rattle.correlate_spec.specs.WindowSum.{windowSum}
 use Rattle.correlate_spec.proofs.Sliding.{sum-enters, sum-size}
 use Rattle.correlate_spec.specs.Sizes.{LineSumNeeds}
-use Rattle.correlate_line.specs.Narrow.{Raised, Narrow}
+use Rattle.correlate_line.specs.Narrow.{Raised, Narrow, raiseOf}
 use Rattle.correlate_line.specs.Raised.{raisedBase, raisedStart, Liftable, RaiseNeeds}
 use Rattle.correlate_spec.proofs.Computed.{read, Computed, size-pos, computed-level, computed-read, computed}
 use Rattle.correlate_line.proofs.RaisedBase.{base-small}
+use Rattle.correlate_line.proofs.RaisedLists.{raise-low, raise-raised}
 use Rattle.correlate_spec.proofs.Terms.{weighable-kept}
 use Rattle.correlate_spec.proofs.SlidingSum.{sum-computed}
 
--- a row of as many cells, its line and its weights
-pub raisable : {by m n : ℕ} {w s : List ℤ} → m ≡ n → LineSumNeeds w s n → Narrow s → (by ≤ 65535) × Every (Raised by 131070) w → RaiseNeeds by w s m
-raisable e W N r = record { weighable = weighable-kept e W; low = r .0; weights = r .1; cells = N }
+-- the weights raised by as much as they ask for
+pub raisable : {by n : ℕ} {w s : List ℤ} → LineSumNeeds w s n → Narrow s → by ≡ raiseOf w → RaiseNeeds by w s n
+raisable {w = w} W N e = record {
+  weighable = W;
+  low = subst (λ b. b ≤ 65535) (sym e) (raise-low w);
+  weights = subst (λ b. Every (Raised b 131070) w) (sym e) (raise-raised w (W .weights));
+  cells = N;
+}
 
+-- of as many cells
 pub raisable-kept : {by m n : ℕ} {w s : List ℤ} → m ≡ n → RaiseNeeds by w s n → RaiseNeeds by w s m
-raisable-kept e A = raisable e (A .weighable) (A .cells) (A .low, A .weights)
+raisable-kept e A = record { weighable = weighable-kept e (A .weighable); low = A .low; weights = A .weights; cells = A .cells }
 
 module _ {by : ℕ} {w s : List ℤ} {n : ℕ} (A : RaiseNeeds by w s n) where
   pub liftable : Liftable by w
@@ -67,8 +75,8 @@ module _ {by : ℕ} {w s : List ℤ} {n : ℕ} (A : RaiseNeeds by w s n) where
         whole = omega (arith, A .weighable .some)
 
 -- ---- where the weights are not raised, every sum starts from the base
-pub flat-row : (by : ℕ) (w s : List ℤ) (n : ℕ) {base : ℤ} → base ≡ raisedBase by w → by ≡ 0 → tabulate (λ i. base) 0 n ≡ tabulate (raisedStart by w s) 0 n
-flat-row by w s n {base} e z = ap (λ (g : ℕ → ℤ). tabulate g 0 n) (λ t i. flat i t)
+pub flat-row : (by : ℕ) (w s : List ℤ) (n : ℕ) {base : ℤ} → base ≡ raisedBase by w → by ≡ 0 → replicate n base ≡ tabulate (raisedStart by w s) 0 n
+flat-row by w s n {base} e z = sym (tabulate-replicate base 0 n) ∙ tabulate-agree (λ i. base) (raisedStart by w s) 0 n (λ i b. flat (0 + i))
   where
     flat : (i : ℕ) → base ≡ raisedStart by w s i
     flat i =

@@ -5,15 +5,12 @@ use mathlib.Core.Path.{_≡_, sym, ap, subst, _∙_}
 use mathlib.Core.List.{List}
 use native.Mathlib.Nat.{add-assoc}
 use native.Mathlib.Omega.{arith}
-use borrow.Author.Tests.{le-ltb}
-use lib.Dec.{ltb}
 use lib.IntN.{ℤ, pos, _+ℤ_, _*ℤ_}
 use lib.ListN.{length, getD, set}
 use mir.Syntax.{w64}
 use mir.Val.{SFits}
 use Rattle.numbers.proofs.Size.{Size, size-add, size-le, member-sized, tested-sized, fits-size}
-use Rattle.numbers.proofs.Stored.{Stored, front-more}
-use Rattle.numbers.proofs.Tests.{cond-no}
+use Rattle.correlate_spec.proofs.Along.{Pass, pass-more, pass-old}
 use Rattle.correlate_spec.proofs.Sizes.{size-cell}
 use Rattle.correlate_spec.specs.Sizes.{LineSumNeeds}
 use Rattle.correlate_spec.proofs.Computed.{read, Computed, computed-level, computed-read, computed}
@@ -25,8 +22,11 @@ module _ {w s : List ℤ} {n : ℕ} (W : LineSumNeeds w s n) where
   abbrev meant : ℕ → ℕ → ℤ
   meant a k = getD s a (pos 0) *ℤ getD w k (pos 0)
 
-  pub one-size : (a k : ℕ) → Size (meant a k) (2 ^ 54)
+  one-size : (a k : ℕ) → Size (meant a k) (2 ^ 54)
   one-size a k = size-le (size-cell (2 ^ 38) 65535 w s (cell-size W) (weight-size W) a k) (omega arith)
+
+  pub term-size : (a k : ℕ) → Size (meant a k) (2 ^ 56)
+  term-size a k = size-le (one-size a k) (omega arith)
 
   two-size : (a b k l : ℕ) → Size (meant a k +ℤ meant b l) (2 ^ 55)
   two-size a b k l = size-le (size-add (one-size a k) (one-size b l)) (omega arith)
@@ -67,16 +67,12 @@ pub cell-at : (s : List ℤ) (a b : ℕ) {x : ℤ} → x ≡ getD s a (pos 0) �
 cell-at s a b e p = e ∙ ap (λ (k : ℕ). getD s k (pos 0)) p
 
 -- ---- added to what the row holds: x is what the machine makes of a number z of at most 2^56
-module _ {w s out₀ : List ℤ} (P : Passed w s out₀) (f : ℕ → ℤ) {out : List ℤ} {i : ℕ} (b : i < length out₀) (S : Stored (pos 0) (λ k. ltb k i) (plus out₀ f) out₀ out) where
-  held : getD out i (pos 0) ≡ getD out₀ i (pos 0)
-  held = S .cells i b ∙ cond-no (ltb i i) (plus out₀ f i) (getD out₀ i (pos 0)) (le-ltb i i (omega arith))
-
+module _ {w s out₀ : List ℤ} (A : Passed w s out₀) (f : ℕ → ℤ) {out : List ℤ} {n i : ℕ} (P : Pass (pos 0) (plus out₀ f) out₀ n i out) (b : i < n) where
   small : Size (getD out i (pos 0)) (2 ^ 62)
-  small = subst (λ (y : ℤ). Size y (2 ^ 62)) (sym held) (member-sized (2 ^ 62) out₀ (tested-sized (2 ^ 62) out₀ (P .small)) i)
+  small = subst (λ (y : ℤ). Size y (2 ^ 62)) (sym (pass-old P b)) (member-sized (2 ^ 62) out₀ (tested-sized (2 ^ 62) out₀ (A .small)) i)
 
   pub added : {x z : ℤ} → Computed x z → Size z (2 ^ 56) → Computed (read (getD out i (pos 0)) +ℤ read x) (getD out i (pos 0) +ℤ z)
   added c h = computed _+ℤ_ (computed-level small (omega arith)) c (size-add small h) (omega arith)
 
-  pub added-more : {x z : ℤ} → Computed x z → Size z (2 ^ 56) → z ≡ f i
-      → Stored (pos 0) (λ k. ltb k (i + 1)) (plus out₀ f) out₀ (set out i (read (read (getD out i (pos 0)) +ℤ read x)))
-  added-more c h e = front-more (pos 0) (plus out₀ f) _ b S (computed-read (added c h) ∙ (λ t. held t +ℤ e t))
+  pub added-more : {x z : ℤ} → Computed x z → Size z (2 ^ 56) → z ≡ f i → Pass (pos 0) (plus out₀ f) out₀ n (i + 1) (set out i (read (read (getD out i (pos 0)) +ℤ read x)))
+  added-more c h e = pass-more P b (computed-read (added c h) ∙ (λ t. pass-old P b t +ℤ e t))

@@ -3,3 +3,4 @@ pub mod Added
 pub mod Narrow
 pub mod Raised
 pub mod Products
+pub mod Rows

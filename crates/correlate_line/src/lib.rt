@@ -7,6 +7,7 @@ ghost use Rattle.symmetry_spec.specs.declared.SymmetryState.the-variants.{NonSy
 ghost use Rattle.correlate_spec.specs.Weighed.{wholeOps, weighedLine};
 ghost use Rattle.correlate_spec.specs.Sizes.{LineSumNeeds};
 ghost use Rattle.correlate_line.specs.Narrow.{Narrow};
+ghost use Rattle.correlate_line.specs.Rows.{CorrelateLineRows};
 use array::fill;
 use raised::raised_line;
 
@@ -32,3 +33,8 @@ pub fn correlate_line(weights: &[i64], line: &mut [i64], out: &mut [i64])
     fill(out, 0);
     add_line(weights, line, out);
 }
+
+// Worked rows of this crate's definitions. Refuses nothing.
+pub fn rows()
+    ensures { λ _. ⌜ CorrelateLineRows ⌝ }
+{}

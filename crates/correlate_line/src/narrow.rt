@@ -1,17 +1,10 @@
 // By how much weights are raised above zero, so that a product is one multiply of the machine. Which cells may be raised is a definition: specs/Narrow.antt.
 ghost use mathlib.Core.Path.{_≡_};
-ghost use mathlib.Core.Bool.{false};
-ghost use Prim.Native.Nat.{_≤_};
-ghost use lib.IntN.{pos};
-ghost use Rattle.numbers.specs.Limits.{largestWeight};
-ghost use Rattle.numbers.specs.Lists.{anyOf, Every};
-ghost use Rattle.numbers.specs.Ranges.{over};
-ghost use Rattle.correlate_line.specs.Narrow.{Raised};
+ghost use Rattle.correlate_line.specs.Narrow.{raiseOf};
 
 // By how much the weights are raised: not at all where none is below 0.
 pub(crate) fn raise_of(weights: &[i64]) -> u32
-    requires { ⌜ anyOf (over largestWeight) (now weights) ≡ false ⌝ }
-    ensures { λ r. ⌜ (r ≤ largestWeight) × Every (Raised r 131070) (now (weights .entry)) ⌝ }
+    ensures { λ r. ⌜ r ≡ raiseOf (now (weights .entry)) ⌝ }
 {
     let n = weights.len();
     let mut i = 0;

@@ -4,6 +4,7 @@ ghost use lib.ListN.{length};
 ghost use Rattle.numbers.specs.Lists.{tabulate};
 ghost use Rattle.correlate_line.specs.Raised.{raisedBase, raisedStart, Liftable, RaiseNeeds};
 use crate::sums::sum_of;
+use array::fill;
 use window::window;
 
 // What raising the cells adds to a sum, taken from 0.
@@ -14,18 +15,6 @@ fn base_of(weights: &[i64], by: u32) -> i64
     let n = weights.len();
     let sum = sum_of(weights) + (n as i64) * (by as i64);
     0 - sum * 2147483648
-}
-
-// Sets every cell to base.
-fn fill_row(base: i64, out: &mut [i64])
-    ensures { λ _. ⌜ now (out .exit) ≡ tabulate (λ i. base) 0 (length (now (out .entry))) ⌝ }
-{
-    let n = out.len();
-    let mut i = 0;
-    while i < n {
-        out[i] = base;
-        i += 1;
-    }
 }
 
 // Sets every cell to base less what raising the weights adds to its sum: the sum of its window, by times.
@@ -53,7 +42,7 @@ pub(crate) fn start_row(weights: &[i64], line: &[i64], by: u32, out: &mut [i64])
 {
     let base = base_of(weights, by);
     if by == 0 {
-        fill_row(base, out);
+        fill(out, base);
         return;
     }
     lower_row(weights, line, by, base, out);

@@ -1,2 +1,3 @@
--- Terms of a float sum.
+-- Terms of a float sum, and their rows.
 pub mod Four
+pub mod Rows

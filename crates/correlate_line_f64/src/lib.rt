@@ -6,6 +6,7 @@ ghost use Rattle.numbers.specs.Lists.{tabulate};
 ghost use Rattle.symmetry_spec.specs.declared.SymmetryState.the-variants.{NonSymmetric};
 ghost use Rattle.correlate_spec.specs.Weighed.{floatOps, plainTo, weighedLine};
 ghost use Rattle.correlate_spec.specs.Lengths.{Windows};
+ghost use Rattle.correlate_line_f64.specs.Rows.{CorrelateLineF64Rows};
 use pairs::pair_line_f64;
 use symmetry_spec::SymmetryState;
 use terms::four_more;
@@ -111,3 +112,8 @@ pub fn correlate_line_f64(weights: &[f64], class: SymmetryState, line: &[f64], o
         SymmetryState::AntiSymmetric => pair_line_f64(weights, true, line, out),
     }
 }
+
+// Worked rows of this crate's definitions. Refuses nothing.
+pub fn rows()
+    ensures { λ _. ⌜ CorrelateLineF64Rows ⌝ }
+{}

@@ -1,8 +1,8 @@
--- Sums taken from left to right, over any element and any operation: one, two and four terms more, the first term moved into the start, and two sums of the same terms.
+-- Sums taken from left to right, over any element and any operation: one term more, some terms more, the first term moved into the start, and two sums of the same terms.
 -- Assumes nothing.
 use Prim.Native.Nat.{ℕ, zero, suc, _+_, _<_}
 use mathlib.Core.Path.{_≡_, refl, sym, ap, _∙_}
-use native.Mathlib.Nat.{add-assoc}
+use native.Mathlib.Nat.{add-zero, add-suc}
 use native.Mathlib.Numerals.{add-one}
 use native.Mathlib.Omega.{arith}
 use Rattle.correlate_spec.specs.Weighed.{summed}
@@ -12,12 +12,11 @@ module _ {A : Type 0} (add : A → A → A) where
   unfolding summed
   summed-more a f n = ap (summed add a f) (sym (add-one n))
 
-  pub summed-two : (a : A) (f : ℕ → A) (n : ℕ) → add (add (summed add a f n) (f n)) (f (n + 1)) ≡ summed add a f (n + 2)
-  summed-two a f n = ap (λ x. add x (f (n + 1))) (summed-more a f n) ∙ summed-more a f (n + 1) ∙ ap (summed add a f) (add-assoc n 1 1)
-
-  pub summed-four : (a : A) (f : ℕ → A) (n : ℕ) → add (add (add (add (summed add a f n) (f n)) (f (n + 1))) (f (n + 2))) (f (n + 3)) ≡ summed add a f (n + 4)
-  summed-four a f n =
-      (λ i. add (add (summed-two a f n i) (f (n + 2))) (f (sym (add-assoc n 2 1) i))) ∙ summed-two a f (n + 2) ∙ ap (summed add a f) (add-assoc n 2 2)
+  -- the first j terms, and from there m more
+  pub summed-parts : (a : A) (f : ℕ → A) (j m : ℕ) → summed add (summed add a f j) (λ k. f (j + k)) m ≡ summed add a f (j + m)
+  unfolding summed
+  summed-parts a f j zero = ap (summed add a f) (sym (add-zero j))
+  summed-parts a f j (suc m) = ap (λ x. add x (f (j + m))) (summed-parts a f j m) ∙ ap (summed add a f) (sym (add-suc j m))
 
   pub summed-front : (a : A) (f : ℕ → A) (n : ℕ) → summed add a f (suc n) ≡ summed add (add a (f 0)) (λ k. f (suc k)) n
   unfolding summed

@@ -14,6 +14,8 @@ fn rows() {
     pad_line::rows();
     pad_line_f64::rows();
     correlate_spec::rows();
+    correlate_line::rows();
+    correlate_line_f64::rows();
     correlate_judge::rows();
     correlate1d::rows();
     correlate_grid::rows();
@@ -29,6 +31,7 @@ fn rows() {
     text_f64::reads_back_f64();
     codes::rows();
     min_max::rows();
+    pad_copy::rows();
     pad::rows();
 }
 

@@ -17,6 +17,7 @@ fn rows() {
     window::rows();
     min_max_ring::rows();
     statistics_spec::rows();
+    statistics::rows();
     pad_spec::rows();
     min_max_spec::rows();
     min_max_spec::order_of_axes();

@@ -119,7 +119,7 @@ module _ (ns lefts ps : List ℕ) (F : Framed ns lefts ps) where
         inside j h = omega arith
 
   -- how many rows there are
-  rows-whole : cellCount ns / rowLength ns * rowLength ns ≡ cellCount ns
+  pub rows-whole : cellCount ns / rowLength ns * rowLength ns ≡ cellCount ns
   rows-whole =
       let a = length ns - 1 in
       let A = grid-accepted F in

@@ -7,4 +7,6 @@ pub mod Row
 pub mod RowPlace
 pub mod RowSteps
 pub mod Copied
+pub mod RowWalk
+pub mod Rising
 pub mod Gaps

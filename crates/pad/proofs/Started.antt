@@ -1,7 +1,7 @@
 -- A grid laid under Constant: every place outside the middle holds the constant, so that the middle laid over such a start is the padded grid, and laid over what was
 -- lent it is what `pad_to` promises.
 -- Assumes nothing.
-use mathlib.Core.Path.{_≡_, refl, sym, ap, subst, _∙_}
+use mathlib.Core.Path.{_≡_, refl, sym, ap, _∙_}
 use mathlib.Core.Bool.{Bool, true, false, _&&_, not, cond, true≢false}
 use mathlib.Core.List.{List}
 use Prim.Native.Nat.{ℕ, zero, suc, _+_, _-_, _≤_, _<_}
@@ -12,7 +12,7 @@ use lib.Dec.{leb, ltb}
 use lib.IntN.{ℤ, pos}
 use lib.ListN.{length, getD}
 use Rattle.numbers.specs.Lists.{tabulate}
-use Rattle.numbers.proofs.Tabulate.{length-tabulate, tabulate-unique}
+use Rattle.numbers.proofs.Tabulate.{length-tabulate, getD-tabulate, tabulate-unique}
 use Rattle.array_spec.specs.Grid.{cellCount, lengthOf, coordinate, moved}
 use Rattle.border.specs.Border.{constant}
 use Rattle.border.specs.declared.PadMode.{PadMode}
@@ -23,8 +23,8 @@ use Rattle.pad_spec.specs.Levels.{keepsRim, levelTo, ownCells, paddedLevel, pad
 use Rattle.pad_spec.specs.Pads.{inMiddle, allFrom, middleFrom, paddedShape}
 use Rattle.pad_spec.proofs.Levels.{level-middle}
 use Rattle.pad_spec.specs.Frame.{middleSet}
-use Rattle.pad.specs.Around.{Around}
-use Rattle.pad.specs.Laid.{laid, Started}
+use Rattle.pad.specs.Around.{aroundSet}
+use Rattle.pad.specs.Laid.{laid}
 use Rattle.pad.proofs.Laid.{middle-final, middle-read, middle-kept}
 
 -- a run's last member
@@ -80,21 +80,27 @@ module _ (c : ℤ) (ns lefts : List ℕ) (cells : List ℤ) where
 
   -- ---- the middle laid over a start
   module _ (ps : List ℕ) where
-    laid-around : (held : List ℤ) {out : List ℤ} → Around c ns lefts ps held → out ≡ middleSet ns lefts ps cells held → out ≡ laid (Constant c) ns lefts ps cells
-    unfolding laid
-    laid-around held {out} A e =
-        tabulate-unique (pos 0) _ out (cellCount ps) (middle-kept (Constant c) ns lefts ps cells held e (A .count))
-        (λ k b. middle-read (Constant c) ns lefts ps cells held e (A .count) k b ∙ at k b (middleFrom ns lefts 0 (coordinate ps k)) refl)
-      where
-        at : (k : ℕ) → k < cellCount ps → (t : Bool) → middleFrom ns lefts 0 (coordinate ps k) ≡ t → cond t (levelTo (Constant c) ns lefts cells 0 (coordinate ps k)) (getD held k (pos 0))
-            ≡ levelTo (Constant c) ns lefts cells (length ns) (coordinate ps k)
-        at k b true m = middle-final (Constant c) ns lefts ps cells k m
-        at k b false m = A .beside k b m ∙ sym (outside-constant (coordinate ps k) m)
+    module _ {z : ℤ} (q : z ≡ c) (held : List ℤ) {over out : List ℤ} (h : length held ≡ cellCount ps) where
+      laid-around : over ≡ aroundSet z ns lefts ps held → out ≡ middleSet ns lefts ps cells over → out ≡ laid (Constant c) ns lefts ps cells
+      unfolding laid aroundSet
+      laid-around a e =
+          tabulate-unique (pos 0) _ out (cellCount ps) (middle-kept (Constant c) ns lefts ps cells over e count)
+          (λ k b. middle-read (Constant c) ns lefts ps cells over e count k b ∙ at k b (middleFrom ns lefts 0 (coordinate ps k)) refl)
+        where
+          count : length over ≡ cellCount ps
+          count = ap length a ∙ length-tabulate _ 0 (length held) ∙ h
 
-    pub laid-started : (whole : Bool) (held over : List ℤ) {z : ℤ} {out : List ℤ} → z ≡ c → Started whole z ns lefts ps held over → out ≡ middleSet ns lefts ps cells over
-        → out ≡ cond whole (laid (Constant c) ns lefts ps cells) (middleSet ns lefts ps cells held)
-    laid-started true held over q S e = laid-around over (subst (λ (x : ℤ). Around x ns lefts ps over) q S) e
-    laid-started false held over q S e = e ∙ ap (middleSet ns lefts ps cells) S
+          at : (k : ℕ) → k < cellCount ps → (t : Bool) → middleFrom ns lefts 0 (coordinate ps k) ≡ t → cond t (levelTo (Constant c) ns lefts cells 0 (coordinate ps k)) (getD over k (pos 0))
+              ≡ levelTo (Constant c) ns lefts cells (length ns) (coordinate ps k)
+          at k b true m = middle-final (Constant c) ns lefts ps cells k m
+          at k b false m =
+              ap (λ l. getD l k (pos 0)) a ∙ getD-tabulate _ (length held) k (pos 0) (omega arith) ∙ ap (λ t. cond t (getD held k (pos 0)) z) m ∙ q
+              ∙ sym (outside-constant (coordinate ps k) m)
+
+      pub laid-started : (whole : Bool) → over ≡ cond whole (aroundSet z ns lefts ps held) held → out ≡ middleSet ns lefts ps cells over
+          → out ≡ cond whole (laid (Constant c) ns lefts ps cells) (middleSet ns lefts ps cells held)
+      laid-started true s e = laid-around s e
+      laid-started false s e = e ∙ ap (middleSet ns lefts ps cells) s
 
   over-middle : (rights : List ℕ) (held : List ℤ) → length held ≡ cellCount (paddedShape ns lefts rights)
       → middleSet ns lefts (paddedShape ns lefts rights) cells held ≡ paddedOver (Constant c) ns lefts rights cells held
@@ -111,15 +117,14 @@ module _ (c : ℤ) (ns lefts : List ℕ) (cells : List ℤ) where
       at k true m = middle-final (Constant c) ns lefts ps cells k m
       at k false m = refl
 
--- a start
-module _ (c : ℤ) (ns lefts ps : List ℕ) (held : List ℤ) where
-  pub none-started : (whole : Bool) → not whole ≡ true → Started whole c ns lefts ps held held
-  none-started true e = absurd (true≢false (sym e))
-  none-started false e = refl
+-- a start: what was held, or the level around the middle
+pub none-started : (whole : Bool) (held around : List ℤ) → not whole ≡ true → held ≡ cond whole around held
+none-started true held around e = absurd (true≢false (sym e))
+none-started false held around e = refl
 
-  pub constant-started : (whole : Bool) {z : ℤ} {out : List ℤ} → not whole ≡ false → z ≡ c → Around z ns lefts ps out → Started whole c ns lefts ps held out
-  constant-started false w q A = absurd (true≢false w)
-  constant-started true {out = out} w q A = subst (λ (x : ℤ). Around x ns lefts ps out) q A
+pub constant-started : (whole : Bool) (held : List ℤ) {around out : List ℤ} → not whole ≡ false → out ≡ around → out ≡ cond whole around held
+constant-started false held w e = absurd (true≢false w)
+constant-started true held w e = e
 
 -- ---- what the calls promise of a mode, by what it fills a rim with and the frame as it was set
 module _ (ns lefts rights : List ℕ) (cells held : List ℤ) {l p : List ℕ} (e : l ≡ lefts) (f : p ≡ paddedShape ns lefts rights) (whole : Bool) where

@@ -58,7 +58,7 @@ module _ (ns lefts ps : List ℕ) (F : Framed ns lefts ps) where
   abbrev pub framedAt : (ℕ → ℕ) → ℕ → ℕ
   framedAt p a = getD lefts a 0 + p a
 
-  framed-within : (p : ℕ → ℕ) → Within ns p → Within ps (framedAt p)
+  pub framed-within : (p : ℕ → ℕ) → Within ns p → Within ps (framedAt p)
   framed-within p h a l = at (omega (arith, F .axes))
     where
       at : a < length ns → framedAt p a < lengthOf ps a

@@ -1,14 +1,14 @@
 -- Worked rows of this crate's definitions. Each holds by computing.
 --   laidIn mode      1 2 in a padded grid of four, one cell from its start
---   PadRows       the rows
+--   PadRows          the rows
 use mathlib.Core.Path.{_≡_}
-use mathlib.Core.Bool.{true, false}
 use mathlib.Core.List.{List, [], _∷_}
 use lib.IntN.{ℤ, pos}
 use Rattle.numbers.specs.Rows.{wholes}
 use Rattle.border.specs.declared.PadMode.{PadMode}
 use Rattle.border.specs.declared.PadMode.the-variants.{Constant, Edge, Maximum}
-use Rattle.pad.specs.Laid.{laid, Started}
+use Rattle.pad.specs.Around.{gapSet, aroundSet}
+use Rattle.pad.specs.Laid.{laid}
 
 abbrev pub laidIn : PadMode → List ℤ
 laidIn mode = laid mode (2 ∷ []) (1 ∷ []) (4 ∷ []) (wholes (1 ∷ 2 ∷ []))
@@ -17,6 +17,10 @@ pub record PadRows : Type 0 where
   pub laid-constant : laidIn (Constant (pos 7)) ≡ wholes (7 ∷ 1 ∷ 2 ∷ 7 ∷ [])
   pub laid-edge : laidIn Edge ≡ wholes (1 ∷ 1 ∷ 2 ∷ 2 ∷ [])
   pub laid-maximum : laidIn Maximum ≡ wholes (2 ∷ 1 ∷ 2 ∷ 2 ∷ [])
-  -- under Constant `pad` starts with the constant around the middle, `pad_to` with what was lent
-  pub starts : Started true (pos 7) (1 ∷ []) (1 ∷ []) (3 ∷ []) (wholes (8 ∷ 9 ∷ 8 ∷ [])) (wholes (7 ∷ 9 ∷ 7 ∷ []))
-  pub starts-held : Started false (pos 7) (1 ∷ []) (1 ∷ []) (3 ∷ []) (wholes (8 ∷ 9 ∷ 8 ∷ [])) (wholes (8 ∷ 9 ∷ 8 ∷ []))
+  -- a level in the gap from place 1 up to place 3; around the middle 9 of 8 9 8
+  pub gap : gapSet (pos 7) 1 3 (wholes (1 ∷ 2 ∷ 3 ∷ 4 ∷ [])) ≡ wholes (1 ∷ 7 ∷ 7 ∷ 4 ∷ [])
+  pub gap-none : gapSet (pos 7) 3 1 (wholes (1 ∷ 2 ∷ 3 ∷ 4 ∷ [])) ≡ wholes (1 ∷ 2 ∷ 3 ∷ 4 ∷ [])
+  pub around : aroundSet (pos 7) (1 ∷ []) (1 ∷ []) (3 ∷ []) (wholes (8 ∷ 9 ∷ 8 ∷ [])) ≡ wholes (7 ∷ 9 ∷ 7 ∷ [])
+  -- around the middle 3 4 of the rows 1 2 / 3 4 / 5 6
+  pub around-rows : aroundSet (pos 7) (1 ∷ 2 ∷ []) (1 ∷ 0 ∷ []) (3 ∷ 2 ∷ []) (wholes (1 ∷ 2 ∷ 3 ∷ 4 ∷ 5 ∷ 6 ∷ []))
+      ≡ wholes (7 ∷ 7 ∷ 3 ∷ 4 ∷ 7 ∷ 7 ∷ [])

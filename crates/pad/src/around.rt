@@ -4,7 +4,7 @@ ghost use Prim.Native.Nat.{_≤_};
 ghost use lib.ListN.{length};
 ghost use Rattle.array_spec.specs.Grid.{cellCount};
 ghost use Rattle.pad_spec.specs.Frame.{Framed};
-ghost use Rattle.pad.specs.Around.{gapSet, Around};
+ghost use Rattle.pad.specs.Around.{gapSet, aroundSet};
 use crate::middle::first_row;
 use crate::middle::next_row;
 
@@ -20,7 +20,7 @@ fn fill_gap(level: i64, from: usize, to: usize, out: &mut [i64])
     }
 }
 
-// Sets every place of a padded grid that is not in the middle to a level. What the middle holds then is left open: the grid is copied there.
+// Sets every place of a padded grid that is not in the middle to a level; the middle stays as it was.
 //
 // * `level` - the constant.
 // * `cells`, `shape` - how many cells the grid has, and the length of each axis.
@@ -37,7 +37,7 @@ pub(crate) fn fill_around(
     out: &mut [i64],
 )
     requires { ⌜ Framed (now shape) (now lefts) (now padded) × (cells ≡ cellCount (now shape)) × (length (now out) ≡ cellCount (now padded)) ⌝ }
-    ensures { λ _. ⌜ Around level (now (shape .entry)) (now (lefts .entry)) (now (padded .entry)) (now (out .exit)) ⌝ }
+    ensures { λ _. ⌜ now (out .exit) ≡ aroundSet level (now (shape .entry)) (now (lefts .entry)) (now (padded .entry)) (now (out .entry)) ⌝ }
 {
     let last = shape.len() - 1;
     let n = shape[last];

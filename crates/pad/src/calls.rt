@@ -12,7 +12,8 @@ ghost use Rattle.pad_spec.specs.Conditions.{padJudged};
 ghost use Rattle.pad_spec.specs.Levels.{paddedGrid, paddedOver};
 ghost use Rattle.pad_spec.specs.Pads.{leftsOf, rightsOf};
 ghost use Rattle.pad_spec.specs.Frame.{Framed, Filling, middleSet};
-ghost use Rattle.pad.specs.Laid.{laid, Started};
+ghost use Rattle.pad.specs.Around.{aroundSet};
+ghost use Rattle.pad.specs.Laid.{laid};
 use crate::middle::copy_middle;
 use border::CellBorder;
 use border::PadMode;
@@ -32,7 +33,7 @@ fn start(
     out: &mut [i64],
 )
     requires { ⌜ Framed (now shape) (now lefts) (now padded) × (cells ≡ cellCount (now shape)) × (length (now out) ≡ cellCount (now padded)) ⌝ }
-    ensures { λ _. ⌜ Started whole c (now (shape .entry)) (now (lefts .entry)) (now (padded .entry)) (now (out .entry)) (now (out .exit)) ⌝ }
+    ensures { λ _. ⌜ now (out .exit) ≡ cond whole (aroundSet c (now (shape .entry)) (now (lefts .entry)) (now (padded .entry)) (now (out .entry))) (now (out .entry)) ⌝ }
 {
     if !whole {
         return;

@@ -1,2 +1,3 @@
--- How a rim is read.
+-- How a rim is read, and rows of it.
 pub mod Steps
+pub mod Rows

@@ -2,7 +2,7 @@
 -- Assumes nothing.
 use mathlib.Core.Path.{_≡_, ap, subst, _∙_}
 use mathlib.Core.List.{List}
-use Prim.Native.Nat.{ℕ, _+_, _-_, _*_, _<_}
+use Prim.Native.Nat.{ℕ, _+_, _-_, _*_, _≤_, _<_}
 use native.Mathlib.Omega.{arith}
 use lib.Dec.{eqb}
 use lib.ListN.{length, getD, set}
@@ -10,6 +10,15 @@ use Rattle.numbers.proofs.Stored.{Stored, stored-none, stored-one, stored-then,
 use Rattle.numbers.proofs.Tests.{cond-no}
 use Rattle.lanes.proofs.Part.{onRow, row-no, row-empty, row-longer}
 use Rattle.pad_line.specs.Steps.{StepNeeds, stepSet}
+
+-- ---- the places of one turn: those that it reads and stores are in the list, and it steps back no further than its start
+pub record StepTurn (up down from at len j : ℕ) : Type 0 where
+  pub ahead : from + up * j < len
+  pub behind : down * j ≤ from + up * j
+  pub stores : at + j < len
+
+pub step-turn : {up down from at count len j : ℕ} → StepNeeds up down from at count len → j < count → StepTurn up down from at len j
+step-turn {j = j} W h = record { ahead = W .ahead j h; behind = W .behind j h; stores = W .stores j h }
 
 module _ {A : Type 0} (d : A) where
   -- the cell that place k gets

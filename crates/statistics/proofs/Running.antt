@@ -1,21 +1,24 @@
 -- What a loop over a line keeps of the first member in an order: of a running value and what is left, or of four running values that take every fourth
--- member each. The minimum's proofs take these laws at ≤, the maximum's at ≥.
+-- member each. At the end stand the same laws as the machine takes them, of levels that fit 64 bits. The minimum's proofs take these laws at ≤, the maximum's at ≥.
 -- Assumes nothing.
 use mathlib.Core.Path.{_≡_, refl, sym, ap, _∙_}
-use mathlib.Core.Bool.{Bool}
+use mathlib.Core.Bool.{Bool, true, false, not}
 use mathlib.Core.List.{List, [], _∷_}
 use Prim.Native.Nat.{ℕ, _+_, _^_, _≤_, _<_}
 use native.Mathlib.Nat.{not-suc-le-zero, suc-ne-zero}
 use native.Mathlib.Omega.{arith}
 use lib.IntN.{ℤ, pos}
 use lib.ListN.{length, getD, drop, drop-of-length-le}
-use lib.Signed.{mag}
+use lib.Signed.{ltZ, leZ, mag}
+use mir.Facts.{toZ-ofZ}
 use mir.Syntax.{w64}
-use mir.Val.{toZ, ofZ}
+use mir.Val.{SFits, toZ, ofZ}
 use Rattle.numbers.specs.Order.{Total, extremeFrom, extreme}
 use Rattle.numbers.proofs.Index.{drop-next}
+use Rattle.numbers.proofs.IntOrder.{leZ-not-ltZ}
 use Rattle.numbers.proofs.Lesser.{lesser, lesser-itself, lesser-assoc, lesser-crossed}
 use Rattle.numbers.proofs.Read.{read}
+use Rattle.numbers.proofs.Tests.{cond-yes, cond-no}
 
 -- ---- one step: n is m, or the member at place i where that comes first
 pub record Next {A : Type 0} (le : A → A → Bool) (d : A) (l : List A) (i : ℕ) (m n : A) : Type 0 where
@@ -92,3 +95,36 @@ module _ {A : Type 0} (le : A → A → Bool) (d : A) where
           ∙ sym (ap (extremeFrom le (four a b c e)) (drop-four l i h))
           ∙ F .is;
     }
+
+-- ---- as the machine takes them, of levels that fit: `back` is what the bits of a level stand for
+abbrev back : ℤ → ℤ
+back z = toZ w64 (ofZ w64 z)
+
+-- the machine's test of two levels, y below x, by the test of ≤
+pub at-most-tested : {x y : ℤ} (t : Bool) → SFits w64 x → SFits w64 y → ltZ (back y) (back x) ≡ t → leZ x y ≡ not t
+at-most-tested {x} {y} t h k e = leZ-not-ltZ x y ∙ ap not (rw (toZ-ofZ h, toZ-ofZ k) at e)
+
+module _ (le : ℤ → ℤ → Bool) where
+  -- the first of two levels: the second where the test fails, otherwise the first
+  pub second-taken : {a b : ℤ} → SFits w64 a → SFits w64 b → le a b ≡ false → back b ≡ lesser le a b
+  second-taken {a} {b} h k e = toZ-ofZ k ∙ sym (cond-no _ a b e)
+
+  pub first-kept : {a b : ℤ} → SFits w64 a → SFits w64 b → le a b ≡ true → back a ≡ lesser le a b
+  first-kept {a} {b} h k e = toZ-ofZ h ∙ sym (cond-yes _ a b e)
+
+  -- the last of the levels that go singly, and the ends of a pass
+  module _ (l : List ℤ) where
+    pub from-more : (i : ℕ) (m : ℤ) {r v : ℤ} → let z = getD l i (pos 0) in extremeFrom le m (drop i l) ≡ v → i < length l
+        → mag z < 2 ^ 63 → mag r < 2 ^ 63 → r ≡ lesser le m (back z) → extremeFrom le (back r) (drop (i + 1) l) ≡ v
+    from-more i m {r} {v} e h f g k = extreme-more le (pos 0) l i m v e (next-read le l i f g k) h
+
+    pub from-last : (i from : ℕ) (m : ℤ) {first : ℤ} → extremeFrom le m (drop i l) ≡ extremeFrom le (back first) (drop from l) → length l ≤ i
+        → SFits w64 first → m ≡ extremeFrom le first (drop from l)
+    from-last i from m {first} e h f = extreme-last le (pos 0) l i m _ e h ∙ ap (λ z. extremeFrom le z (drop from l)) (toZ-ofZ f)
+
+    -- the four running values joined, and the levels that are left after them
+    pub four-last : {i : ℕ} {a b c e p q r s : ℤ} → Four le (pos 0) l i a b c e
+        → mag p < 2 ^ 63 → p ≡ lesser le a b → mag q < 2 ^ 63 → q ≡ lesser le c e
+        → mag r < 2 ^ 63 → r ≡ lesser le (back p) (back q) → mag s < 2 ^ 63 → s ≡ extremeFrom le (back r) (drop i l) → back s ≡ extreme le (pos 0) l
+    four-last {i} F fp ep fq eq fr er fs es =
+        read fs (es ∙ ap (λ z. extremeFrom le z (drop i l)) (read fr (er ∙ (λ t. lesser le (read fp ep t) (read fq eq t))))) ∙ F .is

@@ -1,2 +1,3 @@
--- The sum of a line of levels near 0.
+-- The sum of a line of levels near 0, and its rows.
 pub mod NearSum
+pub mod Rows

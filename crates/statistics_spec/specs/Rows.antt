@@ -1,5 +1,5 @@
 -- Worked rows of this crate's definitions. Each holds by computing.
---   limit            the greatest level that is served
+--   limit                the greatest level that is served
 --   StatisticsSpecRows   the rows
 use Prim.Native.Nat.{ℕ}
 use mathlib.Core.Path.{_≡_}

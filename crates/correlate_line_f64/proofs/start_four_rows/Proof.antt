@@ -1,72 +1,36 @@
 -- `start_four_rows` meets its contract: the row is filled from the front with sums of four terms.
 -- Assumes nothing.
-use mathlib.Core.Path.{_≡_, refl}
-use Prim.Native.Nat.{_-_, _≤_}
+use mathlib.Core.Path.{_∙_}
+use Prim.Native.Nat.{_-_}
 use native.Mathlib.Omega.{arith}
 use denote.Ref.{now}
-use lib.Dec.{ltb}
 use lib.Ieee.{nan, ofBits}
-use lib.ListN.{length}
-use Rattle.numbers.proofs.Stored.{Stored, front-none, front-more, front-all}
 use Rattle.correlate_spec.specs.Weighed.{floatOps, plainTo}
-use Rattle.correlate_line_f64.proofs.Turns.{four-first}
+use Rattle.correlate_spec.proofs.Along.{Pass, pass-none, pass-more, pass-all}
+use Rattle.correlate_line_f64.proofs.Turns.{plain-first, four-terms}
 use borrow.Author.Needs.{needs}
 use Rattle.correlate_line_f64.proofs.start_four_rows.Statement.{statement}
 use Rattle.correlate_line_f64.proofs.start_four_rows.Tie as tie
 
 abbrev Inv-loop : tie.InvT-loop
-Inv-loop weights line out₀ four n i₀ out i = (i ≤ n) × (n ≡ length out₀) × Stored nan (λ k. ltb k i) (plainTo floatOps weights line 4) out₀ out
+Inv-loop weights line out₀ four n i₀ out i = Pass nan (plainTo floatOps weights line 4) out₀ n i out
 
 abbrev μ-loop : tie.MeasureT-loop
 μ-loop weights line out₀ four n i₀ out i = n - i
 
-four-weights-requires : tie.Need-four-weights-requires Inv-loop μ-loop
-four-weights-requires c κs = search needs
-
-loop-holds : tie.Need-loop-holds Inv-loop μ-loop
-loop-holds c = (search needs, refl, front-none nan _ _)
-
-four-more-requires : tie.Need-four-more-requires Inv-loop μ-loop
-four-more-requires c κs = search needs
-
-mul-out : tie.Need-mul-out Inv-loop μ-loop
-mul-out c = search needs
-
-slice-write-out : tie.Need-slice-write-out Inv-loop μ-loop
-slice-write-out c = search needs
-
-add-i : tie.Need-add-i Inv-loop μ-loop
-add-i c = search needs
-
-loop-less : tie.Need-loop-less Inv-loop μ-loop
-loop-less c = search needs
-
 loop-again : tie.Need-loop-again Inv-loop μ-loop
 unfolding ofBits
 loop-again c =
-    let s = c .before .before .before .before .before .before .before in
+    let a = c .before .before .before .before .before .before .before .args in
     let l = c .before .before .loop in
-    (search needs, l .inv .1, front-more nan _ _ (omega arith) (l .inv .2) (four-first (now (s .args .weights)) (now (s .args .line)) (c .before .before .before .four-weights .ensures) (l .i) (c .four-more .ensures)))
-
-same-length : tie.Need-same-length Inv-loop μ-loop
-same-length c = c .before .loop .inv .2 .kept
-
-returns : tie.Need-returns Inv-loop μ-loop
-returns c = front-all nan _ (omega arith) (c .before .loop .inv .2)
+    pass-more (l .inv) (c .before .loop-test .taken) (c .four-more .ensures
+    ∙ four-terms (now (a .weights)) (now (a .line)) (l .i) 0 (l .i) (floatOps .none) (omega arith) (c .before .before .before .four-weights .ensures)
+    ∙ plain-first (now (a .weights)) (now (a .line)) (l .i) 4)
 
 pub start-four-rows-spec : {M : Type 1} → statement M
 start-four-rows-spec =
     tie.close
-    (tie.spec
-    Inv-loop
-    μ-loop
-    four-weights-requires
-    loop-holds
-    four-more-requires
-    mul-out
-    slice-write-out
-    add-i
-    loop-less
-    loop-again
-    same-length
-    returns)
+    (tie.spec Inv-loop μ-loop
+    (λ c κs. search needs) (λ c. pass-none nan _ _)
+    (λ c κs. search needs) (λ c. search needs) (λ c. search needs) (λ c. search needs) (λ c. search needs)
+    loop-again (λ c. c .before .loop .inv .stored .kept) (λ c. pass-all (c .before .loop .inv) (c .loop-test .left)))

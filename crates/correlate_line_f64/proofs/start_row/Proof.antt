@@ -1,76 +1,35 @@
 -- `start_row` meets its contract: the row is filled from the front with sums of one term.
 -- Assumes nothing.
-use mathlib.Core.Path.{_≡_, refl}
-use Prim.Native.Nat.{_-_, _≤_}
+use mathlib.Core.Path.{refl, _∙_}
+use Prim.Native.Nat.{_-_}
 use native.Mathlib.Omega.{arith}
 use denote.Ref.{now}
-use lib.Dec.{ltb}
 use lib.Ieee.{nan, ofBits}
-use lib.ListN.{length}
-use Rattle.numbers.proofs.Stored.{Stored, front-none, front-more, front-all}
 use Rattle.correlate_spec.specs.Weighed.{floatOps, plainTo}
-use Rattle.correlate_spec.proofs.Along.{plain-one}
+use Rattle.correlate_spec.proofs.Along.{Pass, pass-none, pass-more, pass-all}
+use Rattle.correlate_line_f64.proofs.Turns.{plain-first, one-term}
 use borrow.Author.Needs.{needs}
 use Rattle.correlate_line_f64.proofs.start_row.Statement.{statement}
 use Rattle.correlate_line_f64.proofs.start_row.Tie as tie
 
 abbrev Inv-loop : tie.InvT-loop
-Inv-loop weights line out₀ weight n i₀ out i = (i ≤ n) × (n ≡ length out₀) × Stored nan (λ k. ltb k i) (plainTo floatOps weights line 1) out₀ out
+Inv-loop weights line out₀ weight n i₀ out i = Pass nan (plainTo floatOps weights line 1) out₀ n i out
 
 abbrev μ-loop : tie.MeasureT-loop
 μ-loop weights line out₀ weight n i₀ out i = n - i
 
-shared-slice-read-weight : tie.Need-shared-slice-read-weight Inv-loop μ-loop
-shared-slice-read-weight c = search needs
-
-loop-holds : tie.Need-loop-holds Inv-loop μ-loop
-loop-holds c = (search needs, refl, front-none nan _ _)
-
-mul-out : tie.Need-mul-out Inv-loop μ-loop
-mul-out c = search needs
-
-shared-slice-read-out : tie.Need-shared-slice-read-out Inv-loop μ-loop
-shared-slice-read-out c = search needs
-
-mul-out-2 : tie.Need-mul-out-2 Inv-loop μ-loop
-mul-out-2 c = search needs
-
-slice-write-out : tie.Need-slice-write-out Inv-loop μ-loop
-slice-write-out c = search needs
-
-add-i : tie.Need-add-i Inv-loop μ-loop
-add-i c = search needs
-
-loop-less : tie.Need-loop-less Inv-loop μ-loop
-loop-less c = search needs
-
 loop-again : tie.Need-loop-again Inv-loop μ-loop
 unfolding ofBits
 loop-again c =
-    let s = c .before .before .before .before in
+    let a = c .before .before .before .before .args in
     let l = c .before .before .loop in
-    (search needs, l .inv .1, front-more nan _ _ (omega arith) (l .inv .2) (plain-one floatOps (now (s .args .weights)) (now (s .args .line)) (l .i)))
-
-same-length : tie.Need-same-length Inv-loop μ-loop
-same-length c = c .before .loop .inv .2 .kept
-
-returns : tie.Need-returns Inv-loop μ-loop
-returns c = front-all nan _ (omega arith) (c .before .loop .inv .2)
+    pass-more (l .inv) (c .before .loop-test .taken)
+    (one-term (now (a .weights)) (now (a .line)) (l .i) 0 (l .i) (floatOps .none) (omega arith) ∙ plain-first (now (a .weights)) (now (a .line)) (l .i) 1)
 
 pub start-row-spec : {M : Type 1} → statement M
 start-row-spec =
     tie.close
-    (tie.spec
-    Inv-loop
-    μ-loop
-    shared-slice-read-weight
-    loop-holds
-    mul-out
-    shared-slice-read-out
-    mul-out-2
-    slice-write-out
-    add-i
-    loop-less
-    loop-again
-    same-length
-    returns)
+    (tie.spec Inv-loop μ-loop
+    (λ c. search needs) (λ c. pass-none nan _ _)
+    (λ c. search needs) (λ c. search needs) (λ c. search needs) (λ c. search needs) (λ c. search needs) (λ c. search needs)
+    loop-again (λ c. c .before .loop .inv .stored .kept) (λ c. pass-all (c .before .loop .inv) (c .loop-test .left)))

@@ -18,74 +18,21 @@ Inv-loop weights class mode «data» shape axis left right line₀ swept₀ out�
 abbrev μ-loop : tie.MeasureT-loop
 μ-loop weights class mode «data» shape axis left right line₀ swept₀ out₀ n stride count start₀ lane₀ line swept out start lane = count - lane
 
-lanes-of-requires : tie.Need-lanes-of-requires Inv-loop μ-loop
-lanes-of-requires c κs = search needs
-
-loop-holds : tie.Need-loop-holds Inv-loop μ-loop
-loop-holds c = let P = c .before .before .before .before .before .before .before .pre in column-none (P .0) (P .2) (P .3) (c .lanes-of .ensures)
-
-correlate-lane-requires : tie.Need-correlate-lane-requires Inv-loop μ-loop
-correlate-lane-requires c κs = (
-  column-needs (c .before .before .before .loop .inv) (c .before .before .loop-test .taken) (search needs),
-  c .before .before .before .before .before .before .before .before .before .before .before .pre .1,
-)
-
-write-from-f64-requires : tie.Need-write-from-f64-requires Inv-loop μ-loop
-write-from-f64-requires c κs =
-    column-write (c .before .before .before .before .before .before .before .before .before .before .loop .inv)
-    (c .before .before .before .before .before .before .before .before .before .loop-test .taken)
-    (c .before .before .before .before .before .before .correlate-lane .kept .1 .1 .1 .1 .1 .1 .1 .1 .1 .0)
-
-next-start-requires : tie.Need-next-start-requires Inv-loop μ-loop
-next-start-requires c κs =
-    column-step (c .before .before .before .before .before .before .before .before .before .before .before .before .before .loop .inv)
-    (c .before .before .before .before .before .before .before .before .before .before .before .before .loop-test .taken)
-
-add-lane : tie.Need-add-lane Inv-loop μ-loop
-add-lane c =
-    omega (
-      arith,
-      c .before .before .before .before .before .before .before .before .before .before .before .before .before .loop-test .taken,
-      c .before .before .before .before .before .before .before .before .before .before .before .before .before .before .before .lanes-of .ok,
-    )
-
-loop-less : tie.Need-loop-less Inv-loop μ-loop
-loop-less c = omega (arith, c .before .before .before .before .before .before .before .before .before .before .before .before .before .loop-test .taken)
-
-loop-again : tie.Need-loop-again Inv-loop μ-loop
-loop-again c =
-    let k = c .before .before .before .before .before .before .before .before .before .before .correlate-lane in
-    column-more (c .before .before .before .before .before .before .before .before .before .before .before .before .before .before .loop .inv)
-    (c .before .before .before .before .before .before .before .before .before .before .before .before .before .loop-test .taken) refl
-    (k .kept .1 .1 .1 .1 .1 .1 .1 .1 .0) (k .kept .1 .1 .1 .1 .1 .1 .1 .1 .1 .0) (k .ensures) (c .before .before .before .write-from-f64 .ensures) (c .next-start .ensures)
-
-same-length : tie.Need-same-length Inv-loop μ-loop
-same-length c = c .before .loop .inv .sweeping .buffer ∙ sym (c .before .before .before .before .before .before .before .before .before .pre .2)
-
-same-length-2 : tie.Need-same-length-2 Inv-loop μ-loop
-same-length-2 c = column-row (c .before .loop .inv) (c .before .before .before .before .before .before .before .before .before .pre .3)
-
-same-length-3 : tie.Need-same-length-3 Inv-loop μ-loop
-same-length-3 c = c .before .loop .inv .sweeping .stored .kept
-
-returns : tie.Need-returns Inv-loop μ-loop
-returns c = column-all (c .before .loop .inv) (search needs)
-
 pub correlate-lanes-spec : {M : Type 1} → statement M
 correlate-lanes-spec =
     tie.close
-    (tie.spec
-    Inv-loop
-    μ-loop
-    lanes-of-requires
-    loop-holds
-    correlate-lane-requires
-    write-from-f64-requires
-    next-start-requires
-    add-lane
-    loop-less
-    loop-again
-    same-length
-    same-length-2
-    same-length-3
-    returns)
+    (tie.spec Inv-loop μ-loop
+    -- the lanes, and where the first starts
+    (λ c κs. search needs) (λ c. let P = c .before .before .before .before .before .before .before .pre in column-none (P .0) (P .2) (P .3) (c .lanes-of .ensures))
+    -- a lane is filtered into the row, and the row is written
+    (λ c κs. (column-needs (c .before .before .before .loop .inv) (c .before .before .loop-test .taken) (search needs), c .before .before .before .before .before .before .before .before .before .before .before .pre .1))
+    (λ c κs. let k = c .before .before .before .before .before .before .before .before .before in column-write (k .before .loop .inv) (k .loop-test .taken) (c .before .before .before .before .before .before .correlate-lane .kept .1 .1 .1 .1 .1 .1 .1 .1 .1 .0))
+    -- the next lane
+    (λ c κs. let k = c .before .before .before .before .before .before .before .before .before .before .before .before in column-step (k .before .loop .inv) (k .loop-test .taken))
+    (λ c. let k = c .before .before .before .before .before .before .before .before .before .before .before .before .before in omega (arith, k .loop-test .taken, k .before .before .lanes-of .ok))
+    (λ c. omega (arith, c .before .before .before .before .before .before .before .before .before .before .before .before .before .loop-test .taken))
+    (λ c. let k = c .before .before .before .before .before .before .before .before .before .before .before .before .before in let f = c .before .before .before .before .before .before .before .before .before .before .correlate-lane in
+    column-more (k .before .loop .inv) (k .loop-test .taken) refl (f .kept .1 .1 .1 .1 .1 .1 .1 .1 .0) (f .kept .1 .1 .1 .1 .1 .1 .1 .1 .1 .0) (f .ensures) (c .before .before .before .write-from-f64 .ensures) (c .next-start .ensures))
+    -- every lane
+    (λ c. c .before .loop .inv .sweeping .buffer ∙ sym (c .before .before .before .before .before .before .before .before .before .pre .2)) (λ c. column-row (c .before .loop .inv) (c .before .before .before .before .before .before .before .before .before .pre .3))
+    (λ c. c .before .loop .inv .sweeping .stored .kept) (λ c. column-all (c .before .loop .inv) (search needs)))

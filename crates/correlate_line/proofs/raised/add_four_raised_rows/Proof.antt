@@ -1,100 +1,40 @@
 -- `add_four_raised_rows` meets its contract: along the row, each cell gets its next four raised terms; terms and sum fit.
 -- Assumes nothing.
-use mathlib.Core.Path.{_≡_, refl}
-use Prim.Native.Nat.{_+_, _-_, _≤_}
+use Prim.Native.Nat.{_+_, _-_}
 use native.Mathlib.Omega.{arith}
-use lib.Dec.{ltb}
+use denote.Ref.{now}
 use lib.IntN.{pos}
-use lib.ListN.{length}
+use borrow.Author.Needs.{needs}
 use Rattle.numbers.proofs.Size.{fits-size}
-use Rattle.numbers.proofs.Stored.{Stored, front-none, front-all}
+use Rattle.correlate_spec.proofs.Along.{Pass, pass-none, pass-all}
 use Rattle.correlate_spec.proofs.Computed.{size-pos}
 use Rattle.correlate_line.specs.Raised.{raisedTo}
 use Rattle.correlate_line.specs.Products.{lowered}
 use Rattle.correlate_line.proofs.RaisedCells.{length-lowered}
-use denote.Ref.{now}
-use Rattle.correlate_line.proofs.RaisedTurns.{more-fits, raised-four}
-use borrow.Author.Needs.{needs}
+use Rattle.correlate_line.proofs.RaisedTurns.{more-fits, raised-more, four-terms}
 use Rattle.correlate_line.proofs.raised.add_four_raised_rows.Statement.{statement}
 use Rattle.correlate_line.proofs.raised.add_four_raised_rows.Tie as tie
 
 abbrev Inv-loop : tie.InvT-loop
-Inv-loop weights line by j out₀ four n i₀ out i = (i ≤ n) × (n ≡ length out₀) × Stored (pos 0) (λ k. ltb k i) (raisedTo by weights (lowered line) (j + 4)) out₀ out
+Inv-loop weights line by j out₀ four n i₀ out i = Pass (pos 0) (raisedTo by weights (lowered line) (j + 4)) out₀ n i out
 
 abbrev μ-loop : tie.MeasureT-loop
 μ-loop weights line by j out₀ four n i₀ out i = n - i
 
-raised-four-requires : tie.Need-raised-four-requires Inv-loop μ-loop
-raised-four-requires c κs = search needs
-
-loop-holds : tie.Need-loop-holds Inv-loop μ-loop
-loop-holds c = (search needs, refl, front-none (pos 0) _ _)
-
-mul-out : tie.Need-mul-out Inv-loop μ-loop
-mul-out c = search needs
-
-slice-copy-out-out : tie.Need-slice-copy-out-out Inv-loop μ-loop
-slice-copy-out-out c = search needs
-
-add-four-terms : tie.Need-add-four-terms Inv-loop μ-loop
-add-four-terms c = search needs
-
-four-terms-requires : tie.Need-four-terms-requires Inv-loop μ-loop
-four-terms-requires c κs = search (needs, length-lowered (now (c .before .before .before .before .args .line)))
-
-cast-out : tie.Need-cast-out Inv-loop μ-loop
-cast-out c = fits-size (size-pos _) (omega arith)
-
-add-out : tie.Need-add-out Inv-loop μ-loop
-add-out c =
-    let s = c .before .before .before .before .before in
-    let l = c .before .before .before .loop in
-    let t = c .four-terms .ensures in
-    more-fits (s .pre .0) (s .args .j) 4 (omega arith) (s .pre .2) (omega arith) (l .inv .2) (c .four-terms .result) (omega (arith, t .1))
-
-mul-t17 : tie.Need-mul-t17 Inv-loop μ-loop
-mul-t17 c = search needs
-
-slice-set-from-out : tie.Need-slice-set-from-out Inv-loop μ-loop
-slice-set-from-out c = search needs
-
-add-i : tie.Need-add-i Inv-loop μ-loop
-add-i c = search needs
-
-loop-less : tie.Need-loop-less Inv-loop μ-loop
-loop-less c = search needs
-
-loop-again : tie.Need-loop-again Inv-loop μ-loop
-loop-again c =
-    let s = c .before .before .before .before .before in
-    let l = c .before .before .before .loop in
-    let t = c .four-terms .ensures in
-    (search needs, l .inv .1, raised-four (s .pre .0) (s .args .j) (omega arith) (s .pre .2) (omega arith) (l .inv .2) (c .before .before .before .before .raised-four .ensures) (t .0) (t .1))
-
-same-length : tie.Need-same-length Inv-loop μ-loop
-same-length c = c .before .loop .inv .2 .kept
-
-returns : tie.Need-returns Inv-loop μ-loop
-returns c = front-all (pos 0) _ (omega arith) (c .before .loop .inv .2)
-
 pub add-four-raised-rows-spec : {M : Type 1} → statement M
 add-four-raised-rows-spec =
     tie.close
-    (tie.spec
-    Inv-loop
-    μ-loop
-    raised-four-requires
-    loop-holds
-    mul-out
-    slice-copy-out-out
-    add-four-terms
-    four-terms-requires
-    cast-out
-    add-out
-    mul-t17
-    slice-set-from-out
-    add-i
-    loop-less
-    loop-again
-    same-length
-    returns)
+    (tie.spec Inv-loop μ-loop
+    -- the weights are raised, and the pass begins
+    (λ c κs. search needs) (λ c. pass-none (pos 0) _ _)
+    -- the terms of a cell
+    (λ c. search needs) (λ c. search needs) (λ c. search needs) (λ c κs. search (needs, length-lowered (now (c .before .before .before .before .args .line))))
+    (λ c. fits-size (size-pos _) (omega arith))
+    -- added and stored
+    (λ c. let s = c .before .before .before .before .before in let t = c .four-terms in
+    more-fits (s .pre .0) (s .args .j) 4 (omega arith) (s .pre .2) (c .before .before .before .loop .inv) (c .before .before .loop-test .taken) (t .result) (omega (arith, t .ensures .1)))
+    (λ c. search needs) (λ c. search needs) (λ c. search needs) (λ c. search needs)
+    (λ c. let s = c .before .before .before .before .before in let j = s .args .j in let l = c .before .before .before .loop in let t = c .four-terms .ensures in
+    raised-more (s .pre .0) j 4 (omega arith) (s .pre .2) (l .inv) (c .before .before .loop-test .taken) (four-terms (l .i) j (c .before .before .before .before .raised-four .ensures) (t .0) (t .1)))
+    -- the row is done
+    (λ c. c .before .loop .inv .stored .kept) (λ c. pass-all (c .before .loop .inv) (c .loop-test .left)))

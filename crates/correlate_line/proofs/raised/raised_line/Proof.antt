@@ -11,15 +11,18 @@ raise-of-requires : tie.Need-raise-of-requires
 raise-of-requires c κs = search needs
 
 start-row-requires : tie.Need-start-row-requires
-start-row-requires c κs = let s = c .before .before .before in raisable refl (s .pre .0) (s .pre .1) (c .before .before .raise-of .ensures)
+start-row-requires c κs = let s = c .before .before .before in raisable (s .pre .0) (s .pre .1) (c .before .before .raise-of .ensures)
 
 raise-cells-requires : tie.Need-raise-cells-requires
 raise-cells-requires c κs = search needs
 
 add-raised-requires : tie.Need-add-raised-requires
 add-raised-requires c κs =
-    let s = c .before .before .before .before .before .before .before .before .before .before in
-    raised-set (c .before .before .before .raise-cells .ensures) (raisable refl (s .pre .0) (s .pre .1) (c .before .before .before .before .before .before .before .before .before .raise-of .ensures)) (c .before .before .before .before .before .before .start-row .ensures)
+    let raised = c .before .before .before in
+    let started = raised .before .before .before in
+    let by = started .before .before .before in
+    let s = by .before in
+    raised-set (raised .raise-cells .ensures) (raisable (s .pre .0) (s .pre .1) (by .raise-of .ensures)) (started .start-row .ensures)
 
 same-length : tie.Need-same-length
 same-length c = search needs
@@ -29,8 +32,11 @@ same-length-2 c = search needs
 
 returns : tie.Need-returns
 returns c =
-    let s = c .before .before .before .before .before .before .before .before .before .before .before .before in
-    raised-sums (c .before .before .before .before .before .raise-cells .ensures) (raisable refl (s .pre .0) (s .pre .1) (c .before .before .before .before .before .before .before .before .before .before .before .raise-of .ensures)) (c .before .before .before .before .before .before .before .before .start-row .ensures) (c .before .add-raised .ensures)
+    let raised = c .before .before .before .before .before in
+    let started = raised .before .before .before in
+    let by = started .before .before .before in
+    let s = by .before in
+    raised-sums (raised .raise-cells .ensures) (raisable (s .pre .0) (s .pre .1) (by .raise-of .ensures)) (started .start-row .ensures) (c .before .add-raised .ensures)
 
 pub raised-line-spec : {M : Type 1} → statement M
 raised-line-spec =

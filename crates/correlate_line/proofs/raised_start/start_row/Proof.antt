@@ -12,8 +12,8 @@ use Rattle.correlate_line.proofs.raised_start.start_row.Tie as tie
 base-of-requires : tie.Need-base-of-requires
 base-of-requires c κs = search needs
 
-fill-row-requires : tie.Need-fill-row-requires
-fill-row-requires c κs = search needs
+fill-requires : tie.Need-fill-requires
+fill-requires c κs = search needs
 
 same-length : tie.Need-same-length
 same-length c = search needs
@@ -22,7 +22,7 @@ returns : tie.Need-returns
 returns c =
     let s = c .before .before .before .before .before in
     let b = c .before .before .before .before .base-of in
-    c .before .fill-row .ensures ∙ flat-row (s .args .by) (now (s .args .weights)) (now (s .args .line)) (length (now (s .args .out))) (read (b .ok) (b .ensures)) (c .before .before .before .if1 .taken)
+    c .before .fill .ensures ∙ flat-row (s .args .by) (now (s .args .weights)) (now (s .args .line)) (length (now (s .args .out))) (read (b .ok) (b .ensures)) (c .before .before .before .if1 .taken)
 
 lower-row-requires : tie.Need-lower-row-requires
 lower-row-requires c κs = search needs
@@ -38,7 +38,7 @@ start-row-spec =
     tie.close
     (tie.spec
     base-of-requires
-    fill-row-requires
+    fill-requires
     same-length
     returns
     lower-row-requires

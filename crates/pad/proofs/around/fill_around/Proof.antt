@@ -1,127 +1,48 @@
--- `fill_around` meets its contract: each turn fills the gap before the next row of the grid, and the last one is what stands after all rows.
--- Assumes nothing.
-use mathlib.Core.Path.{_≡_, refl}
-use Prim.Native.Nat.{_+_, _-_, _*_, _/_, _≤_, _<_}
+-- `fill_around` meets its contract, by the laws of RowWalk and Gaps: each turn fills the gap before the next row of the grid, and the last one is what stands after all
+-- rows. Assumes nothing.
+use Prim.Native.Nat.{_-_}
 use native.Mathlib.Omega.{arith}
 use borrow.Author.Needs.{needs}
-use denote.Ref.{now}
-use lib.ListN.{length, getD}
 use mir.Facts.{toZ-ofZ}
 use mir.Syntax.{w64}
 use mir.Val.{toZ}
-use Rattle.numbers.proofs.Index.{getD-default}
-use Rattle.array_spec.specs.Grid.{cellCount}
-use Rattle.array_spec.proofs.Places.{length-pos}
-use Rattle.pad_spec.specs.Frame.{rowLength}
-use Rattle.pad_spec.proofs.Room.{grid-accepted}
-use Rattle.pad.specs.RowStarts.{RowStarts}
-use Rattle.pad.proofs.Copied.{rows-in, row-start, row-fits}
-use Rattle.pad.proofs.RowPlace.{row-small}
-use Rattle.pad.proofs.Gaps.{Beside, beside-none, beside-row, beside-end}
+use mathlib.Core.Path.{refl}
+use Rattle.pad.proofs.RowWalk.{RowWalk, axes-some, axes-few, last-in, last-some, walk-none, walk-all, walk-row, walk-there, walk-target, walk-in, walk-few, walk-more}
+use Rattle.pad.proofs.Gaps.{AroundTo, around-none, around-more, around-end}
 use Rattle.pad.proofs.around.fill_around.Statement.{statement}
 use Rattle.pad.proofs.around.fill_around.Tie as tie
 
 abbrev Inv-loop : tie.InvT-loop
 Inv-loop level cells shape lefts padded out₀ last n rows start₀ done₀ row₀ out start done row =
-    (row ≤ rows) × (n ≡ rowLength shape) × (rows ≡ cellCount shape / rowLength shape) × Beside (toZ w64 level) shape lefts padded done out × RowStarts shape lefts padded row start
+    RowWalk shape lefts padded n rows row start × AroundTo (toZ w64 level) shape lefts padded row done out₀ out
 
 abbrev μ-loop : tie.MeasureT-loop
 μ-loop level cells shape lefts padded out₀ last n rows start₀ done₀ row₀ out start done row = rows - row
 
--- the last axis is there, and its length is the row's
-last-in : (s : tie.Start Inv-loop μ-loop) → length (now (s .args .shape)) - 1 < length (now (s .args .shape))
-last-in s = omega (arith, grid-accepted (s .pre .0) .some)
-
-width : (s : tie.Start Inv-loop μ-loop) → getD (now (s .args .shape)) (length (now (s .args .shape)) - 1) 0 ≡ rowLength (now (s .args .shape))
-width s = getD-default (now (s .args .shape)) (length (now (s .args .shape)) - 1) 0 1 (last-in s)
-
-sub-last : tie.Need-sub-last Inv-loop μ-loop
-sub-last c = grid-accepted (c .before .before .before .pre .0) .some
-
-mul-n : tie.Need-mul-n Inv-loop μ-loop
-mul-n c = omega (arith, grid-accepted (c .before .before .before .pre .0) .few)
-
-shared-slice-read-n : tie.Need-shared-slice-read-n Inv-loop μ-loop
-shared-slice-read-n c = last-in (c .before .before .before .before)
-
-div-rows : tie.Need-div-rows Inv-loop μ-loop
-div-rows c = let s = c .before .before .before .before in omega (arith, width s, length-pos (now (s .args .shape)) (length (now (s .args .shape)) - 1) (grid-accepted (s .pre .0) .full))
-
-first-row-requires : tie.Need-first-row-requires Inv-loop μ-loop
-first-row-requires c κs = search needs
-
-loop-holds : tie.Need-loop-holds Inv-loop μ-loop
-loop-holds c = let s = c .before .before .before .before .before in (search needs, width s, (λ i. s .pre .1 i / width s i), beside-none _ _ _ _ (s .pre .2), c .first-row .ensures)
-
--- the row of a turn is in the grid, and its target in the padded one
-whole-row : (c : tie.In-loop Inv-loop μ-loop) → let ns = now (c .before .before .before .before .before .before .before .args .shape) in c .before .loop .row * rowLength ns + rowLength ns ≤ cellCount ns
-whole-row c = let s = c .before .before .before .before .before .before .before in rows-in _ _ _ (s .pre .0) (omega (arith, c .loop-test .taken, c .before .loop .inv .2))
-
-row-there : (c : tie.In-loop Inv-loop μ-loop) → let ns = now (c .before .before .before .before .before .before .before .args .shape) in c .before .loop .row * rowLength ns < cellCount ns
-row-there c = let s = c .before .before .before .before .before .before .before in row-start _ _ _ (s .pre .0) (c .before .loop .row) (whole-row c)
-
-target-in : (c : tie.In-loop Inv-loop μ-loop) → let a = c .before .before .before .before .before .before .before .args in c .before .loop .start .place + rowLength (now (a .shape)) ≤ cellCount (now (a .padded))
-target-in c =
-    let s = c .before .before .before .before .before .before .before in
-    let l = c .before .loop in
-    omega (arith, l .inv .4 .place (row-there c), row-fits _ _ _ (s .pre .0) (l .row) (whole-row c))
-
-fill-gap-requires : tie.Need-fill-gap-requires Inv-loop μ-loop
-fill-gap-requires c κs = omega (arith, target-in (c .before), c .before .before .loop .inv .3 .count)
-
-add-done : tie.Need-add-done Inv-loop μ-loop
-add-done c =
-    let i = c .before .before .before in
-    omega (arith, target-in i, i .before .loop .inv .1, i .before .before .before .before .before .before .before .pre .0 .small)
-
-next-row-requires : tie.Need-next-row-requires Inv-loop μ-loop
-next-row-requires c κs = let i = c .before .before .before in (i .before .before .before .before .before .before .before .pre .0, i .before .loop .inv .4, row-there i)
-
-add-row : tie.Need-add-row Inv-loop μ-loop
-add-row c =
-    let i = c .before .before .before .before in
-    omega (arith, row-small _ _ _ (i .before .before .before .before .before .before .before .pre .0) (i .before .loop .row) (row-there i))
-
-loop-less : tie.Need-loop-less Inv-loop μ-loop
-loop-less c = search needs
-
-loop-again : tie.Need-loop-again Inv-loop μ-loop
-loop-again c =
-    let i = c .before .before .before .before in
-    let s = i .before .before .before .before .before .before .before in
-    let l = i .before .loop in
-    (search needs, l .inv .1, l .inv .2, beside-row _ _ _ _ (l .inv .3) _ (c .before .before .fill-gap .ensures) (l .inv .1) (s .pre .0) (l .row) (whole-row i) (l .inv .4 .place (row-there i)), c .next-row .ensures)
-
-fill-gap-requires-2 : tie.Need-fill-gap-requires-2 Inv-loop μ-loop
-fill-gap-requires-2 c κs = search needs
-
-same-length : tie.Need-same-length Inv-loop μ-loop
-same-length c = search needs
-
-returns : tie.Need-returns Inv-loop μ-loop
-returns c =
-    let l = c .before .before .before .before .loop in
-    let s = c .before .before .before .before .before .before .before .before .before .before in
-    beside-end _ _ _ _ (l .inv .3) _ (c .before .fill-gap2 .ensures) (toZ-ofZ {w = w64} (s .fits .level)) refl
-
 pub fill-around-spec : {M : Type 1} → statement M
 fill-around-spec =
     tie.close
-    (tie.spec
-    Inv-loop
-    μ-loop
-    sub-last
-    mul-n
-    shared-slice-read-n
-    div-rows
-    first-row-requires
-    loop-holds
-    fill-gap-requires
-    add-done
-    next-row-requires
-    add-row
-    loop-less
-    loop-again
-    fill-gap-requires-2
-    same-length
-    returns)
+    (tie.spec Inv-loop μ-loop
+    -- the rows and their length, and where the first starts
+    (λ c. axes-some (c .before .before .before .pre .0)) (λ c. omega (arith, axes-few (c .before .before .before .pre .0)))
+    (λ c. last-in (c .before .before .before .before .pre .0)) (λ c. last-some (c .before .before .before .before .pre .0)) (λ c κs. search needs)
+    (λ c. let s = c .before .before .before .before .before in (walk-none (s .pre .0) (s .pre .1) (c .first-row .ensures), around-none _ _ _ _ (s .pre .2)))
+    -- the gap before a row
+    (λ c κs. let k = c .before in let v = k .before .loop .inv in
+    omega (arith, walk-in (k .before .before .before .before .before .before .before .pre .0) (v .0) (k .loop-test .taken), v .1 .count, v .1 .stored .kept))
+    (λ c. let k = c .before .before .before in let F = k .before .before .before .before .before .before .before .pre .0 in
+    omega (arith, walk-in F (k .before .loop .inv .0) (k .loop-test .taken), F .small))
+    -- the next row
+    (λ c κs. let k = c .before .before .before in let F = k .before .before .before .before .before .before .before .pre .0 in
+    let W = k .before .loop .inv .0 in (F, W .starts, walk-there F W (k .loop-test .taken)))
+    (λ c. let k = c .before .before .before .before in omega (arith, walk-few (k .before .before .before .before .before .before .before .pre .0) (k .before .loop .inv .0) (k .loop-test .taken)))
+    (λ c. search needs)
+    (λ c. let k = c .before .before .before .before in let F = k .before .before .before .before .before .before .before .pre .0 in let W = k .before .loop .inv .0 in let b = k .loop-test .taken in (
+      walk-more F W b (c .next-row .ensures),
+      around-more _ _ _ _ (k .before .loop .inv .1) _ (c .before .before .fill-gap .ensures) F (walk-row F W b) (walk-target F W b) (W .width),
+    ))
+    -- the last gap
+    (λ c κs. search needs) (λ c. search needs)
+    (λ c. let k = c .before .before .before .before in let s = k .before .before .before .before .before .before in
+    around-end _ _ _ _ (k .loop .inv .1) _ (c .before .fill-gap2 .ensures) (s .pre .0)
+    (walk-all (s .pre .0) (k .loop .inv .0) (c .before .before .before .loop-test .left)) refl (toZ-ofZ {w = w64} (s .fits .level))))

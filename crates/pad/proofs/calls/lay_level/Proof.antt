@@ -21,7 +21,7 @@ returns : tie.Need-returns
 returns c =
     let t = c .before .before .before .before in
     let s = t .before .before .before .before .before in
-    laid-started (s .args .c) _ _ _ _ (s .args .whole) (now (s .args .out)) _ (read (s .fits .c .sfits) refl) (t .start .ensures) (c .before .copy-middle .ensures)
+    laid-started (s .args .c) _ _ _ _ (read (s .fits .c .sfits) refl) (now (s .args .out)) (s .pre .2) (s .args .whole) (t .start .ensures) (c .before .copy-middle .ensures)
 
 pub lay-level-spec : {M : Type 1} → statement M
 lay-level-spec = tie.close (tie.spec start-requires copy-middle-requires same-length returns)

@@ -1,13 +1,12 @@
--- `copy_steps` meets its contract: the cells are stored one after the other, and none of them is read later.
+-- `copy_steps` meets its contract, by the laws of StepByStep: the cells are stored one after the other, and none of them is read later.
 -- Assumes nothing.
 use mathlib.Core.Path.{refl}
-use Prim.Native.Nat.{_+_, _-_, _*_, _≤_, _<_}
+use Prim.Native.Nat.{_-_, _≤_}
 use native.Mathlib.Omega.{arith}
 use borrow.Author.Needs.{needs}
 use lib.IntN.{pos}
-use lib.ListN.{length}
 use Rattle.numbers.proofs.Read.{read}
-use Rattle.pad_line.proofs.StepByStep.{StepStored, step-none, step-all, step-more}
+use Rattle.pad_line.proofs.StepByStep.{step-turn, StepStored, step-none, step-all, step-more}
 use Rattle.pad_line.proofs.steps.copy_steps.Statement.{statement}
 use Rattle.pad_line.proofs.steps.copy_steps.Tie as tie
 
@@ -17,79 +16,20 @@ Inv-loop up down from at count out₀ j₀ out j = (j ≤ count) × StepStored (
 abbrev μ-loop : tie.MeasureT-loop
 μ-loop up down from at count out₀ j₀ out j = count - j
 
-loop-holds : tie.Need-loop-holds Inv-loop μ-loop
-loop-holds c = (search needs, step-none (pos 0) _ _ _ _ _)
-
--- the places that a turn reads and stores are in the list, and so is the one from which it steps back
-ahead : (c : tie.In-loop Inv-loop μ-loop) → let a = c .before .before .args in a .from + a .up * c .before .loop .j < length (a .out .now)
-ahead c = c .before .before .pre .ahead (c .before .loop .j) (c .loop-test .taken)
-
-behind : (c : tie.In-loop Inv-loop μ-loop) → let a = c .before .before .args in a .down * c .before .loop .j ≤ a .from + a .up * c .before .loop .j
-behind c = c .before .before .pre .behind (c .before .loop .j) (c .loop-test .taken)
-
-stores : (c : tie.In-loop Inv-loop μ-loop) → let a = c .before .before .args in a .at + c .before .loop .j < length (a .out .now)
-stores c = c .before .before .pre .stores (c .before .loop .j) (c .loop-test .taken)
-
-mul-v : tie.Need-mul-v Inv-loop μ-loop
-mul-v c = omega (arith, ahead c)
-
-add-v : tie.Need-add-v Inv-loop μ-loop
-add-v c = omega (arith, ahead c)
-
-mul-v-2 : tie.Need-mul-v-2 Inv-loop μ-loop
-mul-v-2 c = omega (arith, ahead c, behind c)
-
-sub-v : tie.Need-sub-v Inv-loop μ-loop
-sub-v c = behind c
-
-mul-v-3 : tie.Need-mul-v-3 Inv-loop μ-loop
-mul-v-3 c = omega (arith, ahead c)
-
-slice-copy-out-v : tie.Need-slice-copy-out-v Inv-loop μ-loop
-slice-copy-out-v c = omega (arith, ahead c, c .before .loop .inv .1 .stored .kept)
-
-add-to : tie.Need-add-to Inv-loop μ-loop
-add-to c = omega (arith, stores (c .before))
-
-mul-v-4 : tie.Need-mul-v-4 Inv-loop μ-loop
-mul-v-4 c = omega (arith, stores (c .before))
-
-slice-set-from-v : tie.Need-slice-set-from-v Inv-loop μ-loop
-slice-set-from-v c = omega (arith, stores (c .before), c .before .before .loop .inv .1 .stored .kept)
-
-add-j : tie.Need-add-j Inv-loop μ-loop
-add-j c = search needs
-
-loop-less : tie.Need-loop-less Inv-loop μ-loop
-loop-less c = search needs
-
-loop-again : tie.Need-loop-again Inv-loop μ-loop
-loop-again c = (search needs, step-more (pos 0) _ (c .before .before .before .pre) (c .before .loop-test .taken) refl (read (c .v .given) refl) (c .before .before .loop .inv .1))
-
-same-length : tie.Need-same-length Inv-loop μ-loop
-same-length c = c .before .loop .inv .1 .stored .kept
-
-returns : tie.Need-returns Inv-loop μ-loop
-returns c = step-all (pos 0) (c .before .before .args .count) (omega arith) (c .before .loop .inv .1)
-
 pub copy-steps-spec : {M : Type 1} → statement M
 copy-steps-spec =
     tie.close
-    (tie.spec
-    Inv-loop
-    μ-loop
-    loop-holds
-    mul-v
-    add-v
-    mul-v-2
-    sub-v
-    mul-v-3
-    slice-copy-out-v
-    add-to
-    mul-v-4
-    slice-set-from-v
-    add-j
-    loop-less
-    loop-again
-    same-length
-    returns)
+    (tie.spec Inv-loop μ-loop
+    (λ c. (search needs, step-none (pos 0) _ _ _ _ _))
+    -- the place that is read
+    (λ c. let t = step-turn (c .before .before .pre) (c .loop-test .taken) in omega arith) (λ c. let t = step-turn (c .before .before .pre) (c .loop-test .taken) in omega arith)
+    (λ c. let t = step-turn (c .before .before .pre) (c .loop-test .taken) in omega arith) (λ c. let t = step-turn (c .before .before .pre) (c .loop-test .taken) in t .behind)
+    (λ c. let t = step-turn (c .before .before .pre) (c .loop-test .taken) in omega arith)
+    (λ c. let t = step-turn (c .before .before .pre) (c .loop-test .taken) in omega (arith, c .before .loop .inv .1 .stored .kept))
+    -- the place that is stored
+    (λ c. let t = step-turn (c .before .before .before .pre) (c .before .loop-test .taken) in omega arith) (λ c. let t = step-turn (c .before .before .before .pre) (c .before .loop-test .taken) in omega arith)
+    (λ c. let t = step-turn (c .before .before .before .pre) (c .before .loop-test .taken) in omega (arith, c .before .before .loop .inv .1 .stored .kept))
+    -- one cell more, and all
+    (λ c. search needs) (λ c. search needs)
+    (λ c. (search needs, step-more (pos 0) _ (c .before .before .before .pre) (c .before .loop-test .taken) refl (read (c .v .given) refl) (c .before .before .loop .inv .1)))
+    (λ c. c .before .loop .inv .1 .stored .kept) (λ c. step-all (pos 0) (c .before .before .args .count) (omega arith) (c .before .loop .inv .1)))

@@ -1,21 +1,16 @@
 -- `greater` meets its contract: the second is taken where it is above the first.
 -- Assumes nothing.
-use mathlib.Core.Bool.{not}
-use mathlib.Core.Path.{sym, ap, _∙_}
-use mir.Syntax.{w64}
-use mir.ValLaws.{toZ-ofZ}
-use Rattle.numbers.proofs.IntOrder.{leZ-not-ltZ}
-use Rattle.numbers.proofs.Tests.{cond-yes, cond-no}
+use mathlib.Core.Bool.{true, false}
+use Rattle.numbers.specs.Order.{atLeast}
+use Rattle.statistics.proofs.Running.{at-most-tested, second-taken, first-kept}
 use Rattle.statistics.proofs.extremes.greater.Statement.{statement}
 use Rattle.statistics.proofs.extremes.greater.Tie as tie
 
 returns : tie.Need-returns
-returns c = let s = c .before in
-    toZ-ofZ w64 _ (s .fits .b) ∙ sym (cond-no _ (s .args .a) (s .args .b) (leZ-not-ltZ (s .args .b) (s .args .a) ∙ ap not (rw (toZ-ofZ w64 _ (s .fits .a), toZ-ofZ w64 _ (s .fits .b)) at (c .if1 .taken))))
+returns c = let f = c .before .fits in second-taken atLeast (f .a) (f .b) (at-most-tested true (f .b) (f .a) (c .if1 .taken))
 
 returns-2 : tie.Need-returns-2
-returns-2 c = let s = c .before in
-    toZ-ofZ w64 _ (s .fits .a) ∙ sym (cond-yes _ (s .args .a) (s .args .b) (leZ-not-ltZ (s .args .b) (s .args .a) ∙ ap not (rw (toZ-ofZ w64 _ (s .fits .a), toZ-ofZ w64 _ (s .fits .b)) at (c .if1 .left))))
+returns-2 c = let f = c .before .fits in first-kept atLeast (f .a) (f .b) (at-most-tested false (f .b) (f .a) (c .if1 .left))
 
 pub greater-spec : {M : Type 1} → statement M
 greater-spec = tie.close (tie.spec returns returns-2)
