@@ -5,7 +5,7 @@ ghost use Rattle.numbers.specs.Refusal.{Answers};
 ghost use Rattle.pad_spec.specs.Conditions.{padJudged};
 ghost use Rattle.pad_spec.specs.Levels.{paddedGrid, paddedOver};
 ghost use Rattle.pad_spec.specs.Pads.{leftsOf, rightsOf};
-ghost use Rattle.codes.specs.Codes.{padModeOf, unknownPad, coded};
+ghost use Rattle.codes.specs.Codes.{paddingOf, unknownPad, coded};
 ghost use Rattle.codes.specs.Cells.{pairAt, pairsOf};
 use pad_spec::Pair;
 
@@ -61,8 +61,8 @@ pub extern "C" fn suvvokal_pad(
     constant: i64,
     out: &mut [i64],
 ) -> u8
-    ensures { λ r. ⌜ Answers (coded (padJudged (padModeOf code constant) (now (shape .entry)) (pairsOf (now (lefts .entry)) (now (rights .entry))) count (now («data» .entry)) (length (now (out .entry)))) (unknownPad code))
-        (paddedGrid (padModeOf code constant) (now (shape .entry)) (leftsOf (now (shape .entry)) (pairsOf (now (lefts .entry)) (now (rights .entry))) count) (rightsOf (now (shape .entry)) (pairsOf (now (lefts .entry)) (now (rights .entry))) count) (now («data» .entry))) (now (out .entry)) r (now (out .exit)) ⌝ }
+    ensures { λ r. ⌜ Answers (coded (padJudged (paddingOf code constant) (now (shape .entry)) (pairsOf (now (lefts .entry)) (now (rights .entry))) count (now («data» .entry)) (length (now (out .entry)))) (unknownPad code))
+        (paddedGrid (paddingOf code constant) (now (shape .entry)) (leftsOf (now (shape .entry)) (pairsOf (now (lefts .entry)) (now (rights .entry))) count) (rightsOf (now (shape .entry)) (pairsOf (now (lefts .entry)) (now (rights .entry))) count) (now («data» .entry))) (now (out .entry)) r (now (out .exit)) ⌝ }
 {
     let mode = codes::pad_mode_of(code, constant);
     let pairs = pairs_of(lefts, rights);
@@ -86,8 +86,8 @@ pub extern "C" fn suvvokal_pad_to(
     constant: i64,
     out: &mut [i64],
 ) -> u8
-    ensures { λ r. ⌜ Answers (coded (padJudged (padModeOf code constant) (now (shape .entry)) (pairsOf (now (lefts .entry)) (now (rights .entry))) count (now («data» .entry)) (length (now (out .entry)))) (unknownPad code))
-        (paddedOver (padModeOf code constant) (now (shape .entry)) (leftsOf (now (shape .entry)) (pairsOf (now (lefts .entry)) (now (rights .entry))) count) (rightsOf (now (shape .entry)) (pairsOf (now (lefts .entry)) (now (rights .entry))) count) (now («data» .entry)) (now (out .entry))) (now (out .entry)) r (now (out .exit)) ⌝ }
+    ensures { λ r. ⌜ Answers (coded (padJudged (paddingOf code constant) (now (shape .entry)) (pairsOf (now (lefts .entry)) (now (rights .entry))) count (now («data» .entry)) (length (now (out .entry)))) (unknownPad code))
+        (paddedOver (paddingOf code constant) (now (shape .entry)) (leftsOf (now (shape .entry)) (pairsOf (now (lefts .entry)) (now (rights .entry))) count) (rightsOf (now (shape .entry)) (pairsOf (now (lefts .entry)) (now (rights .entry))) count) (now («data» .entry)) (now (out .entry))) (now (out .entry)) r (now (out .exit)) ⌝ }
 {
     let mode = codes::pad_mode_of(code, constant);
     let pairs = pairs_of(lefts, rights);

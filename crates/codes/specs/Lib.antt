@@ -1,4 +1,5 @@
--- The entry points for callers in other languages.
+-- Codes and words for callers in other languages and for requests.
 pub mod Codes
+pub mod Words
 pub mod Cells
 pub mod Rows

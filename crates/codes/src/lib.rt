@@ -1,14 +1,18 @@
-// What the codes of the entry points (`capi`) name, and the last condition: a code that names nothing.
+// What the codes of the entry points (`capi`) and the words of requests (`ndimage`) name, and the last condition: a code that names nothing.
+// A word's place in its table is its code.
 ghost use mathlib.Core.Path.{_≡_};
 ghost use mathlib.Core.Bool.{cond};
 ghost use lib.Dec.{eqb};
-ghost use Rattle.codes.specs.Codes.{modeOf, modeOfF64, padModeOf, kernelOf, codeOf};
+ghost use Rattle.codes.specs.Codes.{modeOf, modeOfF64, paddingOf, kernelOf, codeOf};
+ghost use Rattle.codes.specs.Words.{borderWords, padWords, kernelWords, classWords};
 ghost use Rattle.codes.specs.Rows.{CodesRows};
+ghost use Rattle.words.specs.Words.{wordsOf, placeIn};
 use border::BorderMode;
 use border::BorderModeF64;
 use border::PadMode;
 use kernel3d::Kernel3d;
 use symmetry_spec::SymmetryState;
+use words::Found;
 
 // A code that names no border, padding mode or kernel.
 pub const UNKNOWN: u8 = 100;
@@ -53,7 +57,7 @@ pub fn mode_of_f64(code: u8, constant: f64) -> BorderModeF64
 
 // The padding mode of a code. 6 is Reflect; 9, which names none, is Edge.
 pub fn pad_mode_of(code: u8, constant: i64) -> PadMode
-    ensures { λ r. ⌜ r ≡ padModeOf code constant ⌝ }
+    ensures { λ r. ⌜ r ≡ paddingOf code constant ⌝ }
 {
     if code == 0 {
         return PadMode::Constant(constant);
@@ -106,6 +110,37 @@ pub fn code_of(class: SymmetryState) -> u8
     }
 }
 
+// The code of a border's word. mirror is At 1, and circle is Nothing.
+pub fn border_code(token: &[u8]) -> Found
+    ensures { λ r. ⌜ r ≡ placeIn borderWords (now (token .entry)) ⌝ }
+{
+    words::find_word(token, b"constant mirror nearest reflect wrap ")
+}
+
+// The code of a padding mode's word. edge is At 1.
+pub fn pad_code(token: &[u8]) -> Found
+    ensures { λ r. ⌜ r ≡ placeIn padWords (now (token .entry)) ⌝ }
+{
+    words::find_word(
+        token,
+        b"constant edge maximum mean median minimum reflect symmetric wrap ",
+    )
+}
+
+// The code of a kernel's word. ball is At 1.
+pub fn kernel_code(token: &[u8]) -> Found
+    ensures { λ r. ⌜ r ≡ placeIn kernelWords (now (token .entry)) ⌝ }
+{
+    words::find_word(token, b"star ball full ")
+}
+
+// The words of symmetry classes as a table, in the order of their codes.
+pub fn class_words() -> [u8; 37]
+    ensures { λ r. ⌜ wordsOf r ≡ classWords ⌝ }
+{
+    *b"NonSymmetric Symmetric AntiSymmetric "
+}
+
 // The number of a call with an unknown code, which is judged last. Of 11 it is 11, of 0 it is 100.
 pub fn unknown_after(refusal: u8) -> u8
     ensures { λ r. ⌜ r ≡ cond (eqb refusal 0) 100 refusal ⌝ }
@@ -116,7 +151,7 @@ pub fn unknown_after(refusal: u8) -> u8
     UNKNOWN
 }
 
-// Worked rows of codes: what each names, and the number of a code that names nothing. Refuses nothing.
+// Worked rows of codes and words: what each names, and the number of a code that names nothing. Refuses nothing.
 pub fn rows()
     ensures { λ _. ⌜ CodesRows ⌝ }
 {}

@@ -29,7 +29,10 @@ fn rows() {
     text_spec::reads_back();
     text_f64::rows();
     text_f64::reads_back_f64();
+    words::rows();
     codes::rows();
+    ndimage_spec::rows();
+    ndimage_arguments::rows();
     min_max::rows();
     pad_copy::rows();
     pad::rows();

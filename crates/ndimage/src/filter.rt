@@ -1,38 +1,31 @@
 // The filters of whole levels: each calls the library on what was read, and answers the call's number.
-use crate::list;
-use crate::mode;
 use border::BorderMode;
-use ndimage_read::place::AXIS;
-use ndimage_read::place::BORDER;
-use ndimage_read::place::CONSTANT_AT;
-use ndimage_read::place::ORIGIN_AT;
-use ndimage_read::place::Place;
-use ndimage_read::place::REQUEST;
-use ndimage_read::place::SECOND;
-use ndimage_read::place::SIZE;
-use ndimage_read::words;
-
-fn border_of(place: &Place, levels: &[i64]) -> BorderMode {
-    crate::mode::border(place[BORDER], crate::list::level(levels, CONSTANT_AT))
-}
-
-fn origin_of(levels: &[i64]) -> isize {
-    crate::list::level(levels, ORIGIN_AT) as isize
-}
+use ndimage_read::requests::CORRELATE;
+use ndimage_read::requests::CORRELATE1D;
+use ndimage_read::requests::MAXIMUM;
+use ndimage_read::requests::MINIMUM;
+use ndimage_read::requests::MINIMUM1D;
+use ndimage_read::requests::PREWITT;
+use ndimage_read::requests::UNIFORM;
+use ndimage_read::state::AXIS;
+use ndimage_read::state::REQUEST;
+use ndimage_read::state::SECOND;
+use ndimage_read::state::SIZE;
+use ndimage_read::state::State;
 
 // Grid kernels.
 pub(crate) fn kernel(
-    place: &Place,
+    state: &State,
     levels: &[i64],
     data: &[i64],
     shape: &[usize],
     out: &mut [i64],
 ) -> u8 {
-    let weights = crate::list::weights(place, levels);
-    let sides = crate::list::sides(place);
-    let mode = border_of(place, levels);
-    let origin = origin_of(levels);
-    if place[REQUEST] == words::CORRELATE {
+    let weights = ndimage_arguments::weights(state, levels);
+    let sides = ndimage_arguments::sides(state);
+    let mode = ndimage_arguments::border_of(state, levels);
+    let origin = ndimage_arguments::origin_of(levels);
+    if state[REQUEST] == CORRELATE {
         return correlate::correlate(data, shape, weights, sides, mode, origin, out);
     }
     correlate::convolve(data, shape, weights, sides, mode, origin, out)
@@ -40,36 +33,49 @@ pub(crate) fn kernel(
 
 // Weights along an axis.
 pub(crate) fn weigh(
-    place: &Place,
+    state: &State,
     levels: &[i64],
     data: &[i64],
     shape: &[usize],
     out: &mut [i64],
 ) -> u8 {
-    let weights = crate::list::weights(place, levels);
-    let mode = border_of(place, levels);
-    let origin = origin_of(levels);
-    if place[REQUEST] == words::CORRELATE1D {
-        return correlate1d::correlate1d(data, shape, weights, place[AXIS], mode, origin, out);
+    let weights = ndimage_arguments::weights(state, levels);
+    let mode = ndimage_arguments::border_of(state, levels);
+    let origin = ndimage_arguments::origin_of(levels);
+    if state[REQUEST] == CORRELATE1D {
+        return correlate1d::correlate1d(data, shape, weights, state[AXIS], mode, origin, out);
     }
-    correlate1d::convolve1d(data, shape, weights, place[AXIS], mode, origin, out)
+    correlate1d::convolve1d(data, shape, weights, state[AXIS], mode, origin, out)
 }
 
 // The extremes of windows along an axis.
-fn extreme1d(
-    place: &Place,
+pub(crate) fn extreme1d(
+    state: &State,
+    levels: &[i64],
     data: &[i64],
     shape: &[usize],
-    mode: BorderMode,
-    origin: isize,
     out: &mut [i64],
 ) -> u8 {
-    let size = place[SIZE];
-    let axis = place[AXIS];
-    if place[REQUEST] == words::MINIMUM1D {
+    let mode = ndimage_arguments::border_of(state, levels);
+    let origin = ndimage_arguments::origin_of(levels);
+    let size = state[SIZE];
+    let axis = state[AXIS];
+    if state[REQUEST] == MINIMUM1D {
         return min_max::minimum_filter1d(data, shape, size, axis, mode, origin, out);
     }
     min_max::maximum_filter1d(data, shape, size, axis, mode, origin, out)
+}
+
+// Means of windows along an axis.
+pub(crate) fn uniform1d(
+    state: &State,
+    levels: &[i64],
+    data: &[i64],
+    shape: &[usize],
+    out: &mut [i64],
+) -> u8 {
+    let mode = ndimage_arguments::border_of(state, levels);
+    uniform::uniform_filter1d(data, shape, state[SIZE], state[AXIS], mode, out)
 }
 
 // The extremes of windows along every axis.
@@ -83,7 +89,7 @@ fn extreme(
     second: &mut [i64],
     out: &mut [i64],
 ) -> u8 {
-    if request == words::MINIMUM {
+    if request == MINIMUM {
         return min_max::minimum_filter(data, shape, size, mode, origin, second, out);
     }
     min_max::maximum_filter(data, shape, size, mode, origin, second, out)
@@ -98,7 +104,7 @@ fn gradient(
     second: &mut [i64],
     out: &mut [i64],
 ) -> u8 {
-    if request == words::PREWITT {
+    if request == PREWITT {
         return gradient::prewitt(data, shape, axis, mode, second, out);
     }
     gradient::sobel(data, shape, axis, mode, second, out)
@@ -106,7 +112,7 @@ fn gradient(
 
 // The filters with a second grid.
 fn two_grids(
-    place: &Place,
+    state: &State,
     data: &[i64],
     shape: &[usize],
     mode: BorderMode,
@@ -114,33 +120,25 @@ fn two_grids(
     second: &mut [i64],
     out: &mut [i64],
 ) -> u8 {
-    let request = place[REQUEST];
-    if request >= words::PREWITT {
-        return gradient(request, data, shape, place[AXIS], mode, second, out);
+    let request = state[REQUEST];
+    match request {
+        UNIFORM => uniform::uniform_filter(data, shape, state[SIZE], mode, second, out),
+        MINIMUM | MAXIMUM => extreme(request, data, shape, state[SIZE], mode, origin, second, out),
+        _ => gradient(request, data, shape, state[AXIS], mode, second, out),
     }
-    if request == words::UNIFORM {
-        return uniform::uniform_filter(data, shape, place[SIZE], mode, second, out);
-    }
-    extreme(request, data, shape, place[SIZE], mode, origin, second, out)
 }
 
-// Filters without weights; the second grid has what was asked, or one cell more than any call takes.
-pub(crate) fn windowed(
-    place: &Place,
+// The same; the second grid has what was asked, or one cell more than any call takes.
+pub(crate) fn every_axis(
+    state: &State,
     levels: &[i64],
     data: &[i64],
     shape: &[usize],
     out: &mut [i64],
 ) -> u8 {
     let mut second = [0i64; 8193];
-    let n = crate::list::lent(place[SECOND], 8193);
-    let mode = border_of(place, levels);
-    let origin = origin_of(levels);
-    if place[REQUEST] <= words::MAXIMUM1D {
-        return extreme1d(place, data, shape, mode, origin, out);
-    }
-    if place[REQUEST] == words::UNIFORM1D {
-        return uniform::uniform_filter1d(data, shape, place[SIZE], place[AXIS], mode, out);
-    }
-    two_grids(place, data, shape, mode, origin, &mut second[0..n], out)
+    let n = ndimage_arguments::lent(state[SECOND], 8193);
+    let mode = ndimage_arguments::border_of(state, levels);
+    let origin = ndimage_arguments::origin_of(levels);
+    two_grids(state, data, shape, mode, origin, &mut second[0..n], out)
 }

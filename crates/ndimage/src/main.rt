@@ -1,68 +1,69 @@
 // Answers requests on standard input, a line each, with a line each on standard output.
 use ndimage_read::cursor;
-use ndimage_read::place::FAULT;
-use ndimage_read::place::Floats;
-use ndimage_read::place::KIND;
-use ndimage_read::place::LEN;
-use ndimage_read::place::Levels;
-use ndimage_read::place::Place;
-use ndimage_read::place::REQUEST;
-use ndimage_read::place::Room;
+use ndimage_read::state::Buffer;
+use ndimage_read::state::FAULT;
+use ndimage_read::state::FORM;
+use ndimage_read::state::Floats;
+use ndimage_read::state::LEN;
+use ndimage_read::state::Levels;
+use ndimage_read::state::REQUEST;
+use ndimage_read::state::State;
 
 mod filter;
 mod filter_f64;
 mod kernel;
-mod list;
 mod mask;
-mod mode;
 mod padding;
 mod request;
 
 type Out = [i64; 32769];
 
 // The answer to what was read; what is wrong with it, 0 for nothing.
-fn answer(place: &Place, levels: &Levels, floats: &Floats, out: &mut Out) -> usize {
-    if place[FAULT] != 0 {
-        return place[FAULT];
+fn answer(state: &State, levels: &Levels, floats: &Floats, out: &mut Out) -> usize {
+    if state[FAULT] != 0 {
+        return state[FAULT];
     }
-    if request::is_whole(place[REQUEST], place[KIND]) {
-        return request::whole(place, levels, out);
+    if ndimage_arguments::is_whole(state[REQUEST], state[FORM]) {
+        return request::whole(state, levels, out);
     }
-    request::other(place, levels, floats)
+    request::other(state, levels, floats)
 }
 
 // What is wrong with the line, where something is.
-fn report(room: &[u8], place: &Place, fault: usize) {
+fn report(buffer: &[u8], state: &State, fault: usize) {
     if fault == 0 {
         return;
     }
-    ndimage_write::error(room, place[LEN], fault);
+    ndimage_write::error(buffer, state[LEN], fault);
 }
 
-// A line: what it asks for, or what is wrong with it.
+// A line: what it asks for, or what is wrong with it. Behind the last line feed there is none.
 fn serve(
-    room: &mut Room,
-    place: &mut Place,
+    buffer: &mut Buffer,
+    state: &mut State,
     levels: &mut Levels,
     floats: &mut Floats,
     out: &mut Out,
 ) {
-    ndimage_read::read(room, place, levels, floats);
-    let fault = answer(place, levels, floats, out);
-    report(room, place, fault);
+    ndimage_read::read(buffer, state, levels, floats);
+    if cursor::past(state) {
+        return;
+    }
+    let fault = answer(state, levels, floats, out);
+    report(buffer, state, fault);
 }
 
 // The arrays are made once.
 fn main() {
-    let mut room = [0u8; 65600];
-    let mut place = [0usize; 48];
+    let mut buffer = [0u8; 65600];
+    let mut state = [0usize; 48];
     let mut levels = [0i64; 41308];
     let mut floats = [0.0; 8538];
     let mut out = [0i64; 32769];
     let mut turns = u64::MAX;
     while turns > 0 {
-        serve(&mut room, &mut place, &mut levels, &mut floats, &mut out);
-        if cursor::over(&place) {
+        serve(&mut buffer, &mut state, &mut levels, &mut floats, &mut out);
+        if cursor::over(&state) {
             break;
         }
         turns -= 1;

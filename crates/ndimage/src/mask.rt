@@ -1,6 +1,4 @@
 // The median of masks, whose cells are read and written as 0 and 1.
-use crate::kernel::digit;
-use crate::list;
 
 // Marks, one more than any call takes.
 type Mask = [bool; 8193];
@@ -32,7 +30,7 @@ fn unmark(mask: &Mask, out: &mut [i64]) {
         if i >= out.len() {
             break;
         }
-        out[i] = digit(mask[i]);
+        out[i] = ndimage_arguments::digit(mask[i]);
         i += 1;
     }
 }
@@ -51,7 +49,7 @@ pub const ODD: u8 = 255;
 // The call on marks, with an output of as many cells as out.
 fn vote(mask: &Mask, count: usize, shape: &[usize], out: &mut [i64]) -> u8 {
     let mut voted = [false; 8193];
-    let n = crate::list::lent(out.len(), 8193);
+    let n = ndimage_arguments::lent(out.len(), 8193);
     let refusal = median::median_filter(first(mask, count), shape, &mut voted[0..n]);
     unmark(&voted, out);
     refusal

@@ -1,15 +1,17 @@
 // Reading standard input token by token. A token is what stands between spaces; only its first bytes are kept.
-use crate::place::AT;
-use crate::place::END;
-use crate::place::FAULT;
-use crate::place::LEN;
-use crate::place::LINE;
-use crate::place::Place;
-use crate::place::Room;
-use crate::place::STATE;
+use crate::state::AT;
+use crate::state::Buffer;
+use crate::state::END;
+use crate::state::FAULT;
+use crate::state::LEN;
+use crate::state::LINE;
+use crate::state::STAGE;
+use crate::state::State;
 use libc::STDIN_FILENO;
 use ndimage_write::EXTRA;
 use ndimage_write::LONG;
+ghost use mathlib.Core.Path.{_≡_};
+ghost use Rattle.ndimage_read.specs.Token.{inputEnded, noLine, endBehind};
 
 // How many bytes of a token are kept, in front of what was read.
 const KEPT: usize = 64;
@@ -29,47 +31,61 @@ const LONGEST: usize = 1000000;
 const NONE: usize = 256;
 
 // Goes on with the next line.
-pub fn begin_line(place: &mut Place) {
-    place[LINE] = 0;
-    place[STATE] = OPEN;
-    place[FAULT] = 0;
+pub(crate) fn begin_line(state: &mut State) {
+    state[LINE] = 0;
+    state[STAGE] = OPEN;
+    state[FAULT] = 0;
 }
 
 // Whether the input has ended.
-pub fn over(place: &Place) -> bool {
-    place[STATE] == INPUT_END
+pub fn over(state: &State) -> bool
+    ensures { λ r. ⌜ r ≡ inputEnded (now (state .entry)) ⌝ }
+{
+    state[STAGE] == INPUT_END
+}
+
+// Whether there was no line: the input ended before its first byte.
+pub fn past(state: &State) -> bool
+    ensures { λ r. ⌜ r ≡ noLine (now (state .entry)) ⌝ }
+{
+    if state[STAGE] != INPUT_END {
+        return false;
+    }
+    state[LINE] == 0
 }
 
 // Notes a fault; the first one stays.
-pub fn faulty(place: &mut Place, fault: usize) {
-    if place[FAULT] != 0 {
+pub(crate) fn faulty(state: &mut State, fault: usize) {
+    if state[FAULT] != 0 {
         return;
     }
-    place[FAULT] = fault;
+    state[FAULT] = fault;
 }
 
 // Reads behind the token: how many bytes.
-fn bring(room: &mut [u8]) -> usize {
-    if room.len() < KEPT {
+fn bring(buffer: &mut [u8]) -> usize {
+    if buffer.len() < KEPT {
         return 0;
     }
-    let got = libc::read(STDIN_FILENO, &mut room[KEPT..]);
-    io::count(got, &room[KEPT..])
+    let got = libc::read(STDIN_FILENO, &mut buffer[KEPT..]);
+    io::count(got, &buffer[KEPT..])
 }
 
 // More bytes, or the end of the input.
-fn fill(room: &mut Room, place: &mut Place) {
-    let n = bring(room);
+fn fill(buffer: &mut Buffer, state: &mut State) {
+    let n = bring(buffer);
     if n == 0 {
-        place[STATE] = INPUT_END;
+        state[STAGE] = INPUT_END;
         return;
     }
-    place[AT] = KEPT;
-    place[END] = behind(n);
+    state[AT] = KEPT;
+    state[END] = behind(n);
 }
 
 // Where n bytes end that were read behind the token.
-fn behind(n: usize) -> usize {
+fn behind(n: usize) -> usize
+    ensures { λ r. ⌜ r ≡ endBehind n ⌝ }
+{
     if n > 65536 {
         return KEPT;
     }
@@ -77,124 +93,126 @@ fn behind(n: usize) -> usize {
 }
 
 // Counts a byte of the line; its end does not count.
-fn lengthen(place: &mut Place, byte: u8) {
-    let line = place[LINE];
+fn lengthen(state: &mut State, byte: u8) {
+    let line = state[LINE];
     if byte == 10 {
         return;
     }
     if line > LONGEST {
         return;
     }
-    place[LINE] = line + 1;
+    state[LINE] = line + 1;
 }
 
-fn wide(byte: u8) -> usize {
+fn wide(byte: u8) -> usize
+    ensures { λ r. ⌜ r ≡ byte ⌝ }
+{
     byte as usize
 }
 
-// The next byte; NONE where more bytes had to be brought into the room first, or the input has ended.
-fn advance(room: &mut Room, place: &mut Place) -> usize {
-    let at = place[AT];
-    if at >= place[END] {
-        fill(room, place);
+// The next byte; NONE where more bytes had to be brought into the buffer first, or the input has ended.
+fn advance(buffer: &mut Buffer, state: &mut State) -> usize {
+    let at = state[AT];
+    if at >= state[END] {
+        fill(buffer, state);
         return NONE;
     }
     if at >= 65600 {
-        place[STATE] = INPUT_END;
+        state[STAGE] = INPUT_END;
         return NONE;
     }
-    place[AT] = at + 1;
-    let byte = room[at];
-    lengthen(place, byte);
+    state[AT] = at + 1;
+    let byte = buffer[at];
+    lengthen(state, byte);
     wide(byte)
 }
 
-// Keeps a byte of the token where there is room.
-fn keep(room: &mut Room, n: usize, byte: usize) {
+// Keeps a byte of the token where there is buffer.
+fn keep(buffer: &mut Buffer, n: usize, byte: usize) {
     if n >= KEPT {
         return;
     }
-    room[n] = (byte % 256) as u8;
+    buffer[n] = (byte % 256) as u8;
 }
 
 // What a byte does; after a fault only the end of the line counts.
-fn take(room: &mut Room, place: &mut Place, byte: usize) {
-    let len = place[LEN];
+fn take(buffer: &mut Buffer, state: &mut State, byte: usize) {
+    let len = state[LEN];
     if byte == 10 {
-        place[STATE] = LINE_END;
+        state[STAGE] = LINE_END;
         return;
     }
-    if place[FAULT] != 0 {
+    if state[FAULT] != 0 {
         return;
     }
     if byte == 32 {
         if len == 0 {
             return;
         }
-        place[STATE] = SPACE;
+        state[STAGE] = SPACE;
         return;
     }
     if len > KEPT {
         return;
     }
-    keep(room, len, byte);
-    place[LEN] = len + 1;
+    keep(buffer, len, byte);
+    state[LEN] = len + 1;
 }
 
-// One byte, or more bytes into the room.
-fn turn(room: &mut Room, place: &mut Place) {
-    let byte = advance(room, place);
+// One byte, or more bytes into the buffer.
+fn turn(buffer: &mut Buffer, state: &mut State) {
+    let byte = advance(buffer, state);
     if byte == NONE {
         return;
     }
-    take(room, place, byte);
+    take(buffer, state, byte);
 }
 
-// Reads on to a state or a later one.
-fn run(room: &mut Room, place: &mut Place, state: usize) {
+// Reads on to a stage or a later one.
+fn run(buffer: &mut Buffer, state: &mut State, stage: usize) {
     let mut turns = u64::MAX;
     while turns > 0 {
-        if place[STATE] >= state {
+        if state[STAGE] >= stage {
             break;
         }
-        turn(room, place);
+        turn(buffer, state);
         turns -= 1;
     }
 }
 
 // The next token of the line: its length is 0 where there is none.
-pub fn next(room: &mut Room, place: &mut Place) {
-    place[LEN] = 0;
-    if place[STATE] == SPACE {
-        place[STATE] = OPEN;
+pub(crate) fn next(buffer: &mut Buffer, state: &mut State) {
+    state[LEN] = 0;
+    if state[STAGE] == SPACE {
+        state[STAGE] = OPEN;
     }
-    run(room, place, SPACE);
+    run(buffer, state, SPACE);
 }
 
 // Nothing may follow.
-fn expect_end(room: &mut Room, place: &mut Place) {
-    if place[FAULT] != 0 {
+fn expect_end(buffer: &mut Buffer, state: &mut State) {
+    if state[FAULT] != 0 {
         return;
     }
-    next(room, place);
-    if place[LEN] == 0 {
+    next(buffer, state);
+    if state[LEN] == 0 {
         return;
     }
-    faulty(place, EXTRA);
+    faulty(state, EXTRA);
 }
 
 // A line that is too long is a fault that counts before every other.
-fn measure(place: &mut Place) {
-    if place[LINE] <= LONGEST {
+fn measure(state: &mut State) {
+    if state[LINE] <= LONGEST {
         return;
     }
-    place[LEN] = 0;
-    place[FAULT] = LONG;
+    state[LEN] = 0;
+    state[FAULT] = LONG;
 }
 
 // The end of the request.
-pub fn finish(room: &mut Room, place: &mut Place) {
-    expect_end(room, place);
-    run(room, place, LINE_END);
-    measure(place);
+pub(crate) fn finish(buffer: &mut Buffer, state: &mut State) {
+    expect_end(buffer, state);
+    run(buffer, state, LINE_END);
+    measure(state);
 }

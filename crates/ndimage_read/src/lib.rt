@@ -1,121 +1,138 @@
 // What the program `ndimage` reads: a request, token by token, part by part. After a fault nothing more is read.
-use place::ASKED;
-use place::FAULT;
-use place::Floats;
-use place::KIND;
-use place::LAST;
-use place::LEN;
-use place::Levels;
-use place::PART;
-use place::Place;
-use place::REQUEST;
-use place::Room;
-use place::SECOND;
-use place::TIMES;
-use place::WHERE;
+//
+// What parts a request has, and what is read for each, is promised (requests.rt, parts.rt), and so is what a token is. These promise nothing but that
+// they are safe and end: `bring` and `fill`, which read; and what steps the state, the levels and the floats that are lent: in cursor.rt `begin_line`,
+// `faulty`, `lengthen`, `advance`, `keep`, `take`, `turn`, `run`, `next`, `expect_end`, `measure` and `finish`, in number.rt `keep` and what begins
+// with `take_`, and here `clear`, `begin`, `open`, `take`, `read_token`, `read_part`, `read_parts` and `read`.
+use ndimage_spec::Kind;
+use ndimage_spec::Part;
+use state::Buffer;
+use state::FAULT;
+use state::FORM;
+use state::Floats;
+use state::LAST;
+use state::LEN;
+use state::Levels;
+use state::REQUEST;
+use state::State;
+use words::Found;
 
 pub mod cursor;
 mod number;
 mod parts;
-pub mod place;
-pub mod words;
+pub mod requests;
+pub mod state;
 
-// What `step` answers where nothing more is to be read.
-const OVER: u8 = 0;
+// No part was read.
+fn clear(state: &mut State) {
+    let mut i = FORM;
+    while i < 48 {
+        state[i] = 0;
+        i += 1;
+    }
+}
 
-// The request that the line's first token names, and that none of its parts was read.
-fn begin(room: &[u8], place: &mut Place) {
-    let len = place[LEN];
-    let request = words::request(number::shown(room, len));
-    place[REQUEST] = request;
-    place[PART] = KIND - 1;
-    place[TIMES] = 0;
-    place[ASKED] = 0;
-    if request != 0 {
+// The request that the line's first token names.
+fn begin(buffer: &[u8], state: &mut State, table: &[u8]) {
+    let len = state[LEN];
+    clear(state);
+    if let Found::At(request) = words::find_word(number::shown(buffer, len), table) {
+        state[REQUEST] = request;
         return;
     }
-    if len != 0 {
-        cursor::faulty(place, ndimage_write::UNKNOWN);
+    if len == 0 {
+        cursor::faulty(state, ndimage_write::EMPTY);
+        return;
     }
+    cursor::faulty(state, ndimage_write::UNKNOWN);
 }
 
 // The line's request.
-fn open(room: &mut Room, place: &mut Place) {
-    cursor::begin_line(place);
-    cursor::next(room, place);
-    begin(room, place);
+fn open(buffer: &mut Buffer, state: &mut State, table: &[u8]) {
+    cursor::begin_line(state);
+    cursor::next(buffer, state);
+    begin(buffer, state, table);
 }
 
-fn after(n: usize) -> usize {
-    if n == 18446744073709551615 {
-        return n;
-    }
-    n + 1
-}
-
-// The next part.
-fn begin_part(place: &mut Place) {
-    let part = after(place[PART]);
-    place[PART] = part;
-    place[ASKED] = 0;
-    place[TIMES] = parts::times(place[REQUEST], part, place[LAST]);
-    if part < 48 {
-        place[part] = 0;
+// A token of a kind that is no float, to its slot.
+fn take(buffer: &[u8], state: &mut State, levels: &mut Levels, kind: Kind, at: usize) {
+    match kind {
+        Kind::Form => number::take_word(buffer, state, kind, at),
+        Kind::Border => number::take_word(buffer, state, kind, at),
+        Kind::Padding => number::take_word(buffer, state, kind, at),
+        Kind::Kernel => number::take_word(buffer, state, kind, at),
+        Kind::Count => number::take_count(buffer, state, at),
+        Kind::Whole => number::take_level(buffer, state, levels, at),
+        Kind::Level => number::take_level(buffer, state, levels, at),
     }
 }
 
-// Whether a token of the part is to come; where none is, the next part begins.
-fn ready(place: &mut Place) -> bool {
-    let i = place[ASKED];
-    if i >= place[TIMES] {
-        begin_part(place);
-        return false;
+// Token i of a part, which has to be there.
+fn read_token(
+    buffer: &mut Buffer,
+    state: &mut State,
+    levels: &mut Levels,
+    floats: &mut Floats,
+    part: Part,
+    i: usize,
+) {
+    let kind = part.0;
+    let at = parts::slot_of(part.2, part.3, i);
+    cursor::next(buffer, state);
+    if state[LEN] == 0 {
+        cursor::faulty(state, ndimage_write::MISSING);
+        return;
     }
-    place[ASKED] = after(i);
-    place[WHERE] = parts::place_of(place[PART], i);
-    true
+    if parts::is_float(kind, state[FORM]) {
+        number::take_float(buffer, state, floats, at);
+        return;
+    }
+    take(buffer, state, levels, kind, at);
 }
 
-// Whether more is to be read.
-fn more(place: &Place) -> bool {
-    if place[FAULT] != 0 {
-        return false;
-    }
-    place[PART] <= SECOND
-}
-
-// A token of the part, or the next part. Counts and words are taken; a level or a float is left to the caller, who is told so.
-fn step(room: &mut Room, place: &mut Place) -> u8 {
-    if !more(place) {
-        return OVER;
-    }
-    if !ready(place) {
-        return parts::WORD;
-    }
-    cursor::next(room, place);
-    number::take(room, place)
-}
-
-fn read_parts(room: &mut Room, place: &mut Place, levels: &mut Levels, floats: &mut Floats) {
-    let mut turns = u64::MAX;
-    while turns > 0 {
-        let kind = step(room, place);
-        if kind == OVER {
+// The tokens of a part.
+fn read_part(
+    buffer: &mut Buffer,
+    state: &mut State,
+    levels: &mut Levels,
+    floats: &mut Floats,
+    part: Part,
+) {
+    let rule = part.1;
+    let times = parts::times(rule, state[LAST]);
+    let mut i = 0;
+    while i < times {
+        if state[FAULT] != 0 {
             break;
         }
-        if kind == parts::SIGNED {
-            number::take_level(room, place, levels);
+        read_token(buffer, state, levels, floats, part, i);
+        i += 1;
+    }
+}
+
+// The parts of a request, by their letters.
+fn read_parts(
+    buffer: &mut Buffer,
+    state: &mut State,
+    levels: &mut Levels,
+    floats: &mut Floats,
+    letters: &[u8],
+) {
+    let mut i = 0;
+    while i < letters.len() {
+        if state[FAULT] != 0 {
+            break;
         }
-        if kind == parts::FLOAT {
-            number::take_float(room, place, floats);
-        }
-        turns -= 1;
+        read_part(buffer, state, levels, floats, parts::part_of(letters[i]));
+        i += 1;
     }
 }
 
 // A line: its request, with the parts that it has.
-pub fn read(room: &mut Room, place: &mut Place, levels: &mut Levels, floats: &mut Floats) {
-    open(room, place);
-    read_parts(room, place, levels, floats);
-    cursor::finish(room, place);
+pub fn read(buffer: &mut Buffer, state: &mut State, levels: &mut Levels, floats: &mut Floats) {
+    let table = requests::table();
+    open(buffer, state, &table);
+    let letters = words::rest_at(&table, state[REQUEST]);
+    read_parts(buffer, state, levels, floats, letters);
+    cursor::finish(buffer, state);
 }

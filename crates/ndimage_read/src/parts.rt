@@ -1,123 +1,105 @@
-// Which parts a request has, what they are made of, and where they go.
-use crate::place::AXES;
-use crate::place::AXIS;
-use crate::place::BORDER;
-use crate::place::CELLS;
-use crate::place::CONSTANT;
-use crate::place::CONSTANT_AT;
-use crate::place::COUNT;
-use crate::place::DATA;
-use crate::place::HELD;
-use crate::place::HELD_AT;
-use crate::place::KERNEL;
-use crate::place::KERNEL_AT;
-use crate::place::KIND;
-use crate::place::LENGTHS;
-use crate::place::LENGTHS_AT;
-use crate::place::ORIGIN;
-use crate::place::ORIGIN_AT;
-use crate::place::OUT;
-use crate::place::PADS;
-use crate::place::PADS_AT;
-use crate::place::PAIRS;
-use crate::place::SECOND;
-use crate::place::SIDES;
-use crate::place::SIZE;
-use crate::place::WEIGHTS;
-use crate::place::WEIGHTS_AT;
-use crate::words;
+// What is read for a part of a request.
+use crate::state::AXES;
+use crate::state::AXIS;
+use crate::state::BORDER;
+use crate::state::CELLS;
+use crate::state::CONSTANT_AT;
+use crate::state::COUNT;
+use crate::state::DATA_AT;
+use crate::state::FORM;
+use crate::state::HELD_AT;
+use crate::state::KERNEL_AT;
+use crate::state::LENGTHS_AT;
+use crate::state::ORIGIN_AT;
+use crate::state::OUT;
+use crate::state::PADS_AT;
+use crate::state::PAIRS;
+use crate::state::SECOND;
+use crate::state::SIDES;
+use crate::state::SIZE;
+use crate::state::WEIGHTS_AT;
+use ndimage_spec::Kind;
+use ndimage_spec::Part;
+use ndimage_spec::Times;
+use words::Found;
+ghost use mathlib.Core.Path.{_≡_};
+ghost use Prim.Native.Nat.{_*_, min};
+ghost use Rattle.words.specs.Words.{placeIn};
+ghost use Rattle.ndimage_spec.specs.Parts.{partOf, timesOf, isFloat, slotOf, wordsFor, lastAfter};
+ghost use Rattle.ndimage_spec.specs.Faults.{faultOf};
 
-// What a token of a part is.
-pub const WORD: u8 = 1;
-
-pub const UNSIGNED: u8 = 2;
-
-pub const SIGNED: u8 = 3;
-
-pub const FLOAT: u8 = 4;
-
-// No place: beyond every array.
+// No slot: beyond every array.
 const NOWHERE: usize = 18446744073709551615;
 
-// Whether a request is one of those from the first to the last.
-fn among(request: usize, first: usize, last: usize) -> bool {
-    if request < first {
-        return false;
-    }
-    request <= last
-}
-
-// Whether a request that has a border or a padding mode has this part.
-fn has_more(request: usize, part: usize) -> bool {
-    match part {
-        SIZE => among(request, crate::words::MINIMUM1D, crate::words::UNIFORM1D),
-        AXIS => among(request, crate::words::CORRELATE1D, crate::words::MAXIMUM1D)
-            || among(request, crate::words::UNIFORM1D, crate::words::SOBEL),
-        BORDER => among(request, crate::words::CORRELATE, crate::words::PAD_TO)
-            || request == crate::words::KERNEL3D,
-        CONSTANT => among(request, crate::words::CORRELATE, crate::words::PAD_TO),
-        ORIGIN => among(request, crate::words::CORRELATE, crate::words::MAXIMUM),
-        PAIRS | PADS => among(request, crate::words::PAD, crate::words::PAD_TO),
-        OUT => among(request, crate::words::CORRELATE, crate::words::MEDIAN),
-        HELD => request == crate::words::PAD_TO,
-        SECOND => among(request, crate::words::MINIMUM, crate::words::UNIFORM)
-            || among(request, crate::words::PREWITT, crate::words::SOBEL),
-        _ => false,
-    }
-}
-
-// Whether a request has a part.
-fn has(request: usize, part: usize) -> bool {
-    match part {
-        KIND => among(request, crate::words::CORRELATE1D, crate::words::CONVOLVE1D)
-            || request == crate::words::SYMMETRY,
-        AXES | LENGTHS => among(request, crate::words::CORRELATE, crate::words::MEDIAN),
-        CELLS | DATA => among(request, crate::words::CORRELATE, crate::words::SYMMETRY),
-        SIDES | KERNEL => among(request, crate::words::CORRELATE, crate::words::CONVOLVE),
-        COUNT | WEIGHTS => among(request, crate::words::CORRELATE, crate::words::CONVOLVE1D),
-        _ => has_more(request, part),
+// What is read for a part, by its letter; of a letter that names none, a number that is not kept.
+pub(crate) fn part_of(letter: u8) -> Part
+    ensures { λ r. ⌜ r ≡ partOf letter ⌝ }
+{
+    match letter {
+        b'F' => Part(Kind::Form, Times::Once, FORM, 1),
+        b'A' => Part(Kind::Count, Times::Once, AXES, 1),
+        b'L' => Part(Kind::Count, Times::Last, LENGTHS_AT, 4),
+        b'C' => Part(Kind::Count, Times::Once, CELLS, 1),
+        b'D' => Part(Kind::Level, Times::Last, DATA_AT, 8193),
+        b'S' => Part(Kind::Count, Times::Once, SIDES, 1),
+        b'K' => Part(Kind::Count, Times::Last, KERNEL_AT, 4),
+        b'N' => Part(Kind::Count, Times::Once, COUNT, 1),
+        b'W' => Part(Kind::Level, Times::Last, WEIGHTS_AT, 344),
+        b'Z' => Part(Kind::Count, Times::Once, SIZE, 1),
+        b'X' => Part(Kind::Count, Times::Once, AXIS, 1),
+        b'B' => Part(Kind::Border, Times::Once, BORDER, 1),
+        b'P' => Part(Kind::Padding, Times::Once, BORDER, 1),
+        b'M' => Part(Kind::Kernel, Times::Once, BORDER, 1),
+        b'V' => Part(Kind::Level, Times::Last, CONSTANT_AT, 1),
+        b'O' => Part(Kind::Whole, Times::Once, ORIGIN_AT, 1),
+        b'R' => Part(Kind::Count, Times::Once, PAIRS, 1),
+        b'Q' => Part(Kind::Count, Times::TwiceLast, PADS_AT, 6),
+        b'E' => Part(Kind::Count, Times::Once, OUT, 1),
+        b'H' => Part(Kind::Whole, Times::Last, HELD_AT, 32769),
+        b'T' => Part(Kind::Count, Times::Once, SECOND, 1),
+        _ => Part(Kind::Count, Times::Once, NOWHERE, 0),
     }
 }
 
-fn twice(n: usize) -> usize {
+fn twice(n: usize) -> usize
+    ensures { λ r. ⌜ r ≡ min (2 * n) 18446744073709551615 ⌝ }
+{
     if n > 9223372036854775807 {
         return NOWHERE;
     }
     2 * n
 }
 
-// How many tokens a part has: a list as many as the count before it, a constant one where the border is constant.
-pub(crate) fn times(request: usize, part: usize, last: usize) -> usize {
-    if !has(request, part) {
-        return 0;
-    }
-    match part {
-        LENGTHS | DATA | KERNEL | WEIGHTS | CONSTANT | HELD => last,
-        PADS => twice(last),
-        _ => 1,
-    }
-}
-
-// What the levels are.
-fn of_kind(kind: usize) -> u8 {
-    if kind == 1 {
-        return FLOAT;
-    }
-    SIGNED
-}
-
-// What the tokens of a part are; the levels are floats where the kind is 1.
-pub(crate) fn kind_of(part: usize, kind: usize) -> u8 {
-    match part {
-        KIND | BORDER => WORD,
-        DATA | WEIGHTS | CONSTANT => of_kind(kind),
-        ORIGIN | HELD => SIGNED,
-        _ => UNSIGNED,
+// How many tokens a part has.
+pub(crate) fn times(rule: Times, last: usize) -> usize
+    ensures { λ r. ⌜ r ≡ timesOf rule last ⌝ }
+{
+    match rule {
+        Times::Once => 1,
+        Times::Last => last,
+        Times::TwiceLast => twice(last),
     }
 }
 
-// The place of number i of those from `start` on, of which `most` are kept.
-fn from(start: usize, most: usize, i: usize) -> usize {
+// Whether a token is a float: a level, where the code of the form is 1, that of f.
+pub(crate) fn is_float(kind: Kind, form: usize) -> bool
+    ensures { λ r. ⌜ r ≡ isFloat kind form ⌝ }
+{
+    match kind {
+        Kind::Form => false,
+        Kind::Border => false,
+        Kind::Padding => false,
+        Kind::Kernel => false,
+        Kind::Count => false,
+        Kind::Whole => false,
+        Kind::Level => form == 1,
+    }
+}
+
+// Where number i of a part goes.
+pub(crate) fn slot_of(start: usize, most: usize, i: usize) -> usize
+    ensures { λ r. ⌜ r ≡ slotOf start most i ⌝ }
+{
     if i >= most {
         return NOWHERE;
     }
@@ -127,17 +109,42 @@ fn from(start: usize, most: usize, i: usize) -> usize {
     start + i
 }
 
-// Where number i of a part goes.
-pub(crate) fn place_of(part: usize, i: usize) -> usize {
-    match part {
-        LENGTHS => from(LENGTHS_AT, 4, i),
-        DATA => from(0, 8193, i),
-        KERNEL => from(KERNEL_AT, 4, i),
-        WEIGHTS => from(WEIGHTS_AT, 344, i),
-        CONSTANT => CONSTANT_AT,
-        ORIGIN => ORIGIN_AT,
-        PADS => from(PADS_AT, 6, i),
-        HELD => from(HELD_AT, 32769, i),
-        _ => part,
+// The code of a word, by the kind of its part.
+pub(crate) fn code_of(kind: Kind, token: &[u8]) -> Found
+    ensures { λ r. ⌜ r ≡ placeIn (wordsFor kind) (now (token .entry)) ⌝ }
+{
+    match kind {
+        Kind::Form => words::find_word(token, b"i f "),
+        Kind::Border => codes::border_code(token),
+        Kind::Padding => codes::pad_code(token),
+        Kind::Kernel => codes::kernel_code(token),
+        Kind::Count => Found::Nothing,
+        Kind::Whole => Found::Nothing,
+        Kind::Level => Found::Nothing,
     }
+}
+
+// What is wrong with a token that is not of a kind.
+pub(crate) fn fault_of(kind: Kind) -> usize
+    ensures { λ r. ⌜ r ≡ faultOf kind ⌝ }
+{
+    match kind {
+        Kind::Form => ndimage_write::FORM,
+        Kind::Border => ndimage_write::MODE,
+        Kind::Padding => ndimage_write::MODE,
+        Kind::Kernel => ndimage_write::KERNEL,
+        Kind::Count => ndimage_write::NUMBER,
+        Kind::Whole => ndimage_write::NUMBER,
+        Kind::Level => ndimage_write::NUMBER,
+    }
+}
+
+// What a word leaves as the last count: 1 for the first of its table, 0 for the others.
+pub(crate) fn last_after(code: usize) -> usize
+    ensures { λ r. ⌜ r ≡ lastAfter code ⌝ }
+{
+    if code == 0 {
+        return 1;
+    }
+    0
 }

@@ -1,11 +1,20 @@
 // What the program `ndimage` writes. Answers go through a buffer, which is written out when it is full and at the end of the line.
+// No contract can say what is written, so these promise nothing but that they are safe and end: `flush`, `make_room`, `put_level`, `put_level_f64`,
+// `between`, `end`, `levels`, `levels_f64`, `say`, `refused`, `echo`, `error`, and `show_help` with what it calls.
+ghost use mathlib.Core.Path.{_≡_};
+ghost use mathlib.Core.Bool.{cond};
+ghost use Prim.Native.Nat.{_+_, _-_};
+ghost use lib.Dec.{ltb};
+ghost use lib.ListN.{length, set};
+ghost use Rattle.words.specs.Words.{linesOf};
+ghost use Rattle.ndimage_spec.specs.Faults.{faultTexts, showsToken, visibleOf};
 use libc::STDOUT_FILENO;
 
 mod help;
 
 pub use help::show_help;
 
-// What can be wrong with a line.
+// What can be wrong with a line, each the number of its text.
 pub const UNKNOWN: usize = 1;
 
 pub const MISSING: usize = 2;
@@ -16,15 +25,17 @@ pub const NUMBER: usize = 4;
 
 pub const MODE: usize = 5;
 
-pub const KIND: usize = 6;
+pub const FORM: usize = 6;
 
-pub const SHAPE: usize = 7;
+pub const KERNEL: usize = 7;
 
 pub const WEIGHTS: usize = 8;
 
 pub const LONG: usize = 9;
 
 pub const MASK: usize = 10;
+
+pub const EMPTY: usize = 11;
 
 // Writes out the first `at` bytes.
 fn flush(answer: &[u8], at: usize) {
@@ -35,7 +46,7 @@ fn flush(answer: &[u8], at: usize) {
 }
 
 // Where the next 32 bytes go.
-fn room(answer: &[u8], at: usize) -> usize {
+fn make_room(answer: &[u8], at: usize) -> usize {
     if answer.len() < 32 {
         return 0;
     }
@@ -46,7 +57,10 @@ fn room(answer: &[u8], at: usize) -> usize {
     at
 }
 
-fn put(answer: &mut [u8], at: usize, byte: u8) -> usize {
+// Stores a byte where there is room, and says where the next one goes.
+fn put(answer: &mut [u8], at: usize, byte: u8) -> usize
+    ensures { λ r. ⌜ (r ≡ cond (ltb at (length (now (answer .entry)))) (at + 1) at) × (now (answer .exit) ≡ set (now (answer .entry)) at byte) ⌝ }
+{
     if at >= answer.len() {
         return at;
     }
@@ -54,7 +68,10 @@ fn put(answer: &mut [u8], at: usize, byte: u8) -> usize {
     at + 1
 }
 
-fn sum(a: usize, b: usize) -> usize {
+// a + b, or a where that is beyond 64 bits.
+fn sum(a: usize, b: usize) -> usize
+    ensures { λ r. ⌜ r ≡ cond (ltb (18446744073709551615 - b) a) a (a + b) ⌝ }
+{
     if a > 18446744073709551615 - b {
         return a;
     }
@@ -62,7 +79,7 @@ fn sum(a: usize, b: usize) -> usize {
 }
 
 fn put_level(answer: &mut [u8], at: usize, z: i64) -> usize {
-    let here = room(answer, at);
+    let here = make_room(answer, at);
     if here > answer.len() {
         return here;
     }
@@ -71,7 +88,7 @@ fn put_level(answer: &mut [u8], at: usize, z: i64) -> usize {
 }
 
 fn put_level_f64(answer: &mut [u8], at: usize, x: f64) -> usize {
-    let here = room(answer, at);
+    let here = make_room(answer, at);
     if here > answer.len() {
         return here;
     }
@@ -84,13 +101,13 @@ fn between(answer: &mut [u8], at: usize, i: usize) -> usize {
     if i == 0 {
         return at;
     }
-    let here = room(answer, at);
+    let here = make_room(answer, at);
     put(answer, here, 32)
 }
 
 // The end of the line.
 fn end(answer: &mut [u8], at: usize) {
-    let here = room(answer, at);
+    let here = make_room(answer, at);
     let whole = put(answer, here, 10);
     flush(answer, whole);
 }
@@ -132,7 +149,9 @@ pub fn refused(number: u8) {
 }
 
 // A question mark for what is no visible character.
-fn visible(byte: u8) -> u8 {
+fn visible(byte: u8) -> u8
+    ensures { λ r. ⌜ r ≡ visibleOf byte ⌝ }
+{
     if byte < 33 {
         return 63;
     }
@@ -160,50 +179,45 @@ fn echo(token: &[u8], len: usize) {
     end(&mut answer, at);
 }
 
-// What is wrong with the text.
-pub fn error(token: &[u8], len: usize, fault: usize) {
-    say(b"error ");
-    if fault == UNKNOWN {
-        say(b"unknown request\n");
-        return;
-    }
-    if fault == MISSING {
-        say(b"missing token\n");
-        return;
-    }
-    if fault == EXTRA {
-        say(b"extra token\n");
-        return;
-    }
-    if fault == LONG {
-        say(b"line too long\n");
-        return;
-    }
-    if fault == WEIGHTS {
-        say(b"too many weights\n");
-        return;
-    }
-    if fault == MASK {
-        say(b"a cell of a mask is neither 0 nor 1\n");
-        return;
-    }
-    what(fault);
-    echo(token, len);
+// The texts of the faults, a line each, from 0 on, which is no fault.
+fn texts() -> [u8; 186]
+    ensures { λ r. ⌜ linesOf r ≡ faultTexts ⌝ }
+{
+    *b"\
+\n\
+unknown request\n\
+missing token\n\
+extra token\n\
+not a number: \n\
+unknown mode: \n\
+neither i nor f: \n\
+unknown kernel: \n\
+too many weights\n\
+line too long\n\
+a cell of a mask is neither 0 nor 1\n\
+empty line\n"
 }
 
-// What the odd token should have been.
-fn what(fault: usize) {
-    if fault == MODE {
-        say(b"unknown mode: ");
+// Whether the token that is wrong stands behind a text: behind one that ends in a space.
+fn shows_token(text: &[u8]) -> bool
+    ensures { λ r. ⌜ r ≡ showsToken (now (text .entry)) ⌝ }
+{
+    let n = text.len();
+    if n == 0 {
+        return false;
+    }
+    text[n - 1] == 32
+}
+
+// What is wrong with a line, and the token where it is that.
+pub fn error(token: &[u8], len: usize, fault: usize) {
+    let table = texts();
+    let text = words::line_at(&table, fault);
+    say(b"error ");
+    say(text);
+    if shows_token(text) {
+        echo(token, len);
         return;
     }
-    if fault == KIND {
-        say(b"neither i nor f: ");
-        return;
-    }
-    if fault == SHAPE {
-        say(b"unknown kernel: ");
-        return;
-    }
-    say(b"not a number: ");
+    say(b"\n");
 }

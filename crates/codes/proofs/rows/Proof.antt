@@ -3,12 +3,13 @@
 use mathlib.Core.Path.{refl}
 use Rattle.numbers.specs.Lists.{tabulate}
 use Rattle.symmetry_spec.specs.Class.{someDiffers}
-use Rattle.codes.specs.Codes.{modeOf, modeOfF64, padModeOf, kernelOf, coded}
+use Rattle.words.specs.Words.{placeIn}
+use Rattle.codes.specs.Codes.{modeOf, modeOfF64, paddingOf, kernelOf, coded}
 use Rattle.codes.proofs.rows.Statement.{statement}
 use Rattle.codes.proofs.rows.Tie as tie
 
 returns : tie.Need-returns
-unfolding tabulate someDiffers modeOf modeOfF64 padModeOf kernelOf coded
+unfolding placeIn tabulate someDiffers modeOf modeOfF64 paddingOf kernelOf coded
 returns c = record {
   border-0 = refl;
   border-1 = refl;
@@ -41,6 +42,27 @@ returns c = record {
   kernel-3 = refl;
   class-1 = refl;
   class-0 = refl;
+  word-constant = refl;
+  word-mirror = refl;
+  word-nearest = refl;
+  word-reflect = refl;
+  word-wrap = refl;
+  word-edge = refl;
+  pad-word-constant = refl;
+  pad-word-edge = refl;
+  pad-word-maximum = refl;
+  pad-word-mean = refl;
+  pad-word-median = refl;
+  pad-word-minimum = refl;
+  pad-word-reflect = refl;
+  pad-word-symmetric = refl;
+  pad-word-wrap = refl;
+  pad-word-mirror = refl;
+  word-star = refl;
+  word-ball = refl;
+  word-full = refl;
+  class-symmetric = refl;
+  class-neither = refl;
 }
 
 pub rows-spec : {M : Type 1} → statement M

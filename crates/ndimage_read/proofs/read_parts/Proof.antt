@@ -1,29 +1,34 @@
--- `read_parts` is safe and ends: the measure is the turns that are left.
+-- `read_parts` is safe and ends: the measure is the letters that are left.
 -- Assumes nothing.
+use Prim.Native.Nat.{_-_}
+use lib.ListN.{length}
 use borrow.Author.Needs.{needs}
 use Rattle.ndimage_read.proofs.read_parts.Statement.{statement}
 use Rattle.ndimage_read.proofs.read_parts.Tie as tie
 
 abbrev Inv-loop : tie.InvT-loop
-Inv-loop room₀ place₀ levels₀ floats₀ turns₀ room place levels floats turns = Unit {0}
+Inv-loop buffer₀ state₀ levels₀ floats₀ letters i₀ buffer state levels floats i = Unit {0}
 
 abbrev μ-loop : tie.MeasureT-loop
-μ-loop room₀ place₀ levels₀ floats₀ turns₀ room place levels floats turns = turns
+μ-loop buffer₀ state₀ levels₀ floats₀ letters i₀ buffer state levels floats i = length letters - i
 
 loop-holds : tie.Need-loop-holds Inv-loop μ-loop
 loop-holds c = search needs
 
-step-requires : tie.Need-step-requires Inv-loop μ-loop
-step-requires c κs = search needs
+element-copy-out-if1 : tie.Need-element-copy-out-if1 Inv-loop μ-loop
+element-copy-out-if1 c = search needs
 
-take-level-requires : tie.Need-take-level-requires Inv-loop μ-loop
-take-level-requires c κs = search needs
+shared-slice-read-part-of : tie.Need-shared-slice-read-part-of Inv-loop μ-loop
+shared-slice-read-part-of c = search needs
 
-take-float-requires : tie.Need-take-float-requires Inv-loop μ-loop
-take-float-requires c κs = search needs
+part-of-requires : tie.Need-part-of-requires Inv-loop μ-loop
+part-of-requires c κs = search needs
 
-sub-turns : tie.Need-sub-turns Inv-loop μ-loop
-sub-turns c = search needs
+read-part-requires : tie.Need-read-part-requires Inv-loop μ-loop
+read-part-requires c κs = search needs
+
+add-i : tie.Need-add-i Inv-loop μ-loop
+add-i c = search needs
 
 loop-less : tie.Need-loop-less Inv-loop μ-loop
 loop-less c = search needs
@@ -44,10 +49,11 @@ read-parts-spec =
     Inv-loop
     μ-loop
     loop-holds
-    step-requires
-    take-level-requires
-    take-float-requires
-    sub-turns
+    element-copy-out-if1
+    shared-slice-read-part-of
+    part-of-requires
+    read-part-requires
+    add-i
     loop-less
     loop-again
     returns

@@ -1,0 +1,34 @@
+-- `rows` meets its contract: every row holds by computing.
+-- Assumes nothing.
+use mathlib.Core.Path.{refl}
+use Rattle.numbers.specs.Lists.{tabulate}
+use Rattle.codes.specs.Codes.{modeOf, paddingOf, kernelOf}
+use Rattle.ndimage_arguments.proofs.rows.Statement.{statement}
+use Rattle.ndimage_arguments.proofs.rows.Tie as tie
+
+returns : tie.Need-returns
+unfolding tabulate modeOf paddingOf kernelOf
+returns c = record {
+  two-cells = refl;
+  past-end = refl;
+  beyond = refl;
+  lengths = refl;
+  four-sides = refl;
+  mirror = refl;
+  reflect = refl;
+  constant = refl;
+  edge = refl;
+  wrap = refl;
+  no-code = refl;
+  pads = refl;
+  pad-out = refl;
+  sobel-out = refl;
+  correlate1d-whole = refl;
+  correlate1d-float = refl;
+  symmetry-other = refl;
+  marked = refl;
+  star = refl;
+}
+
+pub rows-spec : {M : Type 1} → statement M
+rows-spec = tie.close (tie.spec returns)

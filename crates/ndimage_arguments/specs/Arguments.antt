@@ -1,0 +1,75 @@
+-- The arguments of a call, out of what was read for a request: the reader's state s, levels and floats l.
+--   cellsFrom at n l   the n cells of l from a place on, or as many as there are
+--   shapeIn s          the lengths of the axes, at most 4: one more than any call takes, which has the same refusal
+--   sidesIn s          the sides of a kernel, as many
+--   dataIn s l         the levels of the grid, at most 8193
+--   weightsIn s l      the weights, at most 344
+--   codeIn s           the code of a border, padding mode or kernel; 255, which names none, beyond that
+--   borderIn s l       the border        borderInF64 s l   the border of floats
+--   paddingIn s l      the padding mode
+--   padsIn s           three pairs of pads
+--   mostOut n          how many cells are lent as the output of request n at most: one more than any call takes
+--   isWhole n form     whether request n has an output of whole levels: all but symmetry, kernel3d and help, under any form but f, whose code is 1
+--   levelOfMark b      a mark of a mask as a level
+--   kernelLevels k     the 27 cells of a kernel as levels, the last axis fastest
+use Prim.Native.Nat.{ℕ, min}
+use mathlib.Core.Bool.{Bool, cond, not, _&&_, _||_}
+use mathlib.Core.List.{List, [], _∷_}
+use lib.Dec.{eqb}
+use lib.Ieee.{Float, nan}
+use lib.IntN.{ℤ, pos}
+use lib.ListN.{getD, take, drop}
+use Rattle.numbers.specs.Lists.{tabulate}
+use Rattle.border.specs.declared.BorderMode.{BorderMode}
+use Rattle.border.specs.declared.BorderModeF64.{BorderModeF64}
+use Rattle.border.specs.declared.PadMode.{PadMode}
+use Rattle.pad_spec.specs.declared.pairs.Pair.{Pair}
+use Rattle.kernel3d.specs.declared.Kernel3d.{Kernel3d}
+use Rattle.codes.specs.Cells.{kernelCell}
+use Rattle.codes.specs.Codes.{modeOf, modeOfF64, paddingOf}
+
+abbrev pub cellsFrom : {A : Type 0} → ℕ → ℕ → List A → List A
+cellsFrom at n l = take n (drop at l)
+
+abbrev pub shapeIn : List ℕ → List ℕ
+shapeIn s = cellsFrom 20 (min (getD s 9 0) 4) s
+
+abbrev pub sidesIn : List ℕ → List ℕ
+sidesIn s = cellsFrom 24 (min (getD s 11 0) 4) s
+
+abbrev pub dataIn : {A : Type 0} → List ℕ → List A → List A
+dataIn s l = cellsFrom 0 (min (getD s 10 0) 8193) l
+
+abbrev pub weightsIn : {A : Type 0} → List ℕ → List A → List A
+weightsIn s l = cellsFrom 8193 (min (getD s 12 0) 344) l
+
+abbrev pub codeIn : List ℕ → ℕ
+codeIn s = min (getD s 15 0) 255
+
+abbrev pub borderIn : List ℕ → List ℤ → BorderMode
+borderIn s l = modeOf (codeIn s) (getD l 8537 (pos 0))
+
+abbrev pub borderInF64 : List ℕ → List Float → BorderModeF64
+borderInF64 s l = modeOfF64 (codeIn s) (getD l 8537 nan)
+
+abbrev pub paddingIn : List ℕ → List ℤ → PadMode
+paddingIn s l = paddingOf (codeIn s) (getD l 8537 (pos 0))
+
+abbrev pub padsIn : List ℕ → List Pair
+padsIn s =
+    record { left = getD s 28 0; right = getD s 29 0 }
+    ∷ record { left = getD s 30 0; right = getD s 31 0 }
+    ∷ record { left = getD s 32 0; right = getD s 33 0 }
+    ∷ []
+
+abbrev pub mostOut : ℕ → ℕ
+mostOut n = cond (eqb n 12 || eqb n 13) 32769 8193
+
+abbrev pub isWhole : ℕ → ℕ → Bool
+isWhole n form = not (eqb form 1) && not (eqb n 15 || (eqb n 16 || eqb n 17))
+
+abbrev pub levelOfMark : Bool → ℤ
+levelOfMark b = cond b (pos 1) (pos 0)
+
+abbrev pub kernelLevels : Kernel3d → List ℤ
+kernelLevels k = tabulate (λ i. levelOfMark (kernelCell k i)) 0 27

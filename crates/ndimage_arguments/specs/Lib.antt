@@ -1,0 +1,3 @@
+-- The arguments of calls.
+pub mod Arguments
+pub mod Rows

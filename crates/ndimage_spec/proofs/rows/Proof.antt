@@ -1,0 +1,75 @@
+-- `rows` meets its contract: every row holds by computing.
+-- Assumes nothing.
+use mathlib.Core.Path.{refl}
+use Rattle.words.specs.Words.{placeIn}
+use Rattle.ndimage_spec.specs.Parts.{partOf}
+use Rattle.ndimage_spec.proofs.rows.Statement.{statement}
+use Rattle.ndimage_spec.proofs.rows.Tie as tie
+
+returns : tie.Need-returns
+unfolding placeIn partOf
+returns c = record {
+  correlate = refl;
+  convolve = refl;
+  correlate1d = refl;
+  convolve1d = refl;
+  minimum1d = refl;
+  maximum1d = refl;
+  minimum = refl;
+  maximum = refl;
+  uniform = refl;
+  uniform1d = refl;
+  prewitt = refl;
+  sobel = refl;
+  pad = refl;
+  pad-to = refl;
+  median = refl;
+  symmetry = refl;
+  kernel3d = refl;
+  help = refl;
+  parts-no-word = refl;
+  longer = refl;
+  nothing = refl;
+  correlate-parts = refl;
+  minimum1d-parts = refl;
+  sobel-parts = refl;
+  pad-to-parts = refl;
+  symmetry-parts = refl;
+  help-parts = refl;
+  no-request = refl;
+  lengths-part = refl;
+  weights-part = refl;
+  border-part = refl;
+  mode-part = refl;
+  constant-part = refl;
+  origin-part = refl;
+  pads-part = refl;
+  no-part = refl;
+  three-lengths = refl;
+  two-pairs = refl;
+  most-pairs = refl;
+  after-constant = refl;
+  after-mirror = refl;
+  level-f = refl;
+  level-i = refl;
+  origin-f = refl;
+  fourth-length = refl;
+  fifth-length = refl;
+  form-f = refl;
+  mirror-border = refl;
+  mirror-mode = refl;
+  unknown = refl;
+  missing = refl;
+  no-number = refl;
+  no-mode = refl;
+  no-kernel = refl;
+  no-form = refl;
+  empty = refl;
+  mode-shown = refl;
+  missing-bare = refl;
+  tab-shown = refl;
+  letter-shown = refl;
+}
+
+pub rows-spec : {M : Type 1} → statement M
+rows-spec = tie.close (tie.spec returns)

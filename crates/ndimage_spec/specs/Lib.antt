@@ -1,0 +1,5 @@
+-- Requests of the program `ndimage`.
+pub mod Requests
+pub mod Parts
+pub mod Faults
+pub mod Rows

@@ -1,0 +1,45 @@
+-- The requests: the word of each, and its parts in the order of reading, each by its letter (Parts.antt says what is read for it).
+--   requestTable     a line for each request; its place is the request's number
+--   requestWords     the words      requestParts   the parts
+--   requestOf t      the number of the request that the token t names
+--   partsOf n        the letters of the parts of request n
+use Prim.Native.Nat.{ℕ}
+use Prim.Native.String.{String}
+use mathlib.Core.List.{List, [], _∷_, map}
+use lib.ListN.{getD}
+use Rattle.words.specs.Words.{bytesOf, placeIn}
+use Rattle.words.specs.declared.Found.{Found}
+
+abbrev pub requestTable : List (String × String)
+requestTable =
+    ("correlate", "ALCDSKNWBVOE")
+    ∷ ("convolve", "ALCDSKNWBVOE")
+    ∷ ("correlate1d", "FALCDNWXBVOE")
+    ∷ ("convolve1d", "FALCDNWXBVOE")
+    ∷ ("minimum_filter1d", "ALCDZXBVOE")
+    ∷ ("maximum_filter1d", "ALCDZXBVOE")
+    ∷ ("minimum_filter", "ALCDZBVOET")
+    ∷ ("maximum_filter", "ALCDZBVOET")
+    ∷ ("uniform_filter", "ALCDZBVET")
+    ∷ ("uniform_filter1d", "ALCDZXBVE")
+    ∷ ("prewitt", "ALCDXBVET")
+    ∷ ("sobel", "ALCDXBVET")
+    ∷ ("pad", "ALCDPVRQE")
+    ∷ ("pad_to", "ALCDPVRQEH")
+    ∷ ("median_filter", "ALCDE")
+    ∷ ("symmetry", "FCD")
+    ∷ ("kernel3d", "M")
+    ∷ ("help", "")
+    ∷ []
+
+abbrev pub requestWords : List (List ℕ)
+requestWords = map (λ r. bytesOf (r .0)) requestTable
+
+abbrev pub requestParts : List (List ℕ)
+requestParts = map (λ r. bytesOf (r .1)) requestTable
+
+abbrev pub requestOf : List ℕ → Found
+requestOf t = placeIn requestWords t
+
+abbrev pub partsOf : ℕ → List ℕ
+partsOf n = getD requestParts n []

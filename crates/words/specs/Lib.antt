@@ -1,0 +1,3 @@
+-- Tables of words.
+pub mod Words
+pub mod Rows
