@@ -21,6 +21,7 @@ fn rows() {
     pad_spec::rows();
     min_max_spec::rows();
     min_max_spec::order_of_axes();
+    min_max_spec::calls_are_steps();
     min_max_judge::rows();
     min_max::rows();
 }

@@ -2,4 +2,5 @@
 pub mod Call
 pub mod Run
 pub mod Order
+pub mod Steps
 pub mod Rows

@@ -7,11 +7,11 @@ use mathlib.Core.List.{List, [], _∷_}
 use lib.IntN.{ℤ, pos, negsuc}
 use lib.Signed.{leZ}
 use Rattle.numbers.specs.Order.{atLeast}
-use Rattle.border.specs.Border.{Border, constant, along}
+use Rattle.border.specs.Border.{Border, constant, along, extendedGrid}
 use Rattle.border.specs.declared.CellBorder.the-variants.{Nearest, Mirror, Reflect, Wrap}
 use Rattle.min_max_spec.specs.Call.{Call, firstIn, lastIn}
 use Rattle.min_max_spec.specs.Run.{run, numbers}
-use Rattle.min_max_spec.specs.Order.{Sweeps}
+use Rattle.min_max_spec.specs.Order.{cellAt, Sweeps, InBox, Extremum}
 
 abbrev pub call : List ℕ → ℕ → ℕ → Border ℤ → ℤ → List ℤ → Call
 call shape size axis border origin out = record { shape = shape; size = size; axis = axis; border = border; origin = origin; out = out }
@@ -92,6 +92,8 @@ pub record MinMaxSpecRows : Type 0 where
   pub cube-other : run leZ cube (onCube 2 2 (negsuc 0) ∷ onCube 1 1 (pos 99) ∷ onCube 0 2 (pos 0) ∷ []) ≡ pos 1 ∷ pos 1 ∷ pos 4 ∷ pos 4 ∷ pos 1 ∷ pos 1 ∷ negsuc 6 ∷ negsuc 6 ∷ []
   -- the rule on the order of axes speaks of T5, also with refused calls in the list, and of three axes
   pub speaks-of-t5 : Sweeps leZ square (constant (pos 0)) rows (up ∷ across ∷ [])
+  -- and says what T5's last cell is: the least level of the box of its four neighbours 5 3 / 4 9 is 3
+  pub box-of-t5 : Extremum leZ (extendedGrid (pos 0) (constant (pos 0)) square rows) (InBox (up ∷ across ∷ []) (cellAt square 3)) (pos 3)
   pub speaks-of-mixed : Sweeps leZ square (constant (pos 0)) rows mixed
   pub mixed-numbers : numbers leZ rows mixed ≡ 8 ∷ 0 ∷ 7 ∷ 9 ∷ 0 ∷ 11 ∷ []
   pub speaks-of-cube : Sweeps atLeast (2 ∷ 2 ∷ 2 ∷ []) (along Nearest) cube (onCube 2 2 (negsuc 0) ∷ onCube 1 1 (pos 99) ∷ onCube 0 2 (pos 0) ∷ [])

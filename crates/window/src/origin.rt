@@ -1,7 +1,7 @@
 // The origin of a window: how far the window is moved back along the axis, and the pads that it then needs.
 ghost use Prim.Native.Nat.{_-_, _/_, _≤_};
 ghost use mathlib.Core.Path.{_≡_};
-ghost use Rattle.window.specs.Origin.{badOrigin, originPads, originOf};
+ghost use Rattle.window.specs.Origin.{badOrigin, originPads, OriginAnswers, originOf};
 
 // The answer to an origin.
 pub enum Origin {
@@ -67,7 +67,7 @@ pub fn bad_origin(len: usize, origin: isize) -> bool
 // The pads of a window of len cells along one axis, moved by the origin.
 // Refuses with 7 an origin outside -floor(len / 2)..floor((len - 1) / 2). origin_check(4, -2) is Pads(0, 3).
 pub fn origin_check(len: usize, origin: isize) -> Origin
-    ensures { λ r. ⌜ r ≡ originPads len (len / 2) (len - len / 2 - 1) origin ⌝ }
+    ensures { λ r. ⌜ OriginAnswers len (len / 2) (len - len / 2 - 1) origin r ⌝ }
 {
     if len == 0 {
         return Origin::Refused;
@@ -78,7 +78,7 @@ pub fn origin_check(len: usize, origin: isize) -> Origin
 // The pads on each axis of a grid kernel whose sides are all side cells long, moved by the origin.
 // Refuses with 7 what origin_check refuses. kernel_origin_check(2, -1) is Pads(0, 2).
 pub fn kernel_origin_check(side: usize, origin: isize) -> Origin
-    ensures { λ r. ⌜ r ≡ originPads side (side / 2) (side / 2) origin ⌝ }
+    ensures { λ r. ⌜ OriginAnswers side (side / 2) (side / 2) origin r ⌝ }
 {
     pads(side, side / 2, split(origin))
 }

@@ -20,7 +20,7 @@ checked : (c : tie.After-kernel-origin-check) → let a = c .before .before .arg
 checked c =
     let a = c .before .before .args in
     let e : toZ w64 (ofZ w64 (a .origin)) ≡ a .origin = search needs in
-    c .kernel-origin-check .ensures ∙ ap (originPads (a .side) (a .side / 2) (a .side / 2)) e
+    c .kernel-origin-check .ensures .pads ∙ ap (originPads (a .side) (a .side / 2) (a .side / 2)) e
 
 -- the pads that it gives
 left-given : (c : tie.After-left) → let a = c .before .before .before .before .args in c .left .given .0 .0 ≡ kernelLeft (a .side) (a .origin)

@@ -22,7 +22,7 @@ checked c =
     let a = c .before .before .args in
     let n = length (now (a .weights)) in
     let e : toZ w64 (ofZ w64 (a .origin)) ≡ a .origin = search needs in
-    c .origin-check .ensures ∙ ap (originPads n (n / 2) (n - n / 2 - 1)) e
+    c .origin-check .ensures .pads ∙ ap (originPads n (n / 2) (n - n / 2 - 1)) e
 
 -- the pads that it gives
 given : (c : tie.After-left) → let s = c .before .before .before .before in

@@ -7,15 +7,18 @@ use native.Mathlib.Nat.{not-suc-le-zero, le-of-suc-le-suc}
 use lib.IntN.{pos, negsuc}
 use lib.Signed.{leZ}
 use Rattle.numbers.specs.Lists.{tabulate}
+use native.Mathlib.Omega.{arith}
 use Rattle.numbers.specs.Order.{atLeast}
+use Rattle.numbers.proofs.IntOrder.{total-≤}
 use Rattle.array_spec.specs.Conditions.{badShape, gridCount, badLevel}
 use Rattle.array_spec.specs.Grid.{placeOf, coordinate}
-use Rattle.border.specs.Border.{cellFor, extendedLane}
+use Rattle.border.specs.Border.{constant, cellFor, extendedLane}
 use Rattle.window.specs.Origin.{badOrigin}
 use Rattle.min_max_spec.specs.Call.{firstIn, lastIn, numberOf, gridNumber}
 use Rattle.min_max_spec.specs.Run.{answerOf, after, run, numbers, accepted}
-use Rattle.min_max_spec.specs.Order.{timesSwept}
-use Rattle.min_max_spec.specs.Rows.{rows, up, across, mixed, cube, onCube}
+use Rattle.min_max_spec.specs.Order.{timesSwept, Sweeps}
+use Rattle.min_max_spec.specs.Rows.{rows, square, up, across, mixed, cube, onCube}
+use Rattle.min_max_spec.proofs.Perms.{order-for}
 use Rattle.min_max_spec.proofs.rows.Statement.{statement}
 use Rattle.min_max_spec.proofs.rows.Tie as tie
 
@@ -29,6 +32,15 @@ below-three P p q r zero h = p
 below-three P p q r (suc zero) h = q
 below-three P p q r (suc (suc zero)) h = r
 below-three P p q r (suc (suc (suc a))) h = absurd (not-suc-le-zero (le-of-suc-le-suc (le-of-suc-le-suc (le-of-suc-le-suc h))))
+
+t5-sweeps : Sweeps leZ square (constant (pos 0)) rows (up ∷ across ∷ [])
+unfolding tabulate badShape gridCount badLevel placeOf coordinate cellFor extendedLane badOrigin firstIn lastIn numberOf gridNumber answerOf after run accepted
+t5-sweeps = record {
+  grid = refl;
+  named = (refl, (refl, tt));
+  shared = (refl, (refl, tt));
+  once = below-two (λ a. timesSwept a (accepted leZ rows (up ∷ across ∷ [])) ≡ 1) refl refl;
+}
 
 returns : tie.Need-returns
 unfolding tabulate badShape gridCount badLevel placeOf coordinate cellFor extendedLane badOrigin firstIn lastIn numberOf gridNumber answerOf after run numbers accepted
@@ -50,7 +62,8 @@ returns c = record {
   origins = refl;
   cube-one = refl;
   cube-other = refl;
-  speaks-of-t5 = record { grid = refl; named = (refl, (refl, tt)); shared = (refl, (refl, tt)); once = below-two (λ a. timesSwept a (accepted leZ rows (up ∷ across ∷ [])) ≡ 1) refl refl };
+  speaks-of-t5 = t5-sweeps;
+  box-of-t5 = order-for leZ total-≤ .box square (constant (pos 0)) rows (up ∷ across ∷ []) t5-sweeps 3 (omega arith);
   speaks-of-mixed = record { grid = refl; named = (refl, (refl, tt)); shared = (refl, (refl, tt)); once = below-two (λ a. timesSwept a (accepted leZ rows mixed) ≡ 1) refl refl };
   mixed-numbers = refl;
   speaks-of-cube = record {

@@ -25,7 +25,7 @@ checked : (c : tie.After-origin-check) → let a = c .before .before .before .ar
 checked c =
     let a = c .before .before .before .args in
     let e : toZ w64 (ofZ w64 (a .origin)) ≡ a .origin = search needs in
-    c .origin-check .ensures ∙ ap (originPads (a .size) (a .size / 2) (a .size - a .size / 2 - 1)) e
+    c .origin-check .ensures .pads ∙ ap (originPads (a .size) (a .size / 2) (a .size - a .size / 2 - 1)) e
 
 -- the pads that it gives
 given : (c : tie.After-left) → let s = c .before .before .before .before .before in

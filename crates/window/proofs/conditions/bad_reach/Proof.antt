@@ -16,7 +16,7 @@ checked : (c : tie.After-origin-check) → let a = c .before .before .args in c 
 checked c =
     let a = c .before .before .args in
     let e : toZ w64 (ofZ w64 (a .origin)) ≡ a .origin = search needs in
-    c .origin-check .ensures ∙ ap (originPads (a .size) (leftOf (a .size)) (rightOf (a .size))) e
+    c .origin-check .ensures .pads ∙ ap (originPads (a .size) (leftOf (a .size)) (rightOf (a .size))) e
 
 returns : tie.Need-returns
 returns c = let a = c .before .args in single-cell (a .size) (badEitherPad (borderOf (a .mode)) (leftPad (a .size) (a .origin)) (rightPad (a .size) (a .origin)) (a .n)) (c .if1 .taken)

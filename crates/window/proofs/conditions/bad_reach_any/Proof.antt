@@ -17,7 +17,7 @@ checked : (c : tie.After-origin-check) → let a = c .before .before .before .ar
 checked c =
     let a = c .before .before .before .args in
     let e : toZ w64 (ofZ w64 (a .origin)) ≡ a .origin = search needs in
-    c .origin-check .ensures ∙ ap (originPads (a .size) (leftOf (a .size)) (rightOf (a .size))) e
+    c .origin-check .ensures .pads ∙ ap (originPads (a .size) (leftOf (a .size)) (rightOf (a .size))) e
 
 returns : tie.Need-returns
 returns c = let a = c .before .before .args in single-any (borderOf (a .mode)) (a .size) (a .origin) (now (a .shape)) (c .if1 .taken)

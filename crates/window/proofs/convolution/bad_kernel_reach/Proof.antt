@@ -26,7 +26,7 @@ checked c =
     let a = c .before .before .before .args in
     let e : toZ w64 (ofZ w64 (a .origin)) ≡ a .origin = search needs in
     let k : toZ w64 (ofZ w64 (c .before .applied-origin .result)) ≡ c .before .applied-origin .result = search needs in
-    c .kernel-origin-check .ensures ∙ ap (originPads (a .side) (a .side / 2) (a .side / 2)) (k ∙ c .before .applied-origin .ensures ∙ ap (appliedOrigin (a .convolution) (a .side)) e)
+    c .kernel-origin-check .ensures .pads ∙ ap (originPads (a .side) (a .side / 2) (a .side / 2)) (k ∙ c .before .applied-origin .ensures ∙ ap (appliedOrigin (a .convolution) (a .side)) e)
 
 applied-origin-requires : tie.Need-applied-origin-requires
 applied-origin-requires c κs =

@@ -4,12 +4,13 @@ use borrow.Author.Needs.{needs}
 use mir.Syntax.{w64}
 use mir.ValLaws.{toZ-ofZ}
 use Rattle.window.specs.Origin.{originPads}
+use Rattle.window.proofs.Answered.{origin-answers}
 use Rattle.window.proofs.Origins.{origin-none}
 use Rattle.window.proofs.origin.origin_check.Statement.{statement}
 use Rattle.window.proofs.origin.origin_check.Tie as tie
 
 returns : tie.Need-returns
-returns c = rw (c .if1 .taken, origin-none)
+returns c = origin-answers _ _ _ _ (rw (c .if1 .taken, origin-none))
 
 sub-pads : tie.Need-sub-pads
 sub-pads c = search needs
@@ -24,7 +25,7 @@ pads-requires : tie.Need-pads-requires
 pads-requires c κs = search needs
 
 returns-2 : tie.Need-returns-2
-returns-2 c = c .pads .ensures ∙ ap (originPads _ _ _) (c .before .split .ensures ∙ toZ-ofZ w64 _ (c .before .before .before .fits .origin))
+returns-2 c = origin-answers _ _ _ _ (c .pads .ensures ∙ ap (originPads _ _ _) (c .before .split .ensures ∙ toZ-ofZ w64 _ (c .before .before .before .fits .origin)))
 
 pub origin-check-spec : {M : Type 1} → statement M
 origin-check-spec = tie.close (tie.spec returns sub-pads sub-pads-2 split-requires pads-requires returns-2)
