@@ -1,6 +1,7 @@
 -- `rows` meets its contract: every row holds by computing.
 -- Assumes nothing.
 use mathlib.Core.Path.{refl}
+use native.Mathlib.Omega.{arith}
 use Rattle.numbers.specs.Lists.{tabulate}
 use Rattle.array_spec.specs.Grid.{placeOf, coordinate}
 use Rattle.border.specs.Border.{cellFor, extendedLane}
@@ -17,6 +18,9 @@ returns c = record {
   laid-constant = refl;
   laid-edge = refl;
   laid-maximum = refl;
+  first-row = record { place = λ h. refl; offset = λ e. absurd (omega arith) };
+  second-row = record { place = λ h. refl; offset = λ e. absurd (omega arith) };
+  third-axis = λ t r. (r .place (omega arith), r .offset refl);
   gap = refl;
   gap-none = refl;
   around = refl;

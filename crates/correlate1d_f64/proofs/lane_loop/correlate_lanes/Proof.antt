@@ -25,14 +25,21 @@ correlate-lanes-spec =
     -- the lanes, and where the first starts
     (λ c κs. search needs) (λ c. let P = c .before .before .before .before .before .before .before .pre in column-none (P .0) (P .2) (P .3) (c .lanes-of .ensures))
     -- a lane is filtered into the row, and the row is written
-    (λ c κs. (column-needs (c .before .before .before .loop .inv) (c .before .before .loop-test .taken) (search needs), c .before .before .before .before .before .before .before .before .before .before .before .pre .1))
-    (λ c κs. let k = c .before .before .before .before .before .before .before .before .before in column-write (k .before .loop .inv) (k .loop-test .taken) (c .before .before .before .before .before .before .correlate-lane .kept .1 .1 .1 .1 .1 .1 .1 .1 .1 .0))
+    (λ c κs. (
+      column-needs (c .before .before .before .loop .inv) (c .before .before .loop-test .taken) (search needs),
+      c .before .before .before .before .before .before .before .before .before .before .before .pre .1,
+    ))
+    (λ c κs. let k = c .before .before .before .before .before .before .before .before .before in
+    column-write (k .before .loop .inv) (k .loop-test .taken) (c .before .before .before .before .before .before .correlate-lane .kept .1 .1 .1 .1 .1 .1 .1 .1 .1 .0))
     -- the next lane
     (λ c κs. let k = c .before .before .before .before .before .before .before .before .before .before .before .before in column-step (k .before .loop .inv) (k .loop-test .taken))
     (λ c. let k = c .before .before .before .before .before .before .before .before .before .before .before .before .before in omega (arith, k .loop-test .taken, k .before .before .lanes-of .ok))
     (λ c. omega (arith, c .before .before .before .before .before .before .before .before .before .before .before .before .before .loop-test .taken))
-    (λ c. let k = c .before .before .before .before .before .before .before .before .before .before .before .before .before in let f = c .before .before .before .before .before .before .before .before .before .before .correlate-lane in
-    column-more (k .before .loop .inv) (k .loop-test .taken) refl (f .kept .1 .1 .1 .1 .1 .1 .1 .1 .0) (f .kept .1 .1 .1 .1 .1 .1 .1 .1 .1 .0) (f .ensures) (c .before .before .before .write-from-f64 .ensures) (c .next-start .ensures))
+    (λ c. let k = c .before .before .before .before .before .before .before .before .before .before .before .before .before in
+    let f = c .before .before .before .before .before .before .before .before .before .before .correlate-lane in
+    column-more (k .before .loop .inv) (k .loop-test .taken) refl (f .kept .1 .1 .1 .1 .1 .1 .1 .1 .0) (f .kept .1 .1 .1 .1 .1 .1 .1 .1 .1 .0)
+    (f .ensures) (c .before .before .before .write-from-f64 .ensures) (c .next-start .ensures))
     -- every lane
-    (λ c. c .before .loop .inv .sweeping .buffer ∙ sym (c .before .before .before .before .before .before .before .before .before .pre .2)) (λ c. column-row (c .before .loop .inv) (c .before .before .before .before .before .before .before .before .before .pre .3))
+    (λ c. c .before .loop .inv .sweeping .buffer ∙ sym (c .before .before .before .before .before .before .before .before .before .pre .2))
+    (λ c. column-row (c .before .loop .inv) (c .before .before .before .before .before .before .before .before .before .pre .3))
     (λ c. c .before .loop .inv .sweeping .stored .kept) (λ c. column-all (c .before .loop .inv) (search needs)))

@@ -42,7 +42,8 @@ add-three-rows-spec =
     (λ c. one (c .before .before .before .before .before .before .before .before .before .pre .0 .line) _ _ (c .before .before .before .loop .inv .1) .fits)
     (λ c. let v = c .before .before .before .loop .inv in two (c .before .before .before .before .before .before .before .before .before .pre .0 .line) _ _ _ _ (v .0) (v .1) .fits)
     (λ c. let W = c .before .before .before .before .before .before .before .before .before .pre .0 .line in one W _ _ (cell-read W _) .fits)
-    (λ c. let v = c .before .before .before .loop .inv in let W = c .before .before .before .before .before .before .before .before .before .pre .0 .line in three W _ _ _ _ (v .0) (v .1) _ _ (cell-read W _) .fits)
+    (λ c. let v = c .before .before .before .loop .inv in let W = c .before .before .before .before .before .before .before .before .before .pre .0 .line in
+    three W _ _ _ _ (v .0) (v .1) _ _ (cell-read W _) .fits)
     -- added and stored
     (λ c. let A = c .before .before .before .before .before .before .before .before .before .pre .0 in let W = A .line in let v = c .before .before .before .loop .inv in
     added A _ (v .2) (c .before .before .loop-test .taken) (three W _ _ _ _ (v .0) (v .1) _ _ (cell-read W _)) (three-size W _ _ _ _ _ _) .fits)

@@ -26,7 +26,8 @@ copy-steps-f64-spec =
     (λ c. let t = step-turn (c .before .before .pre) (c .loop-test .taken) in omega arith)
     (λ c. let t = step-turn (c .before .before .before .pre) (c .before .loop-test .taken) in omega (arith, c .before .before .loop .inv .1 .stored .kept))
     -- the place that is stored
-    (λ c. let t = step-turn (c .before .before .before .pre) (c .before .loop-test .taken) in omega arith) (λ c. let t = step-turn (c .before .before .before .pre) (c .before .loop-test .taken) in omega arith)
+    (λ c. let t = step-turn (c .before .before .before .pre) (c .before .loop-test .taken) in omega arith)
+    (λ c. let t = step-turn (c .before .before .before .pre) (c .before .loop-test .taken) in omega arith)
     (λ c. let t = step-turn (c .before .before .before .pre) (c .before .loop-test .taken) in omega (arith, c .before .before .loop .inv .1 .stored .kept))
     -- one cell more, and all
     (λ c. search needs) (λ c. search needs)
