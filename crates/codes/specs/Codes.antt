@@ -1,8 +1,10 @@
--- What a code stands for, and the refusal of a code that stands for nothing: 100, above the numbers of the filters and judged last.
---   modeOf code c          the border of a code: 0 Constant c, 1 Mirror, 2 Nearest, 3 Reflect, 4 Wrap; Nearest, which is never refused, for any other
+-- What a code stands for, and the refusal of a code that stands for nothing: 100, above the numbers of the filters
+-- and judged last.
+--   modeOf code c          the border of a code: 0 Constant c, 1 Mirror, 2 Nearest, 3 Reflect, 4 Wrap; Nearest, which
+--                          is never refused, for any other
 --   modeOfF64 code c       the same of floats
---   paddingOf code c       the padding mode of a code: 0 Constant c, 1 Edge, 2 Maximum, 3 Mean, 4 Median, 5 Minimum, 6 Reflect, 7 Symmetric, 8 Wrap;
---                          Edge for any other
+--   paddingOf code c       the padding mode of a code: 0 Constant c, 1 Edge, 2 Maximum, 3 Mean, 4 Median, 5 Minimum,
+--                          6 Reflect, 7 Symmetric, 8 Wrap; Edge for any other
 --   kernelOf code          the kernel of a code: 0 Star, 1 Ball, 2 Full; Full for any other
 --   unknownBorder code     whether a code names no border
 --   unknownPad code        whether a code names no padding mode
@@ -29,16 +31,19 @@ use Rattle.symmetry_spec.specs.declared.SymmetryState.the-variants.{NonSymmetri
 
 unfoldable pub modeOf : ℕ → ℤ → BorderMode
 modeOf code c =
-    cond (eqb code 0) (Whole.Constant c) (cond (eqb code 1) Whole.Mirror (cond (eqb code 3) Whole.Reflect (cond (eqb code 4) Whole.Wrap Whole.Nearest)))
+    cond (eqb code 0) (Whole.Constant c) (cond (eqb code 1) Whole.Mirror (cond (eqb code 3) Whole.Reflect
+    (cond (eqb code 4) Whole.Wrap Whole.Nearest)))
 
 unfoldable pub modeOfF64 : ℕ → Float → BorderModeF64
 modeOfF64 code c =
-    cond (eqb code 0) (F64.Constant c) (cond (eqb code 1) F64.Mirror (cond (eqb code 3) F64.Reflect (cond (eqb code 4) F64.Wrap F64.Nearest)))
+    cond (eqb code 0) (F64.Constant c) (cond (eqb code 1) F64.Mirror (cond (eqb code 3) F64.Reflect
+    (cond (eqb code 4) F64.Wrap F64.Nearest)))
 
 unfoldable pub paddingOf : ℕ → ℤ → PadMode
 paddingOf code c =
-    cond (eqb code 0) (Pad.Constant c) (cond (eqb code 2) Pad.Maximum (cond (eqb code 3) Pad.Mean (cond (eqb code 4) Pad.Median
-    (cond (eqb code 5) Pad.Minimum (cond (eqb code 6) Pad.Reflect (cond (eqb code 7) Pad.Symmetric (cond (eqb code 8) Pad.Wrap Pad.Edge)))))))
+    cond (eqb code 0) (Pad.Constant c) (cond (eqb code 2) Pad.Maximum (cond (eqb code 3) Pad.Mean
+    (cond (eqb code 4) Pad.Median (cond (eqb code 5) Pad.Minimum (cond (eqb code 6) Pad.Reflect
+    (cond (eqb code 7) Pad.Symmetric (cond (eqb code 8) Pad.Wrap Pad.Edge)))))))
 
 unfoldable pub kernelOf : ℕ → Kernel3d
 kernelOf code = cond (eqb code 0) Kernel.Star (cond (eqb code 1) Kernel.Ball Kernel.Full)

@@ -1,4 +1,5 @@
--- Worked rows of codes and words: what each names, codes that name nothing, and the number that these get. Each holds by computing.
+-- Worked rows of codes and words: what each names, codes that name nothing, and the number that these get. Each holds
+-- by computing.
 --   CodesRows   the rows
 use mathlib.Core.Path.{_≡_}
 use mathlib.Core.Bool.{true, false}
@@ -9,7 +10,8 @@ use Rattle.border.specs.declared.BorderMode.the-variants as Whole
 use Rattle.border.specs.declared.BorderModeF64.the-variants as F64
 use Rattle.border.specs.declared.PadMode.the-variants as Pad
 use Rattle.symmetry_spec.specs.Class.{classZ}
-use Rattle.codes.specs.Codes.{modeOf, modeOfF64, paddingOf, kernelOf, unknownBorder, unknownPad, unknownKernel, coded, codeOf}
+use Rattle.codes.specs.Codes.{modeOf, modeOfF64, paddingOf, kernelOf}
+use Rattle.codes.specs.Codes.{unknownBorder, unknownPad, unknownKernel, coded, codeOf}
 use Rattle.codes.specs.Words.{borderWords, padWords, kernelWords, classWords}
 use Rattle.words.specs.Words.{bytesOf, placeIn}
 use Rattle.words.specs.declared.Found.the-variants.{At, Nothing}
@@ -49,7 +51,8 @@ pub record CodesRows : Type 0 where
   pub judged-alone : refusalOf (coded ((false, 9) ∷ (false, 11) ∷ []) true) ≡ 100
   pub judged-known : refusalOf (coded ((false, 9) ∷ (false, 11) ∷ []) false) ≡ 0
   -- pads past the end of a slice are 0
-  pub pairs : pairsOf (1 ∷ []) (2 ∷ 3 ∷ []) ≡ record { left = 1; right = 2 } ∷ record { left = 0; right = 3 } ∷ record { left = 0; right = 0 } ∷ []
+  pub pairs : pairsOf (1 ∷ []) (2 ∷ 3 ∷ [])
+      ≡ record { left = 1; right = 2 } ∷ record { left = 0; right = 3 } ∷ record { left = 0; right = 0 } ∷ []
   -- the star: a cross of five in the middle plane, one cell before it and one after
   pub star : kernelCells (kernelOf 0)
       ≡ false ∷ false ∷ false ∷ false ∷ true ∷ false ∷ false ∷ false ∷ false

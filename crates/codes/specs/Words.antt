@@ -9,7 +9,8 @@ abbrev pub borderWords : List (List ℕ)
 borderWords = wordList ("constant" ∷ "mirror" ∷ "nearest" ∷ "reflect" ∷ "wrap" ∷ [])
 
 abbrev pub padWords : List (List ℕ)
-padWords = wordList ("constant" ∷ "edge" ∷ "maximum" ∷ "mean" ∷ "median" ∷ "minimum" ∷ "reflect" ∷ "symmetric" ∷ "wrap" ∷ [])
+padWords = wordList (
+    "constant" ∷ "edge" ∷ "maximum" ∷ "mean" ∷ "median" ∷ "minimum" ∷ "reflect" ∷ "symmetric" ∷ "wrap" ∷ [])
 
 abbrev pub kernelWords : List (List ℕ)
 kernelWords = wordList ("star" ∷ "ball" ∷ "full" ∷ [])

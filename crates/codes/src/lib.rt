@@ -1,5 +1,5 @@
-// What the codes of the entry points (`capi`) and the words of requests (`ndimage`) name, and the last condition: a code that names nothing.
-// A word's place in its table is its code.
+// What the codes of the entry points (`capi`) and the words of requests (`ndimage`) name, and the last condition: a
+// code that names nothing. A word's place in its table is its code.
 ghost use mathlib.Core.Path.{_≡_};
 ghost use mathlib.Core.Bool.{cond};
 ghost use lib.Dec.{eqb};

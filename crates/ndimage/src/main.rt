@@ -1,4 +1,8 @@
 // Answers requests on standard input, a line each, with a line each on standard output.
+//
+// What was read as arguments is promised by `ndimage_arguments`, and what a call answers by the library. The functions
+// here promise nothing but that they are safe and end: they choose the call of a request and lend it what was read
+// (`apply`, `two_grids`, `every_axis`, `vote` and what is named after a call), or write the answer.
 use ndimage_read::cursor;
 use ndimage_read::state::Buffer;
 use ndimage_read::state::FAULT;

@@ -9,17 +9,23 @@
 --   paddingIn s l      the padding mode
 --   padsIn s           three pairs of pads
 --   mostOut n          how many cells are lent as the output of request n at most: one more than any call takes
---   isWhole n form     whether request n has an output of whole levels: all but symmetry, kernel3d and help, under any form but f, whose code is 1
+--   isWhole n form     whether request n has an output of whole levels: all but symmetry, kernel3d and help, under
+--                      any form but f, whose code is 1
 --   levelOfMark b      a mark of a mask as a level
+--   badMark z          whether a level of a mask is neither 0 nor 1
+--   marksBy l m        as many marks as levels, each whether its level is above 0; m where there are not as many
+--   levelsBy m l       as many levels as marks; l where there are not as many
 --   kernelLevels k     the 27 cells of a kernel as levels, the last axis fastest
 use Prim.Native.Nat.{ℕ, min}
-use mathlib.Core.Bool.{Bool, cond, not, _&&_, _||_}
+use mathlib.Core.Bool.{Bool, false, cond, not, _&&_, _||_}
 use mathlib.Core.List.{List, [], _∷_}
 use lib.Dec.{eqb}
 use lib.Ieee.{Float, nan}
 use lib.IntN.{ℤ, pos}
-use lib.ListN.{getD, take, drop}
+use lib.Signed.{ltZ}
+use lib.ListN.{length, getD, take, drop}
 use Rattle.numbers.specs.Lists.{tabulate}
+use Rattle.numbers.specs.Ranges.{outsideZ}
 use Rattle.border.specs.declared.BorderMode.{BorderMode}
 use Rattle.border.specs.declared.BorderModeF64.{BorderModeF64}
 use Rattle.border.specs.declared.PadMode.{PadMode}
@@ -70,6 +76,15 @@ isWhole n form = not (eqb form 1) && not (eqb n 15 || (eqb n 16 || eqb n 17))
 
 abbrev pub levelOfMark : Bool → ℤ
 levelOfMark b = cond b (pos 1) (pos 0)
+
+abbrev pub badMark : ℤ → Bool
+badMark z = outsideZ (pos 0) (pos 1) z
+
+abbrev pub marksBy : List ℤ → List Bool → List Bool
+marksBy l m = cond (eqb (length l) (length m)) (tabulate (λ k. ltZ (pos 0) (getD l k (pos 0))) 0 (length m)) m
+
+abbrev pub levelsBy : List Bool → List ℤ → List ℤ
+levelsBy m l = cond (eqb (length m) (length l)) (tabulate (λ k. levelOfMark (getD m k false)) 0 (length l)) l
 
 abbrev pub kernelLevels : Kernel3d → List ℤ
 kernelLevels k = tabulate (λ i. levelOfMark (kernelCell k i)) 0 27

@@ -6,12 +6,15 @@ use mathlib.Core.Bool.{true, false}
 use mathlib.Core.List.{List, [], _∷_, _++_, map}
 use lib.IntN.{pos, natAbs}
 use lib.ListN.{replicate}
-use Rattle.ndimage_arguments.specs.Arguments.{cellsFrom, shapeIn, sidesIn, codeIn, borderIn, paddingIn, padsIn, mostOut, isWhole, levelOfMark, kernelLevels}
+use Rattle.ndimage_arguments.specs.Arguments.{cellsFrom, shapeIn, sidesIn, codeIn, borderIn, paddingIn, padsIn}
+use Rattle.ndimage_arguments.specs.Arguments.{mostOut, isWhole, levelOfMark, badMark, marksBy, levelsBy}
+use Rattle.ndimage_arguments.specs.Arguments.{kernelLevels}
 use Rattle.codes.specs.Codes.{kernelOf}
 use Rattle.border.specs.declared.BorderMode.the-variants as Whole
 use Rattle.border.specs.declared.PadMode.the-variants as Pad
 
--- a state after reading: slots 0 to 7; no form, two axes, six cells, five sides; no weights, size and axis, code c; two pairs, an output; lengths 2 and 3
+-- a state after reading: slots 0 to 7; no form, two axes, six cells, five sides; no weights, size and axis, code c;
+-- two pairs, an output; lengths 2 and 3
 abbrev pub read : ℕ → List ℕ
 read c =
     replicate 8 0
@@ -35,7 +38,8 @@ pub record NdimageArgumentsRows : Type 0 where
   pub wrap : paddingIn (read 8) [] ≡ Pad.Wrap
   pub no-code : codeIn (read 256) ≡ 255
   -- pairs that were not given are 0
-  pub pads : padsIn (read 0) ≡ record { left = 1; right = 4 } ∷ record { left = 2; right = 5 } ∷ record { left = 0; right = 0 } ∷ []
+  pub pads : padsIn (read 0)
+      ≡ record { left = 1; right = 4 } ∷ record { left = 2; right = 5 } ∷ record { left = 0; right = 0 } ∷ []
   -- outputs of pads are larger; those of symmetry and of floats are not whole levels
   pub pad-out : mostOut 13 ≡ 32769
   pub sobel-out : mostOut 11 ≡ 8193
@@ -43,6 +47,11 @@ pub record NdimageArgumentsRows : Type 0 where
   pub correlate1d-float : isWhole 2 1 ≡ false
   pub symmetry-other : isWhole 15 0 ≡ false
   pub marked : levelOfMark true ≡ pos 1
+  pub two-odd : badMark (pos 2) ≡ true
+  pub one-mark : badMark (pos 1) ≡ false
+  pub marks : marksBy (pos 1 ∷ pos 0 ∷ []) (false ∷ true ∷ []) ≡ true ∷ false ∷ []
+  pub marks-short : marksBy (pos 1 ∷ []) (false ∷ true ∷ []) ≡ false ∷ true ∷ []
+  pub levels : levelsBy (true ∷ false ∷ []) (pos 5 ∷ pos 6 ∷ []) ≡ pos 1 ∷ pos 0 ∷ []
   -- the star: a cross of five in the middle plane, one cell before it and one after
   pub star : map natAbs (kernelLevels (kernelOf 0))
       ≡ 0 ∷ 0 ∷ 0 ∷ 0 ∷ 1 ∷ 0 ∷ 0 ∷ 0 ∷ 0 ∷ 0 ∷ 1 ∷ 0 ∷ 1 ∷ 1 ∷ 1 ∷ 0 ∷ 1 ∷ 0 ∷ 0 ∷ 0 ∷ 0 ∷ 0 ∷ 1 ∷ 0 ∷ 0 ∷ 0 ∷ 0 ∷ []

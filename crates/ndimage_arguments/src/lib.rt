@@ -1,5 +1,6 @@
-// The arguments of a call, out of what was read for a request: parts of the arrays that it was read into, and the modes that its codes name.
-// Of a list that is too long one cell more than any call takes is lent, which has the same refusal.
+// The arguments of a call, out of what was read for a request: parts of the arrays that it was read into, and the
+// modes that its codes name. Of a list that is too long one cell more than any call takes is lent, which has the same
+// refusal.
 use border::BorderMode;
 use border::BorderModeF64;
 use border::PadMode;
@@ -27,8 +28,12 @@ use pad_spec::Pair;
 ghost use mathlib.Core.Path.{_≡_};
 ghost use Prim.Native.Nat.{min};
 ghost use lib.IntN.{pos};
+ghost use lib.Signed.{ltZ};
 ghost use lib.ListN.{length, getD};
-ghost use Rattle.ndimage_arguments.specs.Arguments.{cellsFrom, shapeIn, sidesIn, dataIn, weightsIn, codeIn, borderIn, borderInF64, paddingIn, padsIn, mostOut, isWhole, levelOfMark, kernelLevels};
+ghost use Rattle.ndimage_arguments.specs.Arguments.{cellsFrom, shapeIn, sidesIn, dataIn, weightsIn, codeIn};
+ghost use Rattle.ndimage_arguments.specs.Arguments.{borderIn, borderInF64, paddingIn, padsIn, mostOut, isWhole};
+ghost use Rattle.ndimage_arguments.specs.Arguments.{levelOfMark, badMark, marksBy, levelsBy, kernelLevels};
+ghost use Rattle.numbers.specs.Lists.{anyOf};
 ghost use Rattle.ndimage_arguments.specs.Rows.{NdimageArgumentsRows};
 
 // n, or the most that can be lent.
@@ -61,6 +66,15 @@ pub fn levels(cells: &[i64], from: usize, n: usize) -> &[i64]
 
 // The same of floats.
 pub fn floats(cells: &[f64], from: usize, n: usize) -> &[f64]
+    ensures { λ r. ⌜ now r ≡ cellsFrom from n (now (cells .entry)) ⌝ }
+{
+    let start = lent(from, cells.len());
+    let count = lent(n, cells.len() - start);
+    &cells[start..start + count]
+}
+
+// The same of marks.
+pub fn marks(cells: &[bool], from: usize, n: usize) -> &[bool]
     ensures { λ r. ⌜ now r ≡ cellsFrom from n (now (cells .entry)) ⌝ }
 {
     let start = lent(from, cells.len());
@@ -216,6 +230,73 @@ pub fn digit(mark: bool) -> i64
         return 1;
     }
     0
+}
+
+// Whether a level is neither 0 nor 1.
+fn bad_mark(z: i64) -> bool
+    ensures { λ r. ⌜ r ≡ badMark z ⌝ }
+{
+    if z < 0 {
+        return true;
+    }
+    if 1 < z {
+        return true;
+    }
+    false
+}
+
+// Whether some level of a mask is neither 0 nor 1.
+pub fn bad_marks(levels: &[i64]) -> bool
+    ensures { λ r. ⌜ r ≡ anyOf badMark (now (levels .entry)) ⌝ }
+{
+    let mut i = 0;
+    while i < levels.len() {
+        if bad_mark(levels[i]) {
+            return true;
+        }
+        i += 1;
+    }
+    false
+}
+
+// Whether a level stands for true.
+fn is_marked(z: i64) -> bool
+    ensures { λ r. ⌜ r ≡ ltZ (pos 0) z ⌝ }
+{
+    if 0 < z {
+        return true;
+    }
+    false
+}
+
+// Sets marks by as many levels; where there are not as many, nothing.
+pub fn mark(levels: &[i64], marks: &mut [bool])
+    ensures { λ _. ⌜ now (marks .exit) ≡ marksBy (now (levels .entry)) (now (marks .entry)) ⌝ }
+{
+    let n = marks.len();
+    if levels.len() != n {
+        return;
+    }
+    let mut i = 0;
+    while i < n {
+        marks[i] = is_marked(levels[i]);
+        i += 1;
+    }
+}
+
+// Sets levels by as many marks, 1 for true and 0 for false; where there are not as many, nothing.
+pub fn unmark(marks: &[bool], levels: &mut [i64])
+    ensures { λ _. ⌜ now (levels .exit) ≡ levelsBy (now (marks .entry)) (now (levels .entry)) ⌝ }
+{
+    let n = levels.len();
+    if marks.len() != n {
+        return;
+    }
+    let mut i = 0;
+    while i < n {
+        levels[i] = digit(marks[i]);
+        i += 1;
+    }
 }
 
 // Sets 27 levels to a kernel's cells, the last axis fastest.

@@ -11,7 +11,7 @@ use libc::STDIN_FILENO;
 use ndimage_write::EXTRA;
 use ndimage_write::LONG;
 ghost use mathlib.Core.Path.{_≡_};
-ghost use Rattle.ndimage_read.specs.Token.{inputEnded, noLine, endBehind};
+ghost use Rattle.ndimage_spec.specs.Reading.{inputEnded, noLine, endBehind};
 
 // How many bytes of a token are kept, in front of what was read.
 const KEPT: usize = 64;

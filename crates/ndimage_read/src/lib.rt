@@ -1,9 +1,10 @@
 // What the program `ndimage` reads: a request, token by token, part by part. After a fault nothing more is read.
 //
-// What parts a request has, and what is read for each, is promised (requests.rt, parts.rt), and so is what a token is. These promise nothing but that
-// they are safe and end: `bring` and `fill`, which read; and what steps the state, the levels and the floats that are lent: in cursor.rt `begin_line`,
-// `faulty`, `lengthen`, `advance`, `keep`, `take`, `turn`, `run`, `next`, `expect_end`, `measure` and `finish`, in number.rt `keep` and what begins
-// with `take_`, and here `clear`, `begin`, `open`, `take`, `read_token`, `read_part`, `read_parts` and `read`.
+// What parts a request has, and what is read for each, is promised (requests.rt, parts.rt), and so is what a token
+// is. These promise nothing but that they are safe and end: `bring` and `fill`, which read; and what steps the state,
+// the levels and the floats that are lent: in cursor.rt `begin_line`, `faulty`, `lengthen`, `advance`, `keep`,
+// `take`, `turn`, `run`, `next`, `expect_end`, `measure` and `finish`, in number.rt `keep` and what begins with
+// `take_`, and here `clear`, `begin`, `open`, `take`, `read_token`, `read_part`, `read_parts` and `read`.
 use ndimage_spec::Kind;
 use ndimage_spec::Part;
 use state::Buffer;

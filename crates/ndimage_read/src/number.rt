@@ -1,4 +1,5 @@
-// Numbers out of tokens, each straight to its slot in what is lent. What is taken steps the state, or levels and floats: only the token itself is promised.
+// Numbers out of tokens, each straight to its slot in what is lent. What is taken steps the state, or levels and
+// floats: only the token itself is promised.
 use crate::cursor;
 use crate::parts;
 use crate::state::Floats;
@@ -12,7 +13,7 @@ use text_spec::Signed;
 use text_spec::Unsigned;
 use words::Found;
 ghost use mathlib.Core.Path.{_≡_};
-ghost use Rattle.ndimage_read.specs.Token.{tokenIn};
+ghost use Rattle.ndimage_spec.specs.Reading.{tokenIn};
 
 // The token's bytes; of one that is longer than what is kept, nothing, which is no word and no number.
 pub(crate) fn shown(buffer: &[u8], len: usize) -> &[u8]

@@ -1,5 +1,5 @@
 // The requests: their numbers, and the table that they are read by.
-ghost use Rattle.ndimage_read.specs.Table.{RequestTable};
+ghost use Rattle.ndimage_spec.specs.Requests.{RequestTable};
 
 // The requests by number, the places of their lines in the table.
 pub const CORRELATE: usize = 0;

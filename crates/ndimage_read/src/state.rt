@@ -1,10 +1,12 @@
-// What reading works on is lent to every function: a buffer of bytes, the levels and floats of a request, and the reader's state, numbers that say where
-// reading stands and what was read. The constants name the slots of the state, and the places where lists start.
+// What reading works on is lent to every function: a buffer of bytes, the levels and floats of a request, and the
+// reader's state, numbers that say where reading stands and what was read. The constants name the slots of the state,
+// and the places where lists start.
 
 // The token in front, what was read behind it.
 pub type Buffer = [u8; 65600];
 
-// The levels of a grid, its weights, a constant, an origin and what an output holds before, each with one cell more than any call takes.
+// The levels of a grid, its weights, a constant, an origin and what an output holds before, each with one cell more
+// than any call takes.
 pub type Levels = [i64; 41308];
 
 // The floats of a grid, its weights and a constant.
@@ -35,7 +37,8 @@ pub const REQUEST: usize = 6;
 // The last count; after a word, 1 where it is the first of its table.
 pub const LAST: usize = 7;
 
-// The parts of one count or word, 0 where the request has none; `partTable` (crates/ndimage_spec/specs/Parts.antt) has all slots.
+// The parts of one count or word, 0 where the request has none; `partTable` (crates/ndimage_spec/specs/Parts.antt)
+// has all slots.
 pub const FORM: usize = 8;
 
 pub const AXES: usize = 9;

@@ -2,4 +2,5 @@
 pub mod Requests
 pub mod Parts
 pub mod Faults
+pub mod Reading
 pub mod Rows

@@ -1,5 +1,5 @@
--- What is read for a part of a request: tokens of which kind, how many, and where the numbers go. Counts and words go to slots of the reader's state,
--- levels to places among the levels or floats.
+-- What is read for a part of a request: tokens of which kind, how many, and where the numbers go. Counts and words go
+-- to slots of the reader's state, levels to places among the levels or floats.
 --   nowhere             the slot of a number that is not kept: beyond every array
 --   partTable           a line for each part, by its letter
 --   partOf letter       its part; of a letter that names none, one whose number is not kept

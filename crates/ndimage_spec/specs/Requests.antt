@@ -1,13 +1,16 @@
--- The requests: the word of each, and its parts in the order of reading, each by its letter (Parts.antt says what is read for it).
+-- The requests: the word of each, and its parts in the order of reading, each by its letter (Parts.antt says what is
+-- read for it).
 --   requestTable     a line for each request; its place is the request's number
 --   requestWords     the words      requestParts   the parts
 --   requestOf t      the number of the request that the token t names
 --   partsOf n        the letters of the parts of request n
+--   RequestTable t   a line for each request in the bytes t: the word and the parts of each are those of the table
 use Prim.Native.Nat.{ℕ}
 use Prim.Native.String.{String}
+use mathlib.Core.Path.{_≡_}
 use mathlib.Core.List.{List, [], _∷_, map}
 use lib.ListN.{getD}
-use Rattle.words.specs.Words.{bytesOf, placeIn}
+use Rattle.words.specs.Words.{bytesOf, wordsOf, restsOf, placeIn}
 use Rattle.words.specs.declared.Found.{Found}
 
 abbrev pub requestTable : List (String × String)
@@ -43,3 +46,7 @@ requestOf t = placeIn requestWords t
 
 abbrev pub partsOf : ℕ → List ℕ
 partsOf n = getD requestParts n []
+
+pub record RequestTable (t : List ℕ) : Type 0 where
+  pub words : wordsOf t ≡ requestWords
+  pub parts : restsOf t ≡ requestParts

@@ -4,10 +4,12 @@ use mathlib.Core.Path.{_≡_}
 use mathlib.Core.Bool.{true, false}
 use mathlib.Core.List.{[], _∷_}
 use Prim.Native.Char.{code}
+use lib.ListN.{replicate}
 use Rattle.words.specs.Words.{bytesOf, placeIn}
 use Rattle.words.specs.declared.Found.the-variants.{At, Nothing}
 use Rattle.ndimage_spec.specs.Requests.{requestOf, partsOf}
 use Rattle.ndimage_spec.specs.Parts.{nowhere, part, partOf, timesOf, isFloat, slotOf, wordsFor, lastAfter}
+use Rattle.ndimage_spec.specs.Reading.{tokenIn, endBehind, noLine}
 use Rattle.ndimage_spec.specs.Faults.{textOf, showsToken, faultOf, visibleOf}
 use Rattle.ndimage_spec.specs.declared.Kind.the-variants.{Form, Border, Padding, Kernel, Count, Whole, Level}
 use Rattle.ndimage_spec.specs.declared.Times.the-variants.{Once, Last, TwiceLast}
@@ -82,3 +84,13 @@ pub record NdimageSpecRows : Type 0 where
   pub missing-bare : showsToken (textOf 2) ≡ false
   pub tab-shown : visibleOf 9 ≡ 63
   pub letter-shown : visibleOf 97 ≡ 97
+  -- a token of 64 bytes is whole, a longer one is nothing
+  pub token-in : tokenIn (97 ∷ 98 ∷ 99 ∷ []) 2 ≡ 97 ∷ 98 ∷ []
+  pub token-whole : tokenIn (replicate 70 49) 64 ≡ replicate 64 49
+  pub token-long : tokenIn (replicate 70 49) 65 ≡ []
+  pub full-buffer : endBehind 65536 ≡ 65600
+  pub beyond-buffer : endBehind 65537 ≡ 64
+  -- the state begins with the next byte, the end, the bytes of the line, those of the token, and the stage
+  pub last-line : noLine (64 ∷ 64 ∷ 5 ∷ 0 ∷ 3 ∷ []) ≡ false
+  pub behind-last : noLine (64 ∷ 64 ∷ 0 ∷ 0 ∷ 3 ∷ []) ≡ true
+  pub empty-line : noLine (64 ∷ 64 ∷ 0 ∷ 0 ∷ 2 ∷ []) ≡ false

@@ -1,5 +1,6 @@
-// What a request of the program `ndimage` is: the table of requests with their parts, what is read for each part, and what can be wrong with a line.
-// The definitions, and worked rows of them; `ndimage_read` and `ndimage_write` have the code.
+// What a request of the program `ndimage` is: the table of requests with their parts, what is read for each part, and
+// what can be wrong with a line. The definitions, and worked rows of them; `ndimage_read` and `ndimage_write` have
+// the code.
 ghost use Rattle.ndimage_spec.specs.Rows.{NdimageSpecRows};
 
 // What a token of a part is.
@@ -27,7 +28,8 @@ pub enum Times {
     TwiceLast,
 }
 
-// What is read for a part: of which kind and how often; then the slot of its first number, and how many of its numbers are kept, in slots one by one.
+// What is read for a part: of which kind and how often; then the slot of its first number, and how many of its
+// numbers are kept, in slots one by one.
 pub struct Part(pub Kind, pub Times, pub usize, pub usize);
 
 // Worked rows about requests. Refuses nothing.

@@ -1,6 +1,7 @@
-// What the program `ndimage` writes. Answers go through a buffer, which is written out when it is full and at the end of the line.
-// No contract can say what is written, so these promise nothing but that they are safe and end: `flush`, `make_room`, `put_level`, `put_level_f64`,
-// `between`, `end`, `levels`, `levels_f64`, `say`, `refused`, `echo`, `error`, and `show_help` with what it calls.
+// What the program `ndimage` writes. Answers go through a buffer, which is written out when it is full and at the end
+// of the line. No contract can say what is written, so these promise nothing but that they are safe and end: `flush`,
+// `make_room`, `put_level`, `put_level_f64`, `between`, `end`, `levels`, `levels_f64`, `say`, `refused`, `echo`,
+// `error`, and `show_help` with what it calls.
 ghost use mathlib.Core.Path.{_≡_};
 ghost use mathlib.Core.Bool.{cond};
 ghost use Prim.Native.Nat.{_+_, _-_};
@@ -59,7 +60,8 @@ fn make_room(answer: &[u8], at: usize) -> usize {
 
 // Stores a byte where there is room, and says where the next one goes.
 fn put(answer: &mut [u8], at: usize, byte: u8) -> usize
-    ensures { λ r. ⌜ (r ≡ cond (ltb at (length (now (answer .entry)))) (at + 1) at) × (now (answer .exit) ≡ set (now (answer .entry)) at byte) ⌝ }
+    ensures { λ r. ⌜ (r ≡ cond (ltb at (length (now (answer .entry)))) (at + 1) at)
+        × (now (answer .exit) ≡ set (now (answer .entry)) at byte) ⌝ }
 {
     if at >= answer.len() {
         return at;

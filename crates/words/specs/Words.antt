@@ -2,7 +2,8 @@
 --   bytesOf text          the bytes of a text, which has ASCII characters only
 --   wordList texts        those of each
 --   wordIf b w ws         a word before others, where b holds
---   columnFrom e o w t    what stands in the bytes t before each byte e, from the last byte e or o before it on; w stands before t
+--   columnFrom e o w t    what stands in the bytes t before each byte e, from the last byte e or o before it on; w
+--                         stands before t
 --   wordsOf t             the words of a table: what stands before each space
 --   restsOf t             what else its lines hold: what stands before each line feed, from the last space on
 --   linesOf t             the lines of a text: what stands before each line feed

@@ -1,5 +1,6 @@
-// Tables of words, and where a word stands in one. A table is bytes: a space behind each word; where its lines hold more than words, that stands
-// behind the space, and a line feed ends it. So one function finds a word in any table, and its rule is proved once.
+// Tables of words, and where a word stands in one. A table is bytes: a space behind each word; where its lines hold
+// more than words, that stands behind the space, and a line feed ends it. So one function finds a word in any table,
+// and its rule is proved once.
 ghost use mathlib.Core.Path.{_≡_};
 ghost use mathlib.Core.Bool.{cond, _&&_, _||_};
 ghost use Prim.Native.Nat.{_+_, _-_, _≤_, _<_};
@@ -22,7 +23,8 @@ const LINE_FEED: u8 = 10;
 // Whether the bytes from start to i are the token, with a space behind them.
 fn is_here(token: &[u8], table: &[u8], start: usize, i: usize) -> bool
     requires { ⌜ (start ≤ i) × (i < length (now table)) ⌝ }
-    ensures { λ r. ⌜ r ≡ eqb (getD (now (table .entry)) i 0) 32 && sameBytes (take (i - start) (drop start (now (table .entry)))) (now (token .entry)) ⌝ }
+    ensures { λ r. ⌜ r ≡ eqb (getD (now (table .entry)) i 0) 32
+        && sameBytes (take (i - start) (drop start (now (table .entry)))) (now (token .entry)) ⌝ }
 {
     if table[i] != SPACE {
         return false;

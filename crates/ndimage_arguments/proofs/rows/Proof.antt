@@ -27,6 +27,11 @@ returns c = record {
   correlate1d-float = refl;
   symmetry-other = refl;
   marked = refl;
+  two-odd = refl;
+  one-mark = refl;
+  marks = refl;
+  marks-short = refl;
+  levels = refl;
   star = refl;
 }
 

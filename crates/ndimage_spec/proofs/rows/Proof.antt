@@ -69,6 +69,14 @@ returns c = record {
   missing-bare = refl;
   tab-shown = refl;
   letter-shown = refl;
+  token-in = refl;
+  token-whole = refl;
+  token-long = refl;
+  full-buffer = refl;
+  beyond-buffer = refl;
+  last-line = refl;
+  behind-last = refl;
+  empty-line = refl;
 }
 
 pub rows-spec : {M : Type 1} → statement M

@@ -1,8 +1,9 @@
--- A token, and what the reader's state says.
---   tokenIn b n   the token of n bytes in front of the buffer b; nothing where it has more than 64 bytes, or more than the buffer
---   endBehind n   where n bytes end that were read behind the token; none where they are more than the buffer has room for
---   inputEnded s  whether the input has ended, by the state s
---   noLine s      whether it ended before the first byte of a line
+-- What the reader knows by its buffer and its state s: the token, where its bytes end, and whether there is a line.
+--   tokenIn b n    the token of n bytes in front of the buffer b; nothing where it has more than 64 bytes, or more than
+--                  the buffer
+--   endBehind n    where n bytes end that were read behind the token; none where they are more than the buffer holds
+--   inputEnded s   whether the input has ended
+--   noLine s       whether it ended before the first byte of a line
 use Prim.Native.Nat.{ℕ, _+_}
 use mathlib.Core.Bool.{Bool, cond, _&&_, _||_}
 use mathlib.Core.List.{List, []}

@@ -1,3 +1,0 @@
--- What reading works on: the table of requests as bytes, tokens, and the reader's state.
-pub mod Table
-pub mod Token
