@@ -8,6 +8,9 @@
  * Every call that returns an enum suvvokal_refusal number gives 0 where it filled its outputs, or the lowest number of a condition that holds, and
  * then every lent output is as it was. No call keeps a pointer, allocates, or fails in another way.
  *
+ * Floats: all NaNs count as one. Where an answer is a NaN the cell is a NaN and its bits are open; what is promised of a lent cell that held
+ * a NaN and is left as it was is that it is a NaN.
+ *
  * `rt staticlib capi` makes the archive to link with, target/staticlib/libcapi.a.
  */
 #ifndef SUVVOKAL_H

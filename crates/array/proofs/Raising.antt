@@ -34,7 +34,10 @@ module _ (z : ℤ) (f : SFits w64 z) (t : ltZ (read z) (pos 0) ≡ true) where
   read-is = toZ-ofZ w64 z f ∙ below-is z f t
 
   near-is : (k : ℕ) → k < 2 ^ 63 → SFits w64 (negsuc k +ℤ pos 9223372036854775807)
-  near-is k h = record { sfits = cond-ind (ltb 9223372036854775807 (suc k)) (negsuc (suc k - suc 9223372036854775807)) (pos (9223372036854775807 - suc k)) (λ y. mag y < 2 ^ 63) (λ u. omega arith) (λ u. omega arith) }
+  near-is k h = record {
+    sfits = cond-ind (ltb 9223372036854775807 (suc k)) (negsuc (suc k - suc 9223372036854775807)) (pos (9223372036854775807 - suc k)) (λ y. mag y < 2 ^ 63) (λ u. omega arith)
+        (λ u. omega arith);
+  }
 
   pub near-fits : SFits w64 (read z +ℤ pos 9223372036854775807)
   near-fits = subst⁻¹ (λ (y : ℤ). SFits w64 (y +ℤ pos 9223372036854775807)) read-is (near-is (mag z) (f .sfits))

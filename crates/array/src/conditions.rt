@@ -38,7 +38,8 @@ fn any_other(lent: &[usize], count: usize) -> bool
     false
 }
 
-// Condition 2 of several grids: one of them does not have the shape's cell count. Of 2 3 the lengths 6 6 pass, 6 5 do not.
+// Condition 2 of several grids: one of them does not have the shape's cell count. Of 2 3 the lengths 6 6 pass, 6 5 do
+// not.
 //
 // * `lent` - the length of each grid.
 pub fn bad_lengths(shape: &[usize], lent: &[usize]) -> bool
@@ -102,7 +103,8 @@ pub fn bad_axis(shape: &[usize], axis: usize) -> bool
 // Conditions 1 and 2 in rising order, of a grid of `len` cells and the lent grids; the cells are counted once.
 fn judge_lengths(shape: &[usize], len: usize, lent: &[usize]) -> u8
     ensures { λ r. ⌜ r ≡ refusalOf
-        ((badShape (now (shape .entry)), 1) ∷ (anyOf (badLength (now (shape .entry))) (len ∷ now (lent .entry)), 2) ∷ []) ⌝ }
+        ((badShape (now (shape .entry)), 1) ∷ (anyOf (badLength (now (shape .entry))) (len ∷ now (lent .entry)), 2)
+        ∷ []) ⌝ }
 {
     let count = cell_count(shape);
     if count == 0 {
@@ -124,7 +126,7 @@ fn judge_lengths(shape: &[usize], len: usize, lent: &[usize]) -> u8
 // * `shape` - the length of each axis.
 // * `lent` - the length of each grid that is lent besides.
 //
-// Refuses: 1, 2, 3. Of the cells 1 2 3 the shape 2 2 gives 2, whatever is lent.
+// Refuses: 1 (shape), 2 (length), 3 (level). Of the cells 1 2 3 the shape 2 2 gives 2, whatever is lent.
 pub fn judge_grid(data: &[i64], shape: &[usize], lent: &[usize]) -> u8
     ensures { λ r. ⌜ r ≡ refusalOf (gridJudged (now (shape .entry)) (now («data» .entry)) (now (lent .entry))) ⌝ }
 {
@@ -140,7 +142,8 @@ pub fn judge_grid(data: &[i64], shape: &[usize], lent: &[usize]) -> u8
 
 // The same of a grid of float levels. A NaN as the only cell of the shape 1 gives 3, -0.0 gives 0.
 pub fn judge_grid_f64(data: &[f64], shape: &[usize], lent: &[usize]) -> u8
-    ensures { λ r. ⌜ r ≡ refusalOf (gridJudgedBy badFloat (now (shape .entry)) (now («data» .entry)) (now (lent .entry))) ⌝ }
+    ensures { λ r. ⌜ r ≡ refusalOf (gridJudgedBy badFloat (now (shape .entry)) (now («data» .entry))
+        (now (lent .entry))) ⌝ }
 {
     let refusal = judge_lengths(shape, data.len(), lent);
     if refusal != 0 {

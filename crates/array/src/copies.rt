@@ -7,7 +7,7 @@ ghost use Rattle.array_spec.specs.Assign.{copied};
 ghost use Rattle.array_spec.specs.Conditions.{gridJudged};
 use crate::conditions::judge_grid;
 
-// Copies the cells of `from` to `to`, which stays as it was where their lengths differ. Refuses nothing.
+// Copies the cells of `from` to `to`, which stays as it was where their lengths differ.
 pub fn copy(from: &[i64], to: &mut [i64])
     ensures { λ _. ⌜ now (to .exit) ≡ copied (now (from .entry)) (now (to .entry)) ⌝ }
 {
@@ -23,7 +23,7 @@ pub fn copy(from: &[i64], to: &mut [i64])
     }
 }
 
-// Sets every cell of `out` to `level`. Refuses nothing.
+// Sets every cell of `out` to `level`.
 pub fn fill(out: &mut [i64], level: i64)
     ensures { λ _. ⌜ now (out .exit) ≡ replicate (length (now (out .entry))) level ⌝ }
 {
@@ -41,9 +41,10 @@ pub fn fill(out: &mut [i64], level: i64)
 // * `shape` - the length of each axis.
 // * `out` - the lent output, as many cells.
 //
-// Refuses: 1, 2, 3. The rows 1 2 / 3 4 are copied; of the cells 1 2 3 the shape 2 2 gives 2.
+// Refuses: 1 (shape), 2 (length), 3 (level). The rows 1 2 / 3 4 are copied; of the cells 1 2 3 the shape 2 2 gives 2.
 pub fn assign(data: &[i64], shape: &[usize], out: &mut [i64]) -> u8
-    ensures { λ r. ⌜ Answers (gridJudged (now (shape .entry)) (now («data» .entry)) (length (now (out .entry)) ∷ [])) (now («data» .entry)) (now (out .entry)) r (now (out .exit)) ⌝ }
+    ensures { λ r. ⌜ Answers (gridJudged (now (shape .entry)) (now («data» .entry)) (length (now (out .entry)) ∷ []))
+        (now («data» .entry)) (now (out .entry)) r (now (out .exit)) ⌝ }
 {
     let refusal = judge_grid(data, shape, &[out.len()]);
     if refusal != 0 {

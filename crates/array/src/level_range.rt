@@ -1,7 +1,9 @@
-// Whether a line has a level outside -(2^31 - 1)..2^31 - 1: condition 3 of whole levels, and which lines mean and median serve.
+// Whether a line has a level outside -(2^31 - 1)..2^31 - 1: condition 3 of whole levels, and which lines mean and
+// median serve.
 //
-// No loop here has an early return, so that each is compiled to vector code. Most lines have no level of 2^30 or more in size; that is seen with one
-// addition a level, of which the compiler makes a plain one, and the sizes are looked at of the other lines only.
+// No loop here has an early return, so that each is compiled to vector code. Most lines have no level of 2^30 or more
+// in size; that is seen with one addition a level, of which the compiler makes a plain one, and the sizes are looked at
+// of the other lines only.
 ghost use mathlib.Core.Path.{_≡_};
 ghost use mathlib.Core.Bool.{_||_};
 ghost use Prim.Native.Nat.{_-_, _^_};
@@ -26,14 +28,16 @@ fn raised(z: i64) -> u64
 //
 // * `z` - the level.
 //
-// Refuses nothing. A level in -2^30..2^30 - 1 becomes a number below 2^31, any other a greater one. Of -1 it is 1073741823, of -2^30 - 1 it is 2^64 - 1.
+// A level in -2^30..2^30 - 1 becomes a number below 2^31, any other a greater one. Of -1 it is 1073741823, of -2^30 - 1
+// it is 2^64 - 1.
 pub fn lifted(z: i64) -> u64
     ensures { λ r. ⌜ r ≡ liftOf z ⌝ }
 {
     std::num::wrapping_add_u64(raised(z), 9223372037928517632)
 }
 
-// Whether some level is outside -2^30..2^30 - 1: those inside are lifted to numbers below 2^31, and so are their bits joined.
+// Whether some level is outside -2^30..2^30 - 1: those inside are lifted to numbers below 2^31, and so are their bits
+// joined.
 fn far_in(line: &[i64]) -> bool
     ensures { λ r. ⌜ r ≡ anyOf isFar (now (line .entry)) ⌝ }
 {
@@ -47,7 +51,8 @@ fn far_in(line: &[i64]) -> bool
     2147483647 < bits
 }
 
-// The same of two lines as long as each other, in one loop: it reads twice as much a turn, and is a third quicker than two.
+// The same of two lines as long as each other, in one loop: it reads twice as much a turn, and is a third quicker than
+// two.
 fn far_in_two(line: &[i64], other: &[i64]) -> bool
     requires { ⌜ length (now other) ≡ length (now line) ⌝ }
     ensures { λ r. ⌜ r ≡ anyOf isFar (now (line .entry)) || anyOf isFar (now (other .entry)) ⌝ }
@@ -80,12 +85,12 @@ fn any_far(line: &[i64]) -> bool
     far_in(&line[e..])
 }
 
-// Whether some level is outside -(2^31 - 1)..2^31 - 1: the sizes' bits joined pass the limit where one size does. For a line that is known to have a level of 2^30 or
-// more in size; of any other `any_outside` is quicker.
+// Whether some level is outside -(2^31 - 1)..2^31 - 1: the sizes' bits joined pass the limit where one size does. For a
+// line that is known to have a level of 2^30 or more in size; of any other `any_outside` is quicker.
 //
 // * `line` - the levels, any number of them.
 //
-// Refuses nothing. Of 2147483648 alone it is true, of 2147483647 false, of no level false.
+// Of 2147483648 alone it is true, of 2147483647 false, of no level false.
 pub fn any_over(line: &[i64]) -> bool
     ensures { λ r. ⌜ r ≡ anyOf (outsideZ (negℤ (pos (2 ^ 31 - 1))) (pos (2 ^ 31 - 1))) (now (line .entry)) ⌝ }
 {
@@ -103,7 +108,7 @@ pub fn any_over(line: &[i64]) -> bool
 //
 // * `line` - the levels, any number of them.
 //
-// Refuses nothing. Of 2147483648 alone it is true, of 2147483647 false, of no level false.
+// Of 2147483648 alone it is true, of 2147483647 false, of no level false.
 pub fn any_outside(line: &[i64]) -> bool
     ensures { λ r. ⌜ r ≡ anyOf (outsideZ (negℤ (pos (2 ^ 31 - 1))) (pos (2 ^ 31 - 1))) (now (line .entry)) ⌝ }
 {
@@ -113,7 +118,7 @@ pub fn any_outside(line: &[i64]) -> bool
     any_over(line)
 }
 
-// Worked rows of this crate's definitions. Refuses nothing.
+// Worked rows of this crate's definitions.
 pub fn rows()
     ensures { λ _. ⌜ ArrayRows ⌝ }
 {}

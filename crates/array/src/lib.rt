@@ -1,4 +1,5 @@
-// Row-major arrays: the cell count of a shape, conditions 1, 2, 3 and 8 of a refusal with the judge of a grid, and copies.
+// Row-major arrays: the cell count of a shape, conditions 1, 2, 3 and 8 of a refusal with the judge of a grid, and
+// copies.
 
 mod conditions;
 mod copies;

@@ -9,7 +9,6 @@ ghost use Rattle.array_spec.specs.Conditions.{gridCount};
 ghost use Rattle.array_spec.specs.Grid.{lengthOf};
 
 // The length of an axis; a missing axis has length 1. Of 2 3 axis 1 has 3 and axis 2 has 1.
-// Refuses nothing.
 pub fn len_of(shape: &[usize], axis: usize) -> usize
     ensures { λ r. ⌜ r ≡ lengthOf (now (shape .entry)) axis ⌝ }
 {
@@ -21,7 +20,8 @@ pub fn len_of(shape: &[usize], axis: usize) -> usize
 
 // The number of cells of three lengths; 0 where a length is outside 1..1,024 or there are over 8,192 cells.
 fn count_of_three(a: usize, b: usize, c: usize) -> usize
-    ensures { λ r. ⌜ r ≡ cond (outside 1 longestAxis a || (outside 1 longestAxis b || (outside 1 longestAxis c || ltb mostCells (a * (b * c))))) 0 (a * (b * c)) ⌝ }
+    ensures { λ r. ⌜ r ≡ cond (outside 1 longestAxis a
+        || (outside 1 longestAxis b || (outside 1 longestAxis c || ltb mostCells (a * (b * c))))) 0 (a * (b * c)) ⌝ }
 {
     if a < 1 {
         return 0;

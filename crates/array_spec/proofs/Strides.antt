@@ -91,7 +91,8 @@ place-moved (n ∷ ns) (suc a) k j p h l =
     let r₃ : k / N * N + k % N ≡ k = div-add-mod' k N in
     ap (λ x. x * D + placeOf ns (λ b. moved (suc a) j (coordinate (n ∷ ns) k) (suc b))) first
     ∙ ap (λ x. k / D * D + x) (e ∙ ih)
-    ∙ sum (k / D * D) (k % D / N * N) (k % D % strideOf ns a) (j * strideOf ns a) (k / N * N) (k % strideOf ns a) (same k (k % D) (k / D * D) (k % D / N * N) (k % D % N) (k / N * N) (k % N) r₁ r₂ r₃ f) u
+    ∙ sum (k / D * D) (k % D / N * N) (k % D % strideOf ns a) (j * strideOf ns a) (k / N * N) (k % strideOf ns a)
+    (same k (k % D) (k / D * D) (k % D / N * N) (k % D % N) (k / N * N) (k % N) r₁ r₂ r₃ f) u
   where
     same : (k d x y m z r : ℕ) → x + d ≡ k → y + m ≡ d → z + r ≡ k → m ≡ r → x + y ≡ z
     same k d x y m z r a b c e = omega arith

@@ -5,7 +5,8 @@
 --   badLevel z         3: a whole level outside −(2^31 − 1)..2^31 − 1
 --   badFloat x         3: a float level that is not finite
 --   badAxis ns a       8: an axis number not below the axis count
---   gridJudgedBy bad ns cells lent   conditions 1, 2 (of the grid and of each lent grid, by the list of their lengths) and 3, the
+--   gridJudgedBy bad ns cells lent   conditions 1, 2 (of the grid and of each lent grid, by the list of their lengths)
+--                                    and 3, the
 --                      test bad of one level, in rising order
 --   gridJudged ns cells lent         the same of whole levels
 -- Conditions 1 and 3 of a whole list are tests of any member: anyOf badLevel, anyOf badFloat.
@@ -43,7 +44,8 @@ abbrev pub badAxis : List ℕ → ℕ → Bool
 badAxis ns a = not (ltb a (length ns))
 
 abbrev pub gridJudgedBy : {A : Type 0} → (A → Bool) → List ℕ → List A → List ℕ → Judged
-gridJudgedBy bad ns cells lent = (badShape ns, 1) ∷ (anyOf (badLength ns) (length cells ∷ lent), 2) ∷ (anyOf bad cells, 3) ∷ []
+gridJudgedBy bad ns cells lent = (badShape ns, 1) ∷ (anyOf (badLength ns) (length cells ∷ lent), 2)
+    ∷ (anyOf bad cells, 3) ∷ []
 
 abbrev pub gridJudged : List ℕ → List ℤ → List ℕ → Judged
 gridJudged ns cells lent = gridJudgedBy badLevel ns cells lent

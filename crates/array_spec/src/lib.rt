@@ -3,7 +3,7 @@
 // Here are the definitions and their laws; `array` has the code.
 ghost use Rattle.array_spec.specs.Rows.{ArraySpecRows};
 
-// Worked rows of this crate's definitions. Refuses nothing.
+// Worked rows of this crate's definitions.
 pub fn rows()
     ensures { λ _. ⌜ ArraySpecRows ⌝ }
 {}

@@ -1,5 +1,6 @@
 -- The five borders, the extension of a lane and the extended grid, over any element. A coordinate is a signed number.
---   CellBorder                          the borders that read a cell: Nearest, Mirror, Reflect, Wrap (declared in src/lib.rt)
+--   CellBorder                          the borders that read a cell: Nearest, Mirror, Reflect, Wrap (declared in
+--                                       src/lib.rt)
 --   Border A                       constant, which carries a level, or along one of these
 --   cellBefore m n k               with n cells on the axis, counted from 0, the cell k places before cell 0
 --   cellAfter m n k                the cell k places after the last: the mirror image, under Wrap cell k − 1
@@ -50,7 +51,8 @@ unfoldable pub extendedLane : {A : Type 0} → Border A → ℕ → (ℕ → A) 
 extendedLane (constant c) n h z = cond (inside n z) (h (natAbs z)) c
 extendedLane (along m) n h z = h (cellFor m n z)
 
--- Under constant a cell is the constant as soon as one coordinate is outside; under other borders each coordinate is mapped by itself.
+-- Under constant a cell is the constant as soon as one coordinate is outside; under other borders each coordinate is
+-- mapped by itself.
 unfoldable pub extendedGrid : {A : Type 0} → A → Border A → List ℕ → List A → (ℕ → ℤ) → A
 extendedGrid d (constant c) ns cells q = cond (allInside ns q) (levelAt d ns cells (λ a. natAbs (q a))) c
 extendedGrid d (along m) ns cells q = levelAt d ns cells (λ a. cellFor m (lengthOf ns a) (q a))

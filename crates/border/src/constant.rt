@@ -5,8 +5,8 @@ ghost use Rattle.border.specs.Modes.{borderOf, borderOfF64, badConstantB
 use crate::BorderMode;
 use crate::BorderModeF64;
 
-// Condition 9: whether mode carries a level that condition 3 would refuse. Refuses nothing.
-// Constant(2147483648) gives true, Constant(-2147483647) and Wrap give false.
+// Condition 9: whether mode carries a level that condition 3 would refuse. Constant(2147483648) gives true,
+// Constant(-2147483647) and Wrap give false.
 pub fn bad_constant(mode: BorderMode) -> bool
     ensures { λ r. ⌜ r ≡ badConstantBy badLevel (borderOf mode) ⌝ }
 {
@@ -19,8 +19,8 @@ pub fn bad_constant(mode: BorderMode) -> bool
     }
 }
 
-// Condition 9 of a float border: whether mode carries a float that is not finite. Refuses nothing.
-// Constant(1.0 / 0.0) gives true, Constant(-0.0) and Wrap give false.
+// Condition 9 of a float border: whether mode carries a float that is not finite. Constant(1.0 / 0.0) gives true,
+// Constant(-0.0) and Wrap give false.
 pub fn bad_constant_f64(mode: BorderModeF64) -> bool
     ensures { λ r. ⌜ r ≡ badConstantBy badFloat (borderOfF64 mode) ⌝ }
 {

@@ -87,8 +87,8 @@ pub enum PadMode {
 }
 
 impl BorderMode {
-    // The padding mode that extends a lane as this border does. Refuses nothing.
-    // BorderMode::Mirror gives PadMode::Reflect, BorderMode::Reflect gives PadMode::Symmetric.
+    // The padding mode that extends a lane as this border does. BorderMode::Mirror gives PadMode::Reflect,
+    // BorderMode::Reflect gives PadMode::Symmetric.
     pub fn to_pad_mode(self) -> PadMode
         ensures { λ r. ⌜ r ≡ padModeOf self ⌝ }
     {
@@ -118,8 +118,7 @@ fn saturating_sub(a: usize, b: usize) -> usize
 // * `n` - how many cells the axis has.
 // * `k` - how many places before cell 0.
 //
-// Differences stop at 0. Refuses nothing.
-// Of three cells, two places before cell 0: Nearest reads cell 0, Mirror 2, Reflect 1, Wrap 1.
+// Differences stop at 0. Of three cells, two places before cell 0: Nearest reads cell 0, Mirror 2, Reflect 1, Wrap 1.
 pub fn cell_before(along: CellBorder, n: usize, k: usize) -> usize
     ensures { λ r. ⌜ r ≡ cellBefore along n k ⌝ }
 {
@@ -132,8 +131,7 @@ pub fn cell_before(along: CellBorder, n: usize, k: usize) -> usize
 }
 
 // The cell that a border reads for the place k after the last cell; the arguments are those of `cell_before`.
-// Differences stop at 0. Refuses nothing.
-// Of three cells, two places after cell 2: Nearest reads cell 2, Mirror 0, Reflect 1, Wrap 1.
+// Differences stop at 0. Of three cells, two places after cell 2: Nearest reads cell 2, Mirror 0, Reflect 1, Wrap 1.
 pub fn cell_after(along: CellBorder, n: usize, k: usize) -> usize
     ensures { λ r. ⌜ r ≡ cellAfter along n k ⌝ }
 {
@@ -158,7 +156,7 @@ pub fn kind_of(mode: BorderModeF64) -> BorderMode
     }
 }
 
-// Worked rows of this crate's definitions: T1, cells of extended grids, padding modes, and constants at their limits. Refuses nothing.
+// Worked rows of this crate's definitions: T1, cells of extended grids, padding modes, and constants at their limits.
 pub fn rows()
     ensures { λ _. ⌜ BorderRows ⌝ }
 {}

@@ -11,7 +11,7 @@ use crate::CellBorder;
 // * `n` - how many cells the lane has.
 // * `pad` - how many places are padded on one side.
 //
-// Refuses nothing. Of three cells Mirror fills a pad of 2 and not of 3, Reflect and Wrap fill 3 and not 4, Nearest any.
+// Of three cells Mirror fills a pad of 2 and not of 3, Reflect and Wrap fill 3 and not 4, Nearest any.
 pub fn bad_along(along: CellBorder, n: usize, pad: usize) -> bool
     ensures { λ r. ⌜ r ≡ badAlong along n pad ⌝ }
 {
@@ -33,7 +33,7 @@ pub fn bad_along(along: CellBorder, n: usize, pad: usize) -> bool
 // * `mode` - the border.
 // * `n`, `pad` - as in `bad_along`.
 //
-// Refuses nothing. Of three cells Mirror fills a pad of 2 and not of 3, Constant any.
+// Of three cells Mirror fills a pad of 2 and not of 3, Constant any.
 pub fn bad_pad(mode: BorderMode, n: usize, pad: usize) -> bool
     ensures { λ r. ⌜ r ≡ badPad (borderOf mode) n pad ⌝ }
 {

@@ -27,7 +27,8 @@ ghost use Rattle.codes.specs.Codes.{modeOf, unknownBorder, coded};
 // * `origin` - how far the window is moved along every axis.
 // * `out` - as long as data; kept as it was where the call is refused.
 //
-// Refuses: 1, 2, 3, 5, 6, 7, 9, 11, 12, 100 (an unknown code). Of the rows 1 2 / 3 4 with the kernel 1 0 / 0 10 under nearest: 11 21 / 31 41.
+// Refuses: 1 (shape), 2 (length), 3 (level), 5 (kernel), 6 (weight), 7 (origin), 9 (constant), 11 (reach), 100 (unknown
+// code). Of the rows 1 2 / 3 4 with the kernel 1 0 / 0 10 under nearest: 11 21 / 31 41.
 #[no_mangle]
 pub extern "C" fn suvvokal_correlate(
     data: &[i64],
@@ -39,8 +40,11 @@ pub extern "C" fn suvvokal_correlate(
     origin: isize,
     out: &mut [i64],
 ) -> u8
-    ensures { λ r. ⌜ Answers (coded (kernelJudged false (borderOf (modeOf code constant)) origin (now (sides .entry)) (now (weights .entry)) (now (shape .entry)) (now («data» .entry)) (length (now (out .entry)))) (unknownBorder code))
-        (correlateZ (borderOf (modeOf code constant)) origin (now (sides .entry)) (now (weights .entry)) (now (shape .entry)) (now («data» .entry))) (now (out .entry)) r (now (out .exit)) ⌝ }
+    ensures { λ r. ⌜ Answers (coded (kernelJudged false (borderOf (modeOf code constant)) origin (now (sides .entry))
+        (now (weights .entry)) (now (shape .entry)) (now («data» .entry)) (length (now (out .entry))))
+        (unknownBorder code))
+        (correlateZ (borderOf (modeOf code constant)) origin (now (sides .entry)) (now (weights .entry))
+        (now (shape .entry)) (now («data» .entry))) (now (out .entry)) r (now (out .exit)) ⌝ }
 {
     let mode = codes::mode_of(code, constant);
     if 4 < code {
@@ -72,8 +76,11 @@ pub extern "C" fn suvvokal_convolve(
     origin: isize,
     out: &mut [i64],
 ) -> u8
-    ensures { λ r. ⌜ Answers (coded (kernelJudged true (borderOf (modeOf code constant)) origin (now (sides .entry)) (now (weights .entry)) (now (shape .entry)) (now («data» .entry)) (length (now (out .entry)))) (unknownBorder code))
-        (convolveZ (borderOf (modeOf code constant)) origin (now (sides .entry)) (now (weights .entry)) (now (shape .entry)) (now («data» .entry))) (now (out .entry)) r (now (out .exit)) ⌝ }
+    ensures { λ r. ⌜ Answers (coded (kernelJudged true (borderOf (modeOf code constant)) origin (now (sides .entry))
+        (now (weights .entry)) (now (shape .entry)) (now («data» .entry)) (length (now (out .entry))))
+        (unknownBorder code))
+        (convolveZ (borderOf (modeOf code constant)) origin (now (sides .entry)) (now (weights .entry))
+        (now (shape .entry)) (now («data» .entry))) (now (out .entry)) r (now (out .exit)) ⌝ }
 {
     let mode = codes::mode_of(code, constant);
     if 4 < code {
@@ -101,7 +108,8 @@ pub extern "C" fn suvvokal_convolve(
 // * `second` - a second grid as long as data; an accepted call leaves zeros in it.
 // * `out` - as long as data. A refused call leaves both lent grids as they were.
 //
-// Refuses: 1, 2, 3, 8, 9, 11, 12, 100 (an unknown code). Of the rows 1 2 / 3 4 along axis 0 under constant 0: 7 7 / -3 -3.
+// Refuses: 1 (shape), 2 (length), 3 (level), 8 (axis), 9 (constant), 11 (reach), 100 (unknown code). Of the rows 1 2 /
+// 3 4 along axis 0 under constant 0: 7 7 / -3 -3.
 #[no_mangle]
 pub extern "C" fn suvvokal_prewitt(
     data: &[i64],
@@ -112,8 +120,11 @@ pub extern "C" fn suvvokal_prewitt(
     second: &mut [i64],
     out: &mut [i64],
 ) -> u8
-    ensures { λ r. ⌜ ScratchAnswers (pos 0) (coded (gradientJudged prewittWeights (borderOf (modeOf code constant)) (now (shape .entry)) axis (now («data» .entry)) (length (now (out .entry))) (length (now (second .entry)))) (unknownBorder code))
-        (gradientOf prewittWeights (borderOf (modeOf code constant)) (now (shape .entry)) axis (now («data» .entry))) (now (out .entry)) (now (second .entry) ∷ []) r (now (out .exit)) (now (second .exit) ∷ []) ⌝ }
+    ensures { λ r. ⌜ ScratchAnswers (pos 0) (coded (gradientJudged prewittWeights (borderOf (modeOf code constant))
+        (now (shape .entry)) axis (now («data» .entry)) (length (now (out .entry))) (length (now (second .entry))))
+        (unknownBorder code))
+        (gradientOf prewittWeights (borderOf (modeOf code constant)) (now (shape .entry)) axis (now («data» .entry)))
+        (now (out .entry)) (now (second .entry) ∷ []) r (now (out .exit)) (now (second .exit) ∷ []) ⌝ }
 {
     let mode = codes::mode_of(code, constant);
     if 4 < code {
@@ -123,7 +134,8 @@ pub extern "C" fn suvvokal_prewitt(
     gradient::prewitt(data, shape, axis, mode, second, out)
 }
 
-// As `suvvokal_prewitt`, smoothed by 1 2 1; the call `sobel`. Of the rows 1 2 / 3 4 along axis 0 under constant 0: 10 11 / -4 -5.
+// As `suvvokal_prewitt`, smoothed by 1 2 1; the call `sobel`. Of the rows 1 2 / 3 4 along axis 0 under constant 0: 10
+// 11 / -4 -5.
 #[no_mangle]
 pub extern "C" fn suvvokal_sobel(
     data: &[i64],
@@ -134,8 +146,11 @@ pub extern "C" fn suvvokal_sobel(
     second: &mut [i64],
     out: &mut [i64],
 ) -> u8
-    ensures { λ r. ⌜ ScratchAnswers (pos 0) (coded (gradientJudged sobelWeights (borderOf (modeOf code constant)) (now (shape .entry)) axis (now («data» .entry)) (length (now (out .entry))) (length (now (second .entry)))) (unknownBorder code))
-        (gradientOf sobelWeights (borderOf (modeOf code constant)) (now (shape .entry)) axis (now («data» .entry))) (now (out .entry)) (now (second .entry) ∷ []) r (now (out .exit)) (now (second .exit) ∷ []) ⌝ }
+    ensures { λ r. ⌜ ScratchAnswers (pos 0) (coded (gradientJudged sobelWeights (borderOf (modeOf code constant))
+        (now (shape .entry)) axis (now («data» .entry)) (length (now (out .entry))) (length (now (second .entry))))
+        (unknownBorder code))
+        (gradientOf sobelWeights (borderOf (modeOf code constant)) (now (shape .entry)) axis (now («data» .entry)))
+        (now (out .entry)) (now (second .entry) ∷ []) r (now (out .exit)) (now (second .exit) ∷ []) ⌝ }
 {
     let mode = codes::mode_of(code, constant);
     if 4 < code {
@@ -154,7 +169,8 @@ pub extern "C" fn suvvokal_sobel(
 // * `second` - a second grid as long as data; an accepted call leaves zeros in it.
 // * `out` - as long as data. A refused call leaves both lent grids as they were.
 //
-// Refuses: 1, 2, 3, 5, 9, 11, 12, 100 (an unknown code). Of the rows 1 2 / 3 -6 with size 2 under nearest: 1 1 / 2 0.
+// Refuses: 1 (shape), 2 (length), 3 (level), 5 (kernel), 9 (constant), 11 (reach), 100 (unknown code). Of the rows 1 2
+// / 3 -6 with size 2 under nearest: 1 1 / 2 0.
 #[no_mangle]
 pub extern "C" fn suvvokal_uniform_filter(
     data: &[i64],
@@ -165,8 +181,11 @@ pub extern "C" fn suvvokal_uniform_filter(
     second: &mut [i64],
     out: &mut [i64],
 ) -> u8
-    ensures { λ r. ⌜ ScratchAnswers (pos 0) (coded (uniformJudged (borderOf (modeOf code constant)) size (now (shape .entry)) (now («data» .entry)) (length (now (out .entry))) (length (now (second .entry)))) (unknownBorder code))
-        (uniformOf (borderOf (modeOf code constant)) size (now (shape .entry)) (now («data» .entry))) (now (out .entry)) (now (second .entry) ∷ []) r (now (out .exit)) (now (second .exit) ∷ []) ⌝ }
+    ensures { λ r. ⌜ ScratchAnswers (pos 0) (coded (uniformJudged (borderOf (modeOf code constant)) size
+        (now (shape .entry)) (now («data» .entry)) (length (now (out .entry))) (length (now (second .entry))))
+        (unknownBorder code))
+        (uniformOf (borderOf (modeOf code constant)) size (now (shape .entry)) (now («data» .entry))) (now (out .entry))
+        (now (second .entry) ∷ []) r (now (out .exit)) (now (second .exit) ∷ []) ⌝ }
 {
     let mode = codes::mode_of(code, constant);
     if 4 < code {
@@ -186,7 +205,8 @@ pub extern "C" fn suvvokal_uniform_filter(
 // * `second` - a second grid as long as data; an accepted call leaves zeros in it.
 // * `out` - as long as data. A refused call leaves both lent grids as they were.
 //
-// Refuses: 1, 2, 3, 5, 7, 9, 11, 100 (an unknown code). Of the rows 5 3 / 4 9 with size 2 under constant 0: 0 0 / 0 3.
+// Refuses: 1 (shape), 2 (length), 3 (level), 5 (kernel), 7 (origin), 9 (constant), 11 (reach), 100 (unknown code). Of
+// the rows 5 3 / 4 9 with size 2 under constant 0: 0 0 / 0 3.
 #[no_mangle]
 pub extern "C" fn suvvokal_minimum_filter(
     data: &[i64],
@@ -198,8 +218,12 @@ pub extern "C" fn suvvokal_minimum_filter(
     second: &mut [i64],
     out: &mut [i64],
 ) -> u8
-    ensures { λ r. ⌜ ScratchAnswers (pos 0) (coded (filterJudged (now («data» .entry)) (callOf (now (shape .entry)) size 0 (modeOf code constant) origin (now (out .entry))) (length (now (second .entry)))) (unknownBorder code))
-        (filterAnswer leZ (callOf (now (shape .entry)) size 0 (modeOf code constant) origin (now (out .entry))) (now («data» .entry))) (now (out .entry)) (now (second .entry) ∷ []) r (now (out .exit)) (now (second .exit) ∷ []) ⌝ }
+    ensures { λ r. ⌜ ScratchAnswers (pos 0) (coded (filterJudged (now («data» .entry))
+        (callOf (now (shape .entry)) size 0 (modeOf code constant) origin (now (out .entry)))
+        (length (now (second .entry)))) (unknownBorder code))
+        (filterAnswer leZ (callOf (now (shape .entry)) size 0 (modeOf code constant) origin (now (out .entry)))
+        (now («data» .entry))) (now (out .entry)) (now (second .entry) ∷ []) r (now (out .exit))
+        (now (second .exit) ∷ []) ⌝ }
 {
     let mode = codes::mode_of(code, constant);
     if 4 < code {
@@ -217,7 +241,8 @@ pub extern "C" fn suvvokal_minimum_filter(
     min_max::minimum_filter(data, shape, size, mode, origin, second, out)
 }
 
-// As `suvvokal_minimum_filter`, with the greatest level; the call `maximum_filter`. Of the rows 5 3 / 4 9 with size 2 under constant 0: 5 5 / 5 9.
+// As `suvvokal_minimum_filter`, with the greatest level; the call `maximum_filter`. Of the rows 5 3 / 4 9 with size 2
+// under constant 0: 5 5 / 5 9.
 #[no_mangle]
 pub extern "C" fn suvvokal_maximum_filter(
     data: &[i64],
@@ -229,8 +254,12 @@ pub extern "C" fn suvvokal_maximum_filter(
     second: &mut [i64],
     out: &mut [i64],
 ) -> u8
-    ensures { λ r. ⌜ ScratchAnswers (pos 0) (coded (filterJudged (now («data» .entry)) (callOf (now (shape .entry)) size 0 (modeOf code constant) origin (now (out .entry))) (length (now (second .entry)))) (unknownBorder code))
-        (filterAnswer atLeast (callOf (now (shape .entry)) size 0 (modeOf code constant) origin (now (out .entry))) (now («data» .entry))) (now (out .entry)) (now (second .entry) ∷ []) r (now (out .exit)) (now (second .exit) ∷ []) ⌝ }
+    ensures { λ r. ⌜ ScratchAnswers (pos 0) (coded (filterJudged (now («data» .entry))
+        (callOf (now (shape .entry)) size 0 (modeOf code constant) origin (now (out .entry)))
+        (length (now (second .entry)))) (unknownBorder code))
+        (filterAnswer atLeast (callOf (now (shape .entry)) size 0 (modeOf code constant) origin (now (out .entry)))
+        (now («data» .entry))) (now (out .entry)) (now (second .entry) ∷ []) r (now (out .exit))
+        (now (second .exit) ∷ []) ⌝ }
 {
     let mode = codes::mode_of(code, constant);
     if 4 < code {

@@ -24,7 +24,8 @@ ghost use Rattle.codes.specs.Codes.{modeOf, modeOfF64, unknownBorder, coded};
 // * `origin` - how far the window is moved.
 // * `out` - as long as data; kept as it was where the call is refused.
 //
-// Refuses: 1, 2, 3, 5, 6, 7, 8, 9, 11, 12, 100 (an unknown code). Of 1 2 3 with the weights 1 2 3 under nearest: 9 14 17.
+// Refuses: 1 (shape), 2 (length), 3 (level), 5 (kernel), 6 (weight), 7 (origin), 8 (axis), 9 (constant), 11 (reach),
+// 100 (unknown code). Of 1 2 3 with the weights 1 2 3 under nearest: 9 14 17.
 #[no_mangle]
 pub extern "C" fn suvvokal_correlate1d(
     data: &[i64],
@@ -36,8 +37,11 @@ pub extern "C" fn suvvokal_correlate1d(
     origin: isize,
     out: &mut [i64],
 ) -> u8
-    ensures { λ r. ⌜ Answers (coded (correlateJudged false (borderOf (modeOf code constant)) origin (now (weights .entry)) (now (shape .entry)) axis (now («data» .entry)) (length (now (out .entry)))) (unknownBorder code))
-        (correlate1dZ (borderOf (modeOf code constant)) origin (now (weights .entry)) (now (shape .entry)) axis (now («data» .entry))) (now (out .entry)) r (now (out .exit)) ⌝ }
+    ensures { λ r. ⌜ Answers (coded (correlateJudged false (borderOf (modeOf code constant)) origin
+        (now (weights .entry)) (now (shape .entry)) axis (now («data» .entry)) (length (now (out .entry))))
+        (unknownBorder code))
+        (correlate1dZ (borderOf (modeOf code constant)) origin (now (weights .entry)) (now (shape .entry)) axis
+        (now («data» .entry))) (now (out .entry)) r (now (out .exit)) ⌝ }
 {
     let mode = codes::mode_of(code, constant);
     if 4 < code {
@@ -69,8 +73,11 @@ pub extern "C" fn suvvokal_convolve1d(
     origin: isize,
     out: &mut [i64],
 ) -> u8
-    ensures { λ r. ⌜ Answers (coded (correlateJudged true (borderOf (modeOf code constant)) origin (now (weights .entry)) (now (shape .entry)) axis (now («data» .entry)) (length (now (out .entry)))) (unknownBorder code))
-        (convolve1dZ (borderOf (modeOf code constant)) origin (now (weights .entry)) (now (shape .entry)) axis (now («data» .entry))) (now (out .entry)) r (now (out .exit)) ⌝ }
+    ensures { λ r. ⌜ Answers (coded (correlateJudged true (borderOf (modeOf code constant)) origin
+        (now (weights .entry)) (now (shape .entry)) axis (now («data» .entry)) (length (now (out .entry))))
+        (unknownBorder code))
+        (convolve1dZ (borderOf (modeOf code constant)) origin (now (weights .entry)) (now (shape .entry)) axis
+        (now («data» .entry))) (now (out .entry)) r (now (out .exit)) ⌝ }
 {
     let mode = codes::mode_of(code, constant);
     if 4 < code {
@@ -102,8 +109,11 @@ pub extern "C" fn suvvokal_correlate1d_f64(
     origin: isize,
     out: &mut [f64],
 ) -> u8
-    ensures { λ r. ⌜ Answers (coded (correlateJudgedF false (borderOfF64 (modeOfF64 code constant)) origin (now (weights .entry)) (now (shape .entry)) axis (now («data» .entry)) (length (now (out .entry)))) (unknownBorder code))
-        (correlate1dF (borderOfF64 (modeOfF64 code constant)) origin (now (weights .entry)) (now (shape .entry)) axis (now («data» .entry))) (now (out .entry)) r (now (out .exit)) ⌝ }
+    ensures { λ r. ⌜ Answers (coded (correlateJudgedF false (borderOfF64 (modeOfF64 code constant)) origin
+        (now (weights .entry)) (now (shape .entry)) axis (now («data» .entry)) (length (now (out .entry))))
+        (unknownBorder code))
+        (correlate1dF (borderOfF64 (modeOfF64 code constant)) origin (now (weights .entry)) (now (shape .entry)) axis
+        (now («data» .entry))) (now (out .entry)) r (now (out .exit)) ⌝ }
 {
     let mode = codes::mode_of_f64(code, constant);
     if 4 < code {
@@ -135,8 +145,11 @@ pub extern "C" fn suvvokal_convolve1d_f64(
     origin: isize,
     out: &mut [f64],
 ) -> u8
-    ensures { λ r. ⌜ Answers (coded (correlateJudgedF true (borderOfF64 (modeOfF64 code constant)) origin (now (weights .entry)) (now (shape .entry)) axis (now («data» .entry)) (length (now (out .entry)))) (unknownBorder code))
-        (convolve1dF (borderOfF64 (modeOfF64 code constant)) origin (now (weights .entry)) (now (shape .entry)) axis (now («data» .entry))) (now (out .entry)) r (now (out .exit)) ⌝ }
+    ensures { λ r. ⌜ Answers (coded (correlateJudgedF true (borderOfF64 (modeOfF64 code constant)) origin
+        (now (weights .entry)) (now (shape .entry)) axis (now («data» .entry)) (length (now (out .entry))))
+        (unknownBorder code))
+        (convolve1dF (borderOfF64 (modeOfF64 code constant)) origin (now (weights .entry)) (now (shape .entry)) axis
+        (now («data» .entry))) (now (out .entry)) r (now (out .exit)) ⌝ }
 {
     let mode = codes::mode_of_f64(code, constant);
     if 4 < code {
@@ -164,7 +177,8 @@ pub extern "C" fn suvvokal_convolve1d_f64(
 // * `code`, `constant` - the border: 0 constant, 1 mirror, 2 nearest, 3 reflect, 4 wrap.
 // * `out` - as long as data; kept as it was where the call is refused.
 //
-// Refuses: 1, 2, 3, 5, 8, 9, 11, 12, 100 (an unknown code). Of -1 -2 -4 with size 3 under constant 0: -1 -2 -2.
+// Refuses: 1 (shape), 2 (length), 3 (level), 5 (kernel), 8 (axis), 9 (constant), 11 (reach), 100 (unknown code). Of -1
+// -2 -4 with size 3 under constant 0: -1 -2 -2.
 #[no_mangle]
 pub extern "C" fn suvvokal_uniform_filter1d(
     data: &[i64],
@@ -175,8 +189,10 @@ pub extern "C" fn suvvokal_uniform_filter1d(
     constant: i64,
     out: &mut [i64],
 ) -> u8
-    ensures { λ r. ⌜ Answers (coded (uniform1dJudged (borderOf (modeOf code constant)) size (now (shape .entry)) axis (now («data» .entry)) (length (now (out .entry)))) (unknownBorder code))
-        (uniform1d (borderOf (modeOf code constant)) size (now (shape .entry)) axis (now («data» .entry))) (now (out .entry)) r (now (out .exit)) ⌝ }
+    ensures { λ r. ⌜ Answers (coded (uniform1dJudged (borderOf (modeOf code constant)) size (now (shape .entry)) axis
+        (now («data» .entry)) (length (now (out .entry)))) (unknownBorder code))
+        (uniform1d (borderOf (modeOf code constant)) size (now (shape .entry)) axis (now («data» .entry)))
+        (now (out .entry)) r (now (out .exit)) ⌝ }
 {
     let mode = codes::mode_of(code, constant);
     if 4 < code {
@@ -196,7 +212,8 @@ pub extern "C" fn suvvokal_uniform_filter1d(
 // * `origin` - how far the window is moved.
 // * `out` - as long as data; kept as it was where the call is refused.
 //
-// Refuses: 1, 2, 3, 5, 7, 8, 9, 11, 100 (an unknown code). Of 2 1 4 3 5 with size 3 under reflect: 1 1 1 3 3.
+// Refuses: 1 (shape), 2 (length), 3 (level), 5 (kernel), 7 (origin), 8 (axis), 9 (constant), 11 (reach), 100 (unknown
+// code). Of 2 1 4 3 5 with size 3 under reflect: 1 1 1 3 3.
 #[no_mangle]
 pub extern "C" fn suvvokal_minimum_filter1d(
     data: &[i64],
@@ -208,8 +225,10 @@ pub extern "C" fn suvvokal_minimum_filter1d(
     origin: isize,
     out: &mut [i64],
 ) -> u8
-    ensures { λ r. ⌜ Answers (coded (callJudged (now («data» .entry)) (callOf (now (shape .entry)) size axis (modeOf code constant) origin (now (out .entry)))) (unknownBorder code))
-        (answerOf leZ (now («data» .entry)) (callOf (now (shape .entry)) size axis (modeOf code constant) origin (now (out .entry)))) (now (out .entry)) r (now (out .exit)) ⌝ }
+    ensures { λ r. ⌜ Answers (coded (callJudged (now («data» .entry))
+        (callOf (now (shape .entry)) size axis (modeOf code constant) origin (now (out .entry)))) (unknownBorder code))
+        (answerOf leZ (now («data» .entry)) (callOf (now (shape .entry)) size axis (modeOf code constant) origin
+        (now (out .entry)))) (now (out .entry)) r (now (out .exit)) ⌝ }
 {
     let mode = codes::mode_of(code, constant);
     if 4 < code {
@@ -219,7 +238,8 @@ pub extern "C" fn suvvokal_minimum_filter1d(
     min_max::minimum_filter1d(data, shape, size, axis, mode, origin, out)
 }
 
-// As `suvvokal_minimum_filter1d`, with the greatest level; the call `maximum_filter1d`. Of 2 1 4 3 5 with size 3 under reflect: 2 4 4 5 5.
+// As `suvvokal_minimum_filter1d`, with the greatest level; the call `maximum_filter1d`. Of 2 1 4 3 5 with size 3 under
+// reflect: 2 4 4 5 5.
 #[no_mangle]
 pub extern "C" fn suvvokal_maximum_filter1d(
     data: &[i64],
@@ -231,8 +251,10 @@ pub extern "C" fn suvvokal_maximum_filter1d(
     origin: isize,
     out: &mut [i64],
 ) -> u8
-    ensures { λ r. ⌜ Answers (coded (callJudged (now («data» .entry)) (callOf (now (shape .entry)) size axis (modeOf code constant) origin (now (out .entry)))) (unknownBorder code))
-        (answerOf atLeast (now («data» .entry)) (callOf (now (shape .entry)) size axis (modeOf code constant) origin (now (out .entry)))) (now (out .entry)) r (now (out .exit)) ⌝ }
+    ensures { λ r. ⌜ Answers (coded (callJudged (now («data» .entry))
+        (callOf (now (shape .entry)) size axis (modeOf code constant) origin (now (out .entry)))) (unknownBorder code))
+        (answerOf atLeast (now («data» .entry)) (callOf (now (shape .entry)) size axis (modeOf code constant) origin
+        (now (out .entry)))) (now (out .entry)) r (now (out .exit)) ⌝ }
 {
     let mode = codes::mode_of(code, constant);
     if 4 < code {

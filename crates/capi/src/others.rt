@@ -15,10 +15,11 @@ use kernel3d::Kernel3d;
 // * `shape` - the length of each axis.
 // * `out` - as long as mask; kept as it was where the call is refused.
 //
-// Refuses: 1, 2, 4. Of 2 by 2 by 2 cells of which four are true every cell is true.
+// Refuses: 1 (shape), 2 (length), 4 (single cell). Of 2 by 2 by 2 cells of which four are true every cell is true.
 #[no_mangle]
 pub extern "C" fn suvvokal_median_filter(mask: &[bool], shape: &[usize], out: &mut [bool]) -> u8
-    ensures { λ r. ⌜ Answers (medianJudged (now (shape .entry)) (length (now (mask .entry))) (length (now (out .entry))))
+    ensures { λ r. ⌜ Answers (medianJudged (now (shape .entry)) (length (now (mask .entry)))
+        (length (now (out .entry))))
         (medianAnswer (now (shape .entry)) (now (mask .entry))) (now (out .entry)) r (now (out .exit)) ⌝ }
 {
     median::median_filter(mask, shape, out)
@@ -28,7 +29,7 @@ pub extern "C" fn suvvokal_median_filter(mask: &[bool], shape: &[usize], out: &m
 //
 // * `weights` - the kernel's weights along one axis, any number of them.
 //
-// Refuses nothing. Of 1 2 5 -2 -1 it is 2.
+// Of 1 2 5 -2 -1 it is 2.
 #[no_mangle]
 pub extern "C" fn suvvokal_symmetry_state_i64(weights: &[i64]) -> u8
     ensures { λ r. ⌜ r ≡ codeOf (classZ (now (weights .entry))) ⌝ }
@@ -36,7 +37,7 @@ pub extern "C" fn suvvokal_symmetry_state_i64(weights: &[i64]) -> u8
     codes::code_of(symmetry::symmetry_state_i64(weights))
 }
 
-// As `suvvokal_symmetry_state_i64`, of float weights: a pair differs by more than 2^-52. Refuses nothing. Of 0, 1 and 2^-53 it is 1.
+// As `suvvokal_symmetry_state_i64`, of float weights: a pair differs by more than 2^-52. Of 0, 1 and 2^-53 it is 1.
 #[no_mangle]
 pub extern "C" fn suvvokal_symmetry_state_f64(weights: &[f64]) -> u8
     ensures { λ r. ⌜ r ≡ codeOf (classF (now (weights .entry))) ⌝ }
@@ -63,10 +64,11 @@ fn fill_kernel(kernel: Kernel3d, out: &mut [bool])
 // * `code` - which kernel: 0 the star, 1 the ball, 2 the full cube.
 // * `out` - 27 cells; kept as they were where the call is refused.
 //
-// Refuses: 2 (another number of cells), 100 (an unknown code). Of code 0 the cells 4, 10, 12, 13, 14, 16 and 22 are true.
+// Refuses: 2 (length), 100 (unknown code). Of code 0 the cells 4, 10, 12, 13, 14, 16 and 22 are true.
 #[no_mangle]
 pub extern "C" fn suvvokal_kernel3d(code: u8, out: &mut [bool]) -> u8
-    ensures { λ r. ⌜ Answers (coded (cellsJudged (length (now (out .entry)))) (unknownKernel code)) (kernelCells (kernelOf code)) (now (out .entry)) r (now (out .exit)) ⌝ }
+    ensures { λ r. ⌜ Answers (coded (cellsJudged (length (now (out .entry)))) (unknownKernel code))
+        (kernelCells (kernelOf code)) (now (out .entry)) r (now (out .exit)) ⌝ }
 {
     if out.len() != 27 {
         return numbers::LENGTH;

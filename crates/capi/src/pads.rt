@@ -44,12 +44,14 @@ fn pairs_of(lefts: &[usize], rights: &[usize]) -> [Pair; 3]
 //
 // * `data` - the cells of the grid, in row-major order.
 // * `shape` - the length of each axis.
-// * `lefts`, `rights`, `count` - the pads before and after each axis, and how many pairs count: one for all axes, or one for each. At most three
-//   of each are read, and a missing one is 0.
-// * `code`, `constant` - the padding mode: 0 constant, 1 edge, 2 maximum, 3 mean, 4 median, 5 minimum, 6 reflect, 7 symmetric, 8 wrap.
+// * `lefts`, `rights`, `count` - the pads before and after each axis, and how many pairs count: one for all axes, or
+//   one for each. At most three of each are read, and a missing one is 0.
+// * `code`, `constant` - the padding mode: 0 constant, 1 edge, 2 maximum, 3 mean, 4 median, 5 minimum, 6 reflect, 7
+//   symmetric, 8 wrap.
 // * `out` - as many cells as the padded grid; kept as it was where the call is refused.
 //
-// Refuses: 1, 2, 3, 9, 10, 11, 12, 100 (an unknown code). Of 1 2 3 with pads of 2: edge gives 1 1 1 2 3 3 3, reflect 3 2 1 2 3 2 1.
+// Refuses: 1 (shape), 2 (length), 3 (level), 9 (constant), 10 (pads), 11 (reach), 100 (unknown code). Of 1 2 3 with
+// pads of 2: edge gives 1 1 1 2 3 3 3, reflect 3 2 1 2 3 2 1.
 #[no_mangle]
 pub extern "C" fn suvvokal_pad(
     data: &[i64],
@@ -61,8 +63,13 @@ pub extern "C" fn suvvokal_pad(
     constant: i64,
     out: &mut [i64],
 ) -> u8
-    ensures { λ r. ⌜ Answers (coded (padJudged (paddingOf code constant) (now (shape .entry)) (pairsOf (now (lefts .entry)) (now (rights .entry))) count (now («data» .entry)) (length (now (out .entry)))) (unknownPad code))
-        (paddedGrid (paddingOf code constant) (now (shape .entry)) (leftsOf (now (shape .entry)) (pairsOf (now (lefts .entry)) (now (rights .entry))) count) (rightsOf (now (shape .entry)) (pairsOf (now (lefts .entry)) (now (rights .entry))) count) (now («data» .entry))) (now (out .entry)) r (now (out .exit)) ⌝ }
+    ensures { λ r. ⌜ Answers (coded (padJudged (paddingOf code constant) (now (shape .entry))
+        (pairsOf (now (lefts .entry)) (now (rights .entry))) count (now («data» .entry)) (length (now (out .entry))))
+        (unknownPad code))
+        (paddedGrid (paddingOf code constant) (now (shape .entry))
+        (leftsOf (now (shape .entry)) (pairsOf (now (lefts .entry)) (now (rights .entry))) count)
+        (rightsOf (now (shape .entry)) (pairsOf (now (lefts .entry)) (now (rights .entry))) count)
+        (now («data» .entry))) (now (out .entry)) r (now (out .exit)) ⌝ }
 {
     let mode = codes::pad_mode_of(code, constant);
     let pairs = pairs_of(lefts, rights);
@@ -86,8 +93,13 @@ pub extern "C" fn suvvokal_pad_to(
     constant: i64,
     out: &mut [i64],
 ) -> u8
-    ensures { λ r. ⌜ Answers (coded (padJudged (paddingOf code constant) (now (shape .entry)) (pairsOf (now (lefts .entry)) (now (rights .entry))) count (now («data» .entry)) (length (now (out .entry)))) (unknownPad code))
-        (paddedOver (paddingOf code constant) (now (shape .entry)) (leftsOf (now (shape .entry)) (pairsOf (now (lefts .entry)) (now (rights .entry))) count) (rightsOf (now (shape .entry)) (pairsOf (now (lefts .entry)) (now (rights .entry))) count) (now («data» .entry)) (now (out .entry))) (now (out .entry)) r (now (out .exit)) ⌝ }
+    ensures { λ r. ⌜ Answers (coded (padJudged (paddingOf code constant) (now (shape .entry))
+        (pairsOf (now (lefts .entry)) (now (rights .entry))) count (now («data» .entry)) (length (now (out .entry))))
+        (unknownPad code))
+        (paddedOver (paddingOf code constant) (now (shape .entry))
+        (leftsOf (now (shape .entry)) (pairsOf (now (lefts .entry)) (now (rights .entry))) count)
+        (rightsOf (now (shape .entry)) (pairsOf (now (lefts .entry)) (now (rights .entry))) count)
+        (now («data» .entry)) (now (out .entry))) (now (out .entry)) r (now (out .exit)) ⌝ }
 {
     let mode = codes::pad_mode_of(code, constant);
     let pairs = pairs_of(lefts, rights);

@@ -151,7 +151,7 @@ pub fn unknown_after(refusal: u8) -> u8
     UNKNOWN
 }
 
-// Worked rows of codes and words: what each names, and the number of a code that names nothing. Refuses nothing.
+// Worked rows of codes and words: what each names, and the number of a code that names nothing.
 pub fn rows()
     ensures { λ _. ⌜ CodesRows ⌝ }
 {}

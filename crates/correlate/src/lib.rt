@@ -1,4 +1,5 @@
-// Correlation and convolution of a whole grid with a grid kernel (src/filters/con_corr.rs; SciPy's correlate and convolve).
+// Correlation and convolution of a whole grid with a grid kernel (src/filters/con_corr.rs; SciPy's correlate and
+// convolve).
 ghost use mathlib.Core.Path.{_≡_};
 ghost use mathlib.Core.Bool.{true, false};
 ghost use lib.ListN.{length};
@@ -22,8 +23,10 @@ fn sum_windows(
     origin: isize,
     out: &mut [i64],
 )
-    requires { ⌜ (badOrigin side origin ≡ false) × Kernelled (borderOf mode) (now shape) side (kernelLeft side origin) (kernelRight side origin) (now weights) (now «data») (now out) ⌝ }
-    ensures { λ _. ⌜ now (out .exit) ≡ kernelAnswer (borderOf mode) (kernelLeft side origin) (sidesOf (now (shape .entry)) side) (now (weights .entry)) (now (shape .entry)) (now («data» .entry)) ⌝ }
+    requires { ⌜ (badOrigin side origin ≡ false) × Kernelled (borderOf mode) (now shape) side (kernelLeft side origin)
+        (kernelRight side origin) (now weights) (now «data») (now out) ⌝ }
+    ensures { λ _. ⌜ now (out .exit) ≡ kernelAnswer (borderOf mode) (kernelLeft side origin)
+        (sidesOf (now (shape .entry)) side) (now (weights .entry)) (now (shape .entry)) (now («data» .entry)) ⌝ }
 {
     match window::kernel_origin_check(side, origin) {
         Origin::Refused => {}
@@ -44,8 +47,10 @@ fn convolve_cells(
     reversed: &mut [i64],
     out: &mut [i64],
 )
-    requires { ⌜ (refusalOf (kernelJudged true (borderOf mode) origin (now sides) (now weights) (now shape) (now «data») (length (now out))) ≡ 0) × (length (now reversed) ≡ length (now weights)) ⌝ }
-    ensures { λ _. ⌜ now (out .exit) ≡ convolveZ (borderOf mode) origin (now (sides .entry)) (now (weights .entry)) (now (shape .entry)) (now («data» .entry)) ⌝ }
+    requires { ⌜ (refusalOf (kernelJudged true (borderOf mode) origin (now sides) (now weights) (now shape) (now «data»)
+        (length (now out))) ≡ 0) × (length (now reversed) ≡ length (now weights)) ⌝ }
+    ensures { λ _. ⌜ now (out .exit) ≡ convolveZ (borderOf mode) origin (now (sides .entry)) (now (weights .entry))
+        (now (shape .entry)) (now («data» .entry)) ⌝ }
 {
     correlate1d::reverse(weights, reversed);
     let side = array::len_of(sides, 0);
@@ -60,10 +65,12 @@ fn convolve_cells(
 // * `weights` - the kernel's weights, in row-major order.
 // * `sides` - the length of each of the kernel's axes, as many as the grid's.
 // * `mode` - the border.
-// * `origin` - how far the window is moved along every axis: 0 centres it over the cell, positive values move it to the left.
+// * `origin` - how far the window is moved along every axis: 0 centres it over the cell, positive values move it to the
+//   left.
 // * `out` - the lent output, as many cells.
 //
-// Refuses: 1, 2, 3, 5, 6, 7, 9, 11, 12. Of the rows 1 2 / 3 4 with the kernel 1 0 / 0 10 under Nearest: 11 21 / 31 41.
+// Refuses: 1 (shape), 2 (length), 3 (level), 5 (kernel), 6 (weight), 7 (origin), 9 (constant), 11 (reach). Of the rows
+// 1 2 / 3 4 with the kernel 1 0 / 0 10 under Nearest: 11 21 / 31 41.
 pub fn correlate(
     data: &[i64],
     shape: &[usize],
@@ -73,8 +80,10 @@ pub fn correlate(
     origin: isize,
     out: &mut [i64],
 ) -> u8
-    ensures { λ r. ⌜ Answers (kernelJudged false (borderOf mode) origin (now (sides .entry)) (now (weights .entry)) (now (shape .entry)) (now («data» .entry)) (length (now (out .entry))))
-        (correlateZ (borderOf mode) origin (now (sides .entry)) (now (weights .entry)) (now (shape .entry)) (now («data» .entry))) (now (out .entry)) r (now (out .exit)) ⌝ }
+    ensures { λ r. ⌜ Answers (kernelJudged false (borderOf mode) origin (now (sides .entry)) (now (weights .entry))
+        (now (shape .entry)) (now («data» .entry)) (length (now (out .entry))))
+        (correlateZ (borderOf mode) origin (now (sides .entry)) (now (weights .entry)) (now (shape .entry))
+        (now («data» .entry))) (now (out .entry)) r (now (out .exit)) ⌝ }
 {
     let refusal = correlate_judge::judge_kernel(
         data,
@@ -101,10 +110,12 @@ pub fn correlate(
 // * `weights` - the kernel's weights, in row-major order.
 // * `sides` - the length of each of the kernel's axes, as many as the grid's.
 // * `mode` - the border.
-// * `origin` - how far the window is moved along every axis: 0 centres it over the cell, positive values move it to the right.
+// * `origin` - how far the window is moved along every axis: 0 centres it over the cell, positive values move it to the
+//   right.
 // * `out` - the lent output, as many cells.
 //
-// Refuses: 1, 2, 3, 5, 6, 7, 9, 11, 12. Of the rows 1 2 / 3 4 with the kernel 1 0 / 0 10 under Nearest: 14 24 / 34 44.
+// Refuses: 1 (shape), 2 (length), 3 (level), 5 (kernel), 6 (weight), 7 (origin), 9 (constant), 11 (reach). Of the rows
+// 1 2 / 3 4 with the kernel 1 0 / 0 10 under Nearest: 14 24 / 34 44.
 pub fn convolve(
     data: &[i64],
     shape: &[usize],
@@ -114,8 +125,10 @@ pub fn convolve(
     origin: isize,
     out: &mut [i64],
 ) -> u8
-    ensures { λ r. ⌜ Answers (kernelJudged true (borderOf mode) origin (now (sides .entry)) (now (weights .entry)) (now (shape .entry)) (now («data» .entry)) (length (now (out .entry))))
-        (convolveZ (borderOf mode) origin (now (sides .entry)) (now (weights .entry)) (now (shape .entry)) (now («data» .entry))) (now (out .entry)) r (now (out .exit)) ⌝ }
+    ensures { λ r. ⌜ Answers (kernelJudged true (borderOf mode) origin (now (sides .entry)) (now (weights .entry))
+        (now (shape .entry)) (now («data» .entry)) (length (now (out .entry))))
+        (convolveZ (borderOf mode) origin (now (sides .entry)) (now (weights .entry)) (now (shape .entry))
+        (now («data» .entry))) (now (out .entry)) r (now (out .exit)) ⌝ }
 {
     let refusal = correlate_judge::judge_kernel(
         data,

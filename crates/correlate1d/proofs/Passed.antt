@@ -57,7 +57,8 @@ pub passed : (convolution : Bool) (b : Border ℤ) (o : ℤ) (w : List ℤ) (ns 
     → Passed badLevel badWeight convolution b o w ns a cells out
 passed convolution b o w ns a cells out z = passed-by badLevel badWeight convolution b o w ns a cells out ((badCorrelateSums convolution b o w ns a cells, 12) ∷ []) (tt, tt) z
 
-pub passed-float : (convolution : Bool) (b : Border Float) (o : ℤ) (w : List Float) (ns : List ℕ) (a : ℕ) (cells : List Float) (out : ℕ) → refusalOf (correlateJudgedF convolution b o w ns a cells out) ≡ 0
+pub passed-float : (convolution : Bool) (b : Border Float) (o : ℤ) (w : List Float) (ns : List ℕ) (a : ℕ) (cells : List Float) (out : ℕ) → refusalOf (correlateJudgedF convolution b o w ns a cells out)
+    ≡ 0
     → Passed badFloat badFloat convolution b o w ns a cells out
 passed-float convolution b o w ns a cells out z = passed-by badFloat badFloat convolution b o w ns a cells out [] tt z
 
@@ -72,6 +73,7 @@ module _ {A : Type 0} {bad heavy : A → Bool} {convolution : Bool} {b : Border 
     same = lent-same (P .grid);
     more = omega (arith, applied-length convolution w, P .some, more);
     few = omega (arith, applied-length convolution w, P .few);
-    origin = ap (λ (n : ℕ). badOrigin n (appliedOrigin convolution (length w) o)) (applied-length convolution w) ∙ applied-range convolution (length w) o ∙ more-cells (length w) o more (badOrigin (length w) o) ∙ P .origin;
+    origin = ap (λ (n : ℕ). badOrigin n (appliedOrigin convolution (length w) o)) (applied-length convolution w) ∙ applied-range convolution (length w) o
+        ∙ more-cells (length w) o more (badOrigin (length w) o) ∙ P .origin;
     reach = ap (λ (n : ℕ). badReach b n (appliedOrigin convolution (length w) o) (lengthOf ns a)) (applied-length convolution w) ∙ P .reach;
   }

@@ -42,7 +42,8 @@ module _ {A : Type 0} {b : Border A} {ns : List ℕ} {a : ℕ} {o : ℤ} {w cell
 
     pub sweep-weighed : AxisNeeds b ns a l g cells out
     sweep-weighed =
-        let p = or-false (badPad b (lengthOf ns a) (leftPad (length w) o)) (badPad b (lengthOf ns a) (rightPad (length w) o)) (reach-more (length w) o two-weights b (lengthOf ns a) ∙ W .reach) in record {
+        let p = or-false (badPad b (lengthOf ns a) (leftPad (length w) o)) (badPad b (lengthOf ns a) (rightPad (length w) o)) (reach-more (length w) o two-weights b (lengthOf ns a) ∙ W .reach) in
+        record {
           shape = W .shape;
           axis = W .axis;
           count = W .count;

@@ -28,8 +28,10 @@ fn correlate_lane(
     line: &mut [i64],
     row: &mut [i64],
 )
-    requires { ⌜ LineNeeds (borderOf mode) (length (now row)) stride base left right (now «data») (now line) × (length (now weights) ≡ left + right + 1) × WeightNeeds (now weights) (borderOf mode) (now «data») ⌝ }
-    ensures { λ _. ⌜ now (row .exit) ≡ correlatedLine wholeOps NonSymmetric (borderOf mode) left right (now (weights .entry)) (laneAt (pos 0) (now («data» .entry)) base stride (length (now (row .entry)))) ⌝ }
+    requires { ⌜ LineNeeds (borderOf mode) (length (now row)) stride base left right (now «data») (now line)
+        × (length (now weights) ≡ left + right + 1) × WeightNeeds (now weights) (borderOf mode) (now «data») ⌝ }
+    ensures { λ _. ⌜ now (row .exit) ≡ correlatedLine wholeOps NonSymmetric (borderOf mode) left right
+        (now (weights .entry)) (laneAt (pos 0) (now («data» .entry)) base stride (length (now (row .entry)))) ⌝ }
 {
     let n = row.len();
     pad_line::pad_from(data, base, stride, n, mode, left, right, line);
@@ -50,8 +52,12 @@ fn correlate_rows(
     line: &mut [i64],
     out: &mut [i64],
 )
-    requires { ⌜ AxisNeeds (borderOf mode) (now shape) axis left right (now «data») (now out) × (length (now weights) ≡ left + right + 1) × WeightNeeds (now weights) (borderOf mode) (now «data») × (length (now line) ≡ longestLine) × (strideOf (now shape) axis ≡ 1) ⌝ }
-    ensures { λ _. ⌜ now (out .exit) ≡ alongAxis (pos 0) (correlatedLine wholeOps NonSymmetric (borderOf mode) left right (now (weights .entry))) (now (shape .entry)) axis (now («data» .entry)) ⌝ }
+    requires { ⌜ AxisNeeds (borderOf mode) (now shape) axis left right (now «data») (now out) × (length (now weights)
+        ≡ left + right + 1) × WeightNeeds (now weights) (borderOf mode) (now «data») × (length (now line)
+        ≡ longestLine) × (strideOf (now shape) axis ≡ 1) ⌝ }
+    ensures { λ _. ⌜ now (out .exit) ≡ alongAxis (pos 0)
+        (correlatedLine wholeOps NonSymmetric (borderOf mode) left right (now (weights .entry))) (now (shape .entry))
+        axis (now («data» .entry)) ⌝ }
 {
     let along = lanes::lanes_of(shape, axis);
     let n = along.len;
@@ -90,8 +96,12 @@ fn correlate_lanes(
     swept: &mut [i64],
     out: &mut [i64],
 )
-    requires { ⌜ AxisNeeds (borderOf mode) (now shape) axis left right (now «data») (now out) × (length (now weights) ≡ left + right + 1) × WeightNeeds (now weights) (borderOf mode) (now «data») × (length (now line) ≡ longestLine) × (length (now swept) ≡ lengthOf (now shape) axis) ⌝ }
-    ensures { λ _. ⌜ now (out .exit) ≡ alongAxis (pos 0) (correlatedLine wholeOps NonSymmetric (borderOf mode) left right (now (weights .entry))) (now (shape .entry)) axis (now («data» .entry)) ⌝ }
+    requires { ⌜ AxisNeeds (borderOf mode) (now shape) axis left right (now «data») (now out) × (length (now weights)
+        ≡ left + right + 1) × WeightNeeds (now weights) (borderOf mode) (now «data») × (length (now line)
+        ≡ longestLine) × (length (now swept) ≡ lengthOf (now shape) axis) ⌝ }
+    ensures { λ _. ⌜ now (out .exit) ≡ alongAxis (pos 0)
+        (correlatedLine wholeOps NonSymmetric (borderOf mode) left right (now (weights .entry))) (now (shape .entry))
+        axis (now («data» .entry)) ⌝ }
 {
     let along = lanes::lanes_of(shape, axis);
     let n = along.len;
@@ -132,8 +142,12 @@ fn correlate_columns(
     line: &mut [i64],
     out: &mut [i64],
 )
-    requires { ⌜ AxisNeeds (borderOf mode) (now shape) axis left right (now «data») (now out) × (length (now weights) ≡ left + right + 1) × WeightNeeds (now weights) (borderOf mode) (now «data») × (length (now line) ≡ longestLine) ⌝ }
-    ensures { λ _. ⌜ now (out .exit) ≡ alongAxis (pos 0) (correlatedLine wholeOps NonSymmetric (borderOf mode) left right (now (weights .entry))) (now (shape .entry)) axis (now («data» .entry)) ⌝ }
+    requires { ⌜ AxisNeeds (borderOf mode) (now shape) axis left right (now «data») (now out) × (length (now weights)
+        ≡ left + right + 1) × WeightNeeds (now weights) (borderOf mode) (now «data») × (length (now line)
+        ≡ longestLine) ⌝ }
+    ensures { λ _. ⌜ now (out .exit) ≡ alongAxis (pos 0)
+        (correlatedLine wholeOps NonSymmetric (borderOf mode) left right (now (weights .entry))) (now (shape .entry))
+        axis (now («data» .entry)) ⌝ }
 {
     let n = array::len_of(shape, axis);
     let mut swept = [0; numbers::LONGEST_AXIS];
@@ -163,8 +177,11 @@ pub(crate) fn correlate_axis(
     right: usize,
     out: &mut [i64],
 )
-    requires { ⌜ AxisNeeds (borderOf mode) (now shape) axis left right (now «data») (now out) × (length (now weights) ≡ left + right + 1) × WeightNeeds (now weights) (borderOf mode) (now «data») ⌝ }
-    ensures { λ _. ⌜ now (out .exit) ≡ alongAxis (pos 0) (correlatedLine wholeOps NonSymmetric (borderOf mode) left right (now (weights .entry))) (now (shape .entry)) axis (now («data» .entry)) ⌝ }
+    requires { ⌜ AxisNeeds (borderOf mode) (now shape) axis left right (now «data») (now out) × (length (now weights)
+        ≡ left + right + 1) × WeightNeeds (now weights) (borderOf mode) (now «data») ⌝ }
+    ensures { λ _. ⌜ now (out .exit) ≡ alongAxis (pos 0)
+        (correlatedLine wholeOps NonSymmetric (borderOf mode) left right (now (weights .entry))) (now (shape .entry))
+        axis (now («data» .entry)) ⌝ }
 {
     let mut line = [0; numbers::LONGEST_LINE];
     if lanes::stride_of(shape, axis) == 1 {

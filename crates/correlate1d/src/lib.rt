@@ -43,7 +43,8 @@ pub fn weigh(
     out: &mut [i64],
 )
     requires { ⌜ WeighNeeds (borderOf mode) (now shape) axis origin (now weights) (now «data») (now out) ⌝ }
-    ensures { λ _. ⌜ now (out .exit) ≡ correlate1dZ (borderOf mode) origin (now (weights .entry)) (now (shape .entry)) axis (now («data» .entry)) ⌝ }
+    ensures { λ _. ⌜ now (out .exit) ≡ correlate1dZ (borderOf mode) origin (now (weights .entry)) (now (shape .entry))
+        axis (now («data» .entry)) ⌝ }
 {
     match window::origin_check(weights.len(), origin) {
         Origin::Refused => {}
@@ -70,8 +71,10 @@ fn correlate_cells(
     origin: isize,
     out: &mut [i64],
 )
-    requires { ⌜ refusalOf (correlateJudged false (borderOf mode) origin (now weights) (now shape) axis (now «data») (length (now out))) ≡ 0 ⌝ }
-    ensures { λ _. ⌜ now (out .exit) ≡ correlate1dZ (borderOf mode) origin (now (weights .entry)) (now (shape .entry)) axis (now («data» .entry)) ⌝ }
+    requires { ⌜ refusalOf (correlateJudged false (borderOf mode) origin (now weights) (now shape) axis (now «data»)
+        (length (now out))) ≡ 0 ⌝ }
+    ensures { λ _. ⌜ now (out .exit) ≡ correlate1dZ (borderOf mode) origin (now (weights .entry)) (now (shape .entry))
+        axis (now («data» .entry)) ⌝ }
 {
     if weights.len() == 1 {
         scale(data, weights[0], out);
@@ -91,8 +94,10 @@ fn convolve_cells(
     reversed: &mut [i64],
     out: &mut [i64],
 )
-    requires { ⌜ (refusalOf (correlateJudged true (borderOf mode) origin (now weights) (now shape) axis (now «data») (length (now out))) ≡ 0) × (length (now reversed) ≡ length (now weights)) ⌝ }
-    ensures { λ _. ⌜ now (out .exit) ≡ convolve1dZ (borderOf mode) origin (now (weights .entry)) (now (shape .entry)) axis (now («data» .entry)) ⌝ }
+    requires { ⌜ (refusalOf (correlateJudged true (borderOf mode) origin (now weights) (now shape) axis (now «data»)
+        (length (now out))) ≡ 0) × (length (now reversed) ≡ length (now weights)) ⌝ }
+    ensures { λ _. ⌜ now (out .exit) ≡ convolve1dZ (borderOf mode) origin (now (weights .entry)) (now (shape .entry))
+        axis (now («data» .entry)) ⌝ }
 {
     if weights.len() == 1 {
         scale(data, weights[0], out);
@@ -114,7 +119,8 @@ fn convolve_cells(
 // * `origin` - how far the window is moved: 0 centres it over the cell, positive values move it to the left.
 // * `out` - the lent output, as many cells.
 //
-// Refuses: 1, 2, 3, 5, 6, 7, 8, 9, 11, 12. Of 1 2 3 with the weights 1 2 3 under Nearest: 9 14 17.
+// Refuses: 1 (shape), 2 (length), 3 (level), 5 (kernel), 6 (weight), 7 (origin), 8 (axis), 9 (constant), 11 (reach). Of
+// 1 2 3 with the weights 1 2 3 under Nearest: 9 14 17.
 pub fn correlate1d(
     data: &[i64],
     shape: &[usize],
@@ -124,8 +130,10 @@ pub fn correlate1d(
     origin: isize,
     out: &mut [i64],
 ) -> u8
-    ensures { λ r. ⌜ Answers (correlateJudged false (borderOf mode) origin (now (weights .entry)) (now (shape .entry)) axis (now («data» .entry)) (length (now (out .entry))))
-        (correlate1dZ (borderOf mode) origin (now (weights .entry)) (now (shape .entry)) axis (now («data» .entry))) (now (out .entry)) r (now (out .exit)) ⌝ }
+    ensures { λ r. ⌜ Answers (correlateJudged false (borderOf mode) origin (now (weights .entry)) (now (shape .entry))
+        axis (now («data» .entry)) (length (now (out .entry))))
+        (correlate1dZ (borderOf mode) origin (now (weights .entry)) (now (shape .entry)) axis (now («data» .entry)))
+        (now (out .entry)) r (now (out .exit)) ⌝ }
 {
     let refusal = correlate_judge::judge_correlate(
         data,
@@ -154,7 +162,8 @@ pub fn correlate1d(
 // * `origin` - how far the window is moved: 0 centres it over the cell, positive values move it to the right.
 // * `out` - the lent output, as many cells.
 //
-// Refuses: 1, 2, 3, 5, 6, 7, 8, 9, 11, 12. Of 1 2 3 with the weights 1 2 3 under Nearest: 7 10 15.
+// Refuses: 1 (shape), 2 (length), 3 (level), 5 (kernel), 6 (weight), 7 (origin), 8 (axis), 9 (constant), 11 (reach). Of
+// 1 2 3 with the weights 1 2 3 under Nearest: 7 10 15.
 pub fn convolve1d(
     data: &[i64],
     shape: &[usize],
@@ -164,8 +173,10 @@ pub fn convolve1d(
     origin: isize,
     out: &mut [i64],
 ) -> u8
-    ensures { λ r. ⌜ Answers (correlateJudged true (borderOf mode) origin (now (weights .entry)) (now (shape .entry)) axis (now («data» .entry)) (length (now (out .entry))))
-        (convolve1dZ (borderOf mode) origin (now (weights .entry)) (now (shape .entry)) axis (now («data» .entry))) (now (out .entry)) r (now (out .exit)) ⌝ }
+    ensures { λ r. ⌜ Answers (correlateJudged true (borderOf mode) origin (now (weights .entry)) (now (shape .entry))
+        axis (now («data» .entry)) (length (now (out .entry))))
+        (convolve1dZ (borderOf mode) origin (now (weights .entry)) (now (shape .entry)) axis (now («data» .entry)))
+        (now (out .entry)) r (now (out .exit)) ⌝ }
 {
     let refusal = correlate_judge::judge_correlate(
         data,
@@ -195,7 +206,7 @@ pub fn convolve1d(
     numbers::ACCEPTED
 }
 
-// Worked rows of this crate's definitions. Refuses nothing.
+// Worked rows of this crate's definitions.
 pub fn rows()
     ensures { λ _. ⌜ Correlate1dRows ⌝ }
 {}

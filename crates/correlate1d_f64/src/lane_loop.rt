@@ -28,8 +28,10 @@ fn correlate_lane(
     line: &mut [f64],
     row: &mut [f64],
 )
-    requires { ⌜ LineNeeds (borderOfF64 mode) (length (now row)) stride base left right (now «data») (now line) × (length (now weights) ≡ left + right + 1) ⌝ }
-    ensures { λ _. ⌜ now (row .exit) ≡ correlatedLine floatOps class (borderOfF64 mode) left right (now (weights .entry)) (laneAt nan (now («data» .entry)) base stride (length (now (row .entry)))) ⌝ }
+    requires { ⌜ LineNeeds (borderOfF64 mode) (length (now row)) stride base left right (now «data») (now line)
+        × (length (now weights) ≡ left + right + 1) ⌝ }
+    ensures { λ _. ⌜ now (row .exit) ≡ correlatedLine floatOps class (borderOfF64 mode) left right
+        (now (weights .entry)) (laneAt nan (now («data» .entry)) base stride (length (now (row .entry)))) ⌝ }
 {
     let n = row.len();
     pad_line_f64::pad_from_f64(data, base, stride, n, mode, left, right, line);
@@ -51,8 +53,10 @@ fn correlate_rows(
     line: &mut [f64],
     out: &mut [f64],
 )
-    requires { ⌜ AxisNeeds (borderOfF64 mode) (now shape) axis left right (now «data») (now out) × (length (now weights) ≡ left + right + 1) × (length (now line) ≡ longestLine) × (strideOf (now shape) axis ≡ 1) ⌝ }
-    ensures { λ _. ⌜ now (out .exit) ≡ alongAxis nan (correlatedLine floatOps class (borderOfF64 mode) left right (now (weights .entry))) (now (shape .entry)) axis (now («data» .entry)) ⌝ }
+    requires { ⌜ AxisNeeds (borderOfF64 mode) (now shape) axis left right (now «data») (now out) × (length (now weights)
+        ≡ left + right + 1) × (length (now line) ≡ longestLine) × (strideOf (now shape) axis ≡ 1) ⌝ }
+    ensures { λ _. ⌜ now (out .exit) ≡ alongAxis nan (correlatedLine floatOps class (borderOfF64 mode) left right
+        (now (weights .entry))) (now (shape .entry)) axis (now («data» .entry)) ⌝ }
 {
     let along = lanes::lanes_of(shape, axis);
     let n = along.len;
@@ -93,8 +97,10 @@ fn correlate_lanes(
     swept: &mut [f64],
     out: &mut [f64],
 )
-    requires { ⌜ AxisNeeds (borderOfF64 mode) (now shape) axis left right (now «data») (now out) × (length (now weights) ≡ left + right + 1) × (length (now line) ≡ longestLine) × (length (now swept) ≡ lengthOf (now shape) axis) ⌝ }
-    ensures { λ _. ⌜ now (out .exit) ≡ alongAxis nan (correlatedLine floatOps class (borderOfF64 mode) left right (now (weights .entry))) (now (shape .entry)) axis (now («data» .entry)) ⌝ }
+    requires { ⌜ AxisNeeds (borderOfF64 mode) (now shape) axis left right (now «data») (now out) × (length (now weights)
+        ≡ left + right + 1) × (length (now line) ≡ longestLine) × (length (now swept) ≡ lengthOf (now shape) axis) ⌝ }
+    ensures { λ _. ⌜ now (out .exit) ≡ alongAxis nan (correlatedLine floatOps class (borderOfF64 mode) left right
+        (now (weights .entry))) (now (shape .entry)) axis (now («data» .entry)) ⌝ }
 {
     let along = lanes::lanes_of(shape, axis);
     let n = along.len;
@@ -137,8 +143,10 @@ fn correlate_columns(
     line: &mut [f64],
     out: &mut [f64],
 )
-    requires { ⌜ AxisNeeds (borderOfF64 mode) (now shape) axis left right (now «data») (now out) × (length (now weights) ≡ left + right + 1) × (length (now line) ≡ longestLine) ⌝ }
-    ensures { λ _. ⌜ now (out .exit) ≡ alongAxis nan (correlatedLine floatOps class (borderOfF64 mode) left right (now (weights .entry))) (now (shape .entry)) axis (now («data» .entry)) ⌝ }
+    requires { ⌜ AxisNeeds (borderOfF64 mode) (now shape) axis left right (now «data») (now out) × (length (now weights)
+        ≡ left + right + 1) × (length (now line) ≡ longestLine) ⌝ }
+    ensures { λ _. ⌜ now (out .exit) ≡ alongAxis nan (correlatedLine floatOps class (borderOfF64 mode) left right
+        (now (weights .entry))) (now (shape .entry)) axis (now («data» .entry)) ⌝ }
 {
     let n = array::len_of(shape, axis);
     let mut swept = [0.0; numbers::LONGEST_AXIS];
@@ -170,8 +178,10 @@ pub(crate) fn correlate_axis_f64(
     right: usize,
     out: &mut [f64],
 )
-    requires { ⌜ AxisNeeds (borderOfF64 mode) (now shape) axis left right (now «data») (now out) × (length (now weights) ≡ left + right + 1) ⌝ }
-    ensures { λ _. ⌜ now (out .exit) ≡ alongAxis nan (correlatedLine floatOps class (borderOfF64 mode) left right (now (weights .entry))) (now (shape .entry)) axis (now («data» .entry)) ⌝ }
+    requires { ⌜ AxisNeeds (borderOfF64 mode) (now shape) axis left right (now «data») (now out) × (length (now weights)
+        ≡ left + right + 1) ⌝ }
+    ensures { λ _. ⌜ now (out .exit) ≡ alongAxis nan (correlatedLine floatOps class (borderOfF64 mode) left right
+        (now (weights .entry))) (now (shape .entry)) axis (now («data» .entry)) ⌝ }
 {
     let mut line = [0.0; numbers::LONGEST_LINE];
     if lanes::stride_of(shape, axis) == 1 {

@@ -1,5 +1,5 @@
-// Correlation and convolution of floats along an axis, bit for bit in the order of their roundings (src/filters/con_corr.rs; SciPy's correlate1d
-// and convolve1d).
+// Correlation and convolution of floats along an axis, bit for bit in the order of their roundings
+// (src/filters/con_corr.rs; SciPy's correlate1d and convolve1d).
 ghost use mathlib.Core.Path.{_≡_};
 ghost use mathlib.Core.Bool.{true, false};
 ghost use mathlib.Core.List.{map, reverse};
@@ -39,7 +39,8 @@ fn weigh(
     out: &mut [f64],
 )
     requires { ⌜ PlaceNeeds (borderOfF64 mode) (now shape) axis origin (now weights) (now «data») (now out) ⌝ }
-    ensures { λ _. ⌜ now (out .exit) ≡ correlate1dF (borderOfF64 mode) origin (now (weights .entry)) (now (shape .entry)) axis (now («data» .entry)) ⌝ }
+    ensures { λ _. ⌜ now (out .exit) ≡ correlate1dF (borderOfF64 mode) origin (now (weights .entry))
+        (now (shape .entry)) axis (now («data» .entry)) ⌝ }
 {
     match window::origin_check(weights.len(), origin) {
         Origin::Refused => {}
@@ -81,8 +82,10 @@ fn correlate_cells(
     origin: isize,
     out: &mut [f64],
 )
-    requires { ⌜ refusalOf (correlateJudgedF false (borderOfF64 mode) origin (now weights) (now shape) axis (now «data») (length (now out))) ≡ 0 ⌝ }
-    ensures { λ _. ⌜ now (out .exit) ≡ correlate1dF (borderOfF64 mode) origin (now (weights .entry)) (now (shape .entry)) axis (now («data» .entry)) ⌝ }
+    requires { ⌜ refusalOf (correlateJudgedF false (borderOfF64 mode) origin (now weights) (now shape) axis (now «data»)
+        (length (now out))) ≡ 0 ⌝ }
+    ensures { λ _. ⌜ now (out .exit) ≡ correlate1dF (borderOfF64 mode) origin (now (weights .entry))
+        (now (shape .entry)) axis (now («data» .entry)) ⌝ }
 {
     if weights.len() == 1 {
         scale(data, weights[0], out);
@@ -102,8 +105,10 @@ fn convolve_cells(
     reversed: &mut [f64],
     out: &mut [f64],
 )
-    requires { ⌜ (refusalOf (correlateJudgedF true (borderOfF64 mode) origin (now weights) (now shape) axis (now «data») (length (now out))) ≡ 0) × (length (now reversed) ≡ length (now weights)) ⌝ }
-    ensures { λ _. ⌜ now (out .exit) ≡ convolve1dF (borderOfF64 mode) origin (now (weights .entry)) (now (shape .entry)) axis (now («data» .entry)) ⌝ }
+    requires { ⌜ (refusalOf (correlateJudgedF true (borderOfF64 mode) origin (now weights) (now shape) axis (now «data»)
+        (length (now out))) ≡ 0) × (length (now reversed) ≡ length (now weights)) ⌝ }
+    ensures { λ _. ⌜ now (out .exit) ≡ convolve1dF (borderOfF64 mode) origin (now (weights .entry)) (now (shape .entry))
+        axis (now («data» .entry)) ⌝ }
 {
     if weights.len() == 1 {
         scale(data, weights[0], out);
@@ -114,7 +119,8 @@ fn convolve_cells(
     weigh(data, shape, reversed, axis, mode, applied, out);
 }
 
-// The sums of each window times the weights, along an axis, each operation rounded in the order that the class of the weights names. With one weight every cell is multiplied by it, and the origin is not read.
+// The sums of each window times the weights, along an axis, each operation rounded in the order that the class of the
+// weights names. With one weight every cell is multiplied by it, and the origin is not read.
 //
 // * `data` - the cells of the grid.
 // * `shape` - the length of each axis.
@@ -124,8 +130,11 @@ fn convolve_cells(
 // * `origin` - how far the window is moved: 0 centres it over the cell, positive values move it to the left.
 // * `out` - the lent output, as many cells.
 //
-// Refuses: 1, 2, 3, 5, 6, 7, 8, 9, 11. Of 0 0 1 with the weights 1, 2, 1 + 2^-52 under Constant(0.0) cell 1 is exactly 1: the weights count as
-// Symmetric, and the right one is not read.
+// All NaNs count as one: where an answer is a NaN the cell is a NaN, and its bits are open.
+//
+// Refuses: 1 (shape), 2 (length), 3 (level), 5 (kernel), 6 (weight), 7 (origin), 8 (axis), 9 (constant), 11 (reach). Of
+// 0 0 1 with the weights 1, 2, 1 + 2^-52 under Constant(0.0) cell 1 is exactly 1: the weights count as Symmetric, and
+// the right one is not read.
 pub fn correlate1d_f64(
     data: &[f64],
     shape: &[usize],
@@ -135,8 +144,10 @@ pub fn correlate1d_f64(
     origin: isize,
     out: &mut [f64],
 ) -> u8
-    ensures { λ r. ⌜ Answers (correlateJudgedF false (borderOfF64 mode) origin (now (weights .entry)) (now (shape .entry)) axis (now («data» .entry)) (length (now (out .entry))))
-        (correlate1dF (borderOfF64 mode) origin (now (weights .entry)) (now (shape .entry)) axis (now («data» .entry))) (now (out .entry)) r (now (out .exit)) ⌝ }
+    ensures { λ r. ⌜ Answers (correlateJudgedF false (borderOfF64 mode) origin (now (weights .entry))
+        (now (shape .entry)) axis (now («data» .entry)) (length (now (out .entry))))
+        (correlate1dF (borderOfF64 mode) origin (now (weights .entry)) (now (shape .entry)) axis (now («data» .entry)))
+        (now (out .entry)) r (now (out .exit)) ⌝ }
 {
     let refusal = correlate_judge::judge_correlate_f64(
         data,
@@ -165,7 +176,10 @@ pub fn correlate1d_f64(
 // * `origin` - how far the window is moved: 0 centres it over the cell, positive values move it to the right.
 // * `out` - the lent output, as many cells.
 //
-// Refuses: 1, 2, 3, 5, 6, 7, 8, 9, 11. Of 0 0 1 with the weights 1, 2, 1 + 2^-52 under Constant(0.0) cell 1 is 1 + 2^-52: the reversal comes first.
+// All NaNs count as one: where an answer is a NaN the cell is a NaN, and its bits are open.
+//
+// Refuses: 1 (shape), 2 (length), 3 (level), 5 (kernel), 6 (weight), 7 (origin), 8 (axis), 9 (constant), 11 (reach). Of
+// 0 0 1 with the weights 1, 2, 1 + 2^-52 under Constant(0.0) cell 1 is 1 + 2^-52: the reversal comes first.
 pub fn convolve1d_f64(
     data: &[f64],
     shape: &[usize],
@@ -175,8 +189,10 @@ pub fn convolve1d_f64(
     origin: isize,
     out: &mut [f64],
 ) -> u8
-    ensures { λ r. ⌜ Answers (correlateJudgedF true (borderOfF64 mode) origin (now (weights .entry)) (now (shape .entry)) axis (now («data» .entry)) (length (now (out .entry))))
-        (convolve1dF (borderOfF64 mode) origin (now (weights .entry)) (now (shape .entry)) axis (now («data» .entry))) (now (out .entry)) r (now (out .exit)) ⌝ }
+    ensures { λ r. ⌜ Answers (correlateJudgedF true (borderOfF64 mode) origin (now (weights .entry))
+        (now (shape .entry)) axis (now («data» .entry)) (length (now (out .entry))))
+        (convolve1dF (borderOfF64 mode) origin (now (weights .entry)) (now (shape .entry)) axis (now («data» .entry)))
+        (now (out .entry)) r (now (out .exit)) ⌝ }
 {
     let refusal = correlate_judge::judge_correlate_f64(
         data,

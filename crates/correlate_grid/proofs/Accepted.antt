@@ -60,7 +60,16 @@ module _ {b : Border ℤ} {ns : List ℕ} {side left right : ℕ} {w cells out :
       go false e =
           let a = length ns - 1 - back in
           let h = there (leb-false (length ns) back e) in
-          record { some = length-pos ns a (accepted .full); short = accepted .short a; some-side = K .some; wide = K .wide; pads = K .pads; fills-left = K .fills-left a h; fills-right = K .fills-right a h }
+          record {
+            some = length-pos ns a (accepted .full);
+            short = accepted .short a;
+            some-side = K .some;
+            wide = K .wide;
+            pads = K .pads;
+            fills-left = K .fills-left a h;
+            fills-right = K .fills-right
+                a h;
+          }
 
   abbrev Counts : List ℕ → Type 0
   Counts ms = (cellCount ms ≡ axisFrom ms 2 side left right .len * axisFrom ms 1 side left right .len * axisFrom ms 0 side left right .len)

@@ -29,7 +29,11 @@ module _ {b : Border ℤ} {x y z : Axis} {w cells : List ℤ} {r : ℕ} where
   pub summing-none : {line out : List ℤ} (out₀ : List ℤ) → length line ≡ z .left + z .len + z .right → length out₀ ≡ z .len → out ≡ replicate (length out₀) (pos 0)
       → Summing b x y z w cells r (0 * y .side) line out
   unfolding rowsTo summed
-  summing-none out₀ l o e = record { line-long = l; sums = e ∙ ap (λ (n : ℕ). replicate n (pos 0)) o ∙ sym (tabulate-replicate (pos 0) 0 (z .len)) ∙ ap (λ (m : ℕ). tabulate (rowsTo b x y z w cells r m) 0 (z .len)) none }
+  summing-none out₀ l o e = record {
+    line-long = l;
+    sums = e ∙ ap (λ (n : ℕ). replicate n (pos 0)) o ∙ sym (tabulate-replicate (pos 0) 0 (z .len))
+        ∙ ap (λ (m : ℕ). tabulate (rowsTo b x y z w cells r m) 0 (z .len)) none;
+  }
     where
       none : 0 ≡ 0 * y .side
       none = omega arith

@@ -54,17 +54,20 @@ module _ (b : Border ℤ) (z : Axis) (none row : ℕ) (cells : List ℤ) where
   line-some h = cond-no (eqb row none) (replicate total (constantOf b)) padded (ne-eqb row none h)
 
   -- ---- as the code loads it
-  pub loaded-none : {c : ℤ} (line : List ℤ) {filled : List ℤ} → row ≡ none → length line ≡ z .left + z .len + z .right → c ≡ constantOf b → filled ≡ replicate (length line) c → filled ≡ rowLine b z none row cells
+  pub loaded-none : {c : ℤ} (line : List ℤ) {filled : List ℤ} → row ≡ none → length line ≡ z .left + z .len + z .right → c ≡ constantOf b → filled ≡ replicate (length line) c → filled
+      ≡ rowLine b z none row cells
   loaded-none line h k q e = e ∙ (λ j. replicate (k j) (q j)) ∙ sym (line-none h)
 
   -- what padding the row supposes
-  pub row-padding : (line : List ℤ) → Serves b z → row * z .len + z .len ≤ length cells → length line ≡ z .left + z .len + z .right → PadNeeds b (z .len) 1 (row * z .len) (z .left) (z .right) cells line
+  pub row-padding : (line : List ℤ) → Serves b z → row * z .len + z .len ≤ length cells → length line
+      ≡ z .left + z .len + z .right → PadNeeds b (z .len) 1 (row * z .len) (z .left) (z .right) cells line
   row-padding line S i k = record { some = S .some; inside = omega (arith, S .some, mul-one (z .len)); fits = omega arith; fills-left = S .fills-left; fills-right = S .fills-right }
 
   pub loaded-some : (line : List ℤ) {new : List ℤ} → (row ≡ none → ⊥) → length line ≡ z .left + z .len + z .right
       → new ≡ paddedLine (pos 0) b (z .left) (z .right) (laneAt (pos 0) cells (row * z .len) 1 (z .len)) ++ drop (z .left + z .len + z .right) line → new ≡ rowLine b z none row cells
   loaded-some line {new} h k e =
-      e ∙ (λ j. paddedLine (pos 0) b (z .left) (z .right) (laneAt (pos 0) cells (sym (base-neighbours (z .len) row) j) 1 (z .len)) ++ drop-of-length-le line {i = z .left + z .len + z .right} (omega arith) j)
+      e ∙ (λ j. paddedLine (pos 0) b (z .left) (z .right) (laneAt (pos 0) cells (sym (base-neighbours (z .len) row) j) 1 (z .len))
+      ++ drop-of-length-le line {i = z .left + z .len + z .right} (omega arith) j)
       ∙ append-nil padded ∙ sym (line-some h)
 
   -- ---- its length, and a test that fails of all its cells

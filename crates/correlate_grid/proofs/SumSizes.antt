@@ -29,7 +29,8 @@ module _ {b : Border ℤ} {x y z : Axis} {w cells : List ℤ} (L : KernelNeeds b
   row-size : (q i : ℕ) → Size (rowSum b x y z w cells r q i) (z .side * term)
   unfolding rowSum
   row-size q i =
-      size-le (size-summed term 0 1 (pos 0) _ (size-zero _) (λ j. term-sized (2 ^ 31 - 1) 65535 b (constant-sized b (L .level)) w (tested-sized 65535 w (L .weights)) (x .len ∷ y .len ∷ z .len ∷ []) cells (levels-sized cells (L .levels)) _ (q * z .side + j)) (z .side))
+      size-le (size-summed term 0 1 (pos 0) _ (size-zero _) (λ j. term-sized (2 ^ 31 - 1) 65535 b (constant-sized b (L .level)) w (tested-sized 65535 w (L .weights)) (x .len ∷ y .len ∷ z .len ∷ [])
+      cells (levels-sized cells (L .levels)) _ (q * z .side + j)) (z .side))
       (omega arith)
 
   rows-size : (q i : ℕ) → Size (rowsTo b x y z w cells r q i) ((0 + q * z .side) * term)

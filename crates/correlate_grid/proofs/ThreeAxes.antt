@@ -68,7 +68,8 @@ level-three (along a) n m l cells q = refl
 pub count-three : (a b c : ℕ) → a * (b * (c * 1)) ≡ a * b * c
 count-three a b c = ap (λ (x : ℕ). a * (b * x)) (mul-one c) ∙ sym (mul-assoc a b c)
 
-module _ {b : Border ℤ} {x y z : Axis} {w cells : List ℤ} (L : KernelNeeds b x y z w cells) (lefts : ℕ → ℕ) (ex : lefts 0 ≡ x .left) (ey : lefts 1 ≡ y .left) (ez : lefts 2 ≡ z .left) (k : ℕ) (h : k < x .len * y .len * z .len) where
+module _ {b : Border ℤ} {x y z : Axis} {w cells : List ℤ} (L : KernelNeeds b x y z w cells) (lefts : ℕ → ℕ) (ex : lefts 0 ≡ x .left) (ey : lefts 1 ≡ y .left) (ez : lefts 2
+    ≡ z .left) (k : ℕ) (h : k < x .len * y .len * z .len) where
   abbrev ns : List ℕ
   ns = x .len ∷ y .len ∷ z .len ∷ []
 

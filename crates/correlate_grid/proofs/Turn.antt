@@ -68,7 +68,8 @@ module _ {b : Border ℤ} {x y z : Axis} {w cells first second : List ℤ} (M : 
     below : (f ≡ x .len * y .len → ⊥) → f < x .len * y .len
     below o =
         subst (λ (g : ℕ). g < x .len * y .len) (sym found)
-        (row-below (x .len) (y .len) (getD first (p + i) (pos 0)) (getD second (s + j) (pos 0)) (table-known (L .planes) (M .planes) hp hi) (table-known (L .rows) (M .rows) hs hj) (λ d. o (found ∙ d)))
+        (row-below (x .len) (y .len) (getD first (p + i) (pos 0)) (getD second (s + j) (pos 0)) (table-known (L .planes) (M .planes) hp hi) (table-known (L .rows) (M .rows) hs hj)
+        (λ d. o (found ∙ d)))
 
     -- ---- what adding it supposes
     pub reading : {line out : List ℤ} → Summing b x y z w cells r q line out → Reading x y z f q line out
@@ -99,7 +100,11 @@ module _ {b : Border ℤ} {x y z : Axis} {w cells first second : List ℤ} (M : 
     pub summing-more : {line line′ out new : List ℤ} → Summing b x y z w cells r q line out → length line′ ≡ length line
         → new ≡ tabulate (λ c. getD out c (pos 0) +ℤ lineSum b x y z w cells f q c) 0 (z .len) → Summing b x y z w cells r (i * y .side + (j + 1)) line′ new
     unfolding rowsTo
-    summing-more {out = out} S l a = record { line-long = l ∙ S .line-long; sums = a ∙ tabulate-agree _ (rowsTo b x y z w cells r (i * y .side + (j + 1))) 0 (z .len) (λ c h. at (0 + c) (omega arith)) }
+    summing-more {out = out} S l a = record {
+      line-long = l ∙ S .line-long;
+      sums = a ∙ tabulate-agree _ (rowsTo b x y z w cells r (i * y .side + (j + 1))) 0 (z .len)
+          (λ c h. at (0 + c) (omega arith));
+    }
       where
         next : q + 1 ≡ i * y .side + (j + 1)
         next = omega arith

@@ -1,4 +1,5 @@
--- A grid and its kernel as three axes: planes, rows and cells. A missing outer axis has one cell, no pads and a kernel of one cell.
+-- A grid and its kernel as three axes: planes, rows and cells. A missing outer axis has one cell, no pads and a kernel
+-- of one cell.
 --   axisFrom ns back side left right   the axis that stands back axes before the last
 --   axesOf ns side left right          the three axes
 --   Serves b x           the axis x has a cell, and the border fills its pads, which hold the kernel's window
@@ -6,7 +7,8 @@
 --   sourceFor b n z      the cell that coordinate z reads on an axis of n cells; −1 for none, where the constant stands
 --   numbered b           the border under which the numbers 0 .. n − 1 are padded to their sources
 --   Found b x t          the table t has the source of every place of axis x; it starts left places before cell 0
---   KernelNeeds b x y z w cells the cells are a grid of these axes and w its kernel, levels and weights within their limits
+--   KernelNeeds b x y z w cells
+--                        the cells are a grid of these axes and w its kernel, levels and weights within their limits
 use Prim.Native.Nat.{ℕ, _+_, _-_, _*_, _≤_, _<_}
 use mathlib.Core.Path.{_≡_}
 use mathlib.Core.Bool.{false, cond}
@@ -31,7 +33,12 @@ axisFrom ns back side left right =
     (record { len = lengthOf ns (length ns - 1 - back); left = left; right = right; side = side })
 
 abbrev pub axesOf : List ℕ → ℕ → ℕ → ℕ → Axes
-axesOf ns side left right = record { planes = axisFrom ns 2 side left right; rows = axisFrom ns 1 side left right; cells = axisFrom ns 0 side left right }
+axesOf ns side left right = record {
+  planes = axisFrom ns 2 side left right;
+  rows = axisFrom ns 1 side left right;
+  cells
+      = axisFrom ns 0 side left right;
+}
 
 pub record Serves (b : Border ℤ) (x : Axis) : Type 0 where
   pub some : 0 < x .len

@@ -3,12 +3,16 @@
 --   rowFor i j per none  the row of plane i and row j, with per rows in a plane; none where a source is −1
 --   constantOf b         the border's constant; under another border it is never read
 --   rowLine b z none row cells       the row, padded; the constant all along where the row is none
---   lineSum b x y z w cells row q i  the sum of kernel row q on cell i, where it reads the row; none is the number of rows
+--   lineSum b x y z w cells row q i  the sum of kernel row q on cell i, where it reads the row; none is the number of
+--                                    rows
 --   rowSum b x y z w cells r q i     the sum of kernel row q on cell i of row r
 --   rowsTo b x y z w cells r m i     the sum of the first m kernel rows
---   Mapped b x y z w cells first second    grid and kernel are laid on the axes, and the tables have the sources of planes and rows
---   Summing b x y z w cells r m line out   a row that holds the sums of the first m kernel rows on row r, and a buffer as long as the padded row
---   Reading x y z row q line out           what one kernel row supposes: the row is in the grid or none, the buffers are as long as the padded row and the row,
+--   Mapped b x y z w cells first second    grid and kernel are laid on the axes, and the tables have the sources of
+--                                          planes and rows
+--   Summing b x y z w cells r m line out   a row that holds the sums of the first m kernel rows on row r, and a buffer
+--                                          as long as the padded row
+--   Reading x y z row q line out           what one kernel row supposes: the row is in the grid or none, the buffers
+--                                          are as long as the padded row and the row,
 --                                          which holds at most 2^61 in size
 use Prim.Native.Nat.{ℕ, zero, suc, _+_, _*_, _^_, _/_, _%_, _<_}
 use mathlib.Core.Path.{_≡_}
@@ -47,12 +51,15 @@ rowLine b z none row cells =
 
 unfoldable pub lineSum : Border ℤ → Axis → Axis → Axis → List ℤ → List ℤ → ℕ → ℕ → ℕ → ℤ
 lineSum b x y z w cells row q i =
-    summed _+ℤ_ (pos 0) (λ j. getD (rowLine b z (x .len * y .len) row cells) (i + j) (pos 0) *ℤ getD w (q * z .side + j) (pos 0)) (z .side)
+    summed _+ℤ_ (pos 0) (λ j. getD (rowLine b z (x .len * y .len) row cells) (i + j) (pos 0) *ℤ getD w (q * z .side + j)
+    (pos 0)) (z .side)
 
 unfoldable pub rowSum : Border ℤ → Axis → Axis → Axis → List ℤ → List ℤ → ℕ → ℕ → ℕ → ℤ
 rowSum b x y z w cells r q i =
     summed _+ℤ_ (pos 0)
-    (λ j. extendedGrid (pos 0) b (x .len ∷ y .len ∷ z .len ∷ []) cells (three (readAt x (r / y .len) (q / y .side)) (readAt y (r % y .len) (q % y .side)) (readAt z i j)) *ℤ getD w (q * z .side + j) (pos 0))
+    (λ j. extendedGrid (pos 0) b (x .len ∷ y .len ∷ z .len ∷ []) cells
+    (three (readAt x (r / y .len) (q / y .side)) (readAt y (r % y .len) (q % y .side)) (readAt z i j)) *ℤ getD w
+    (q * z .side + j) (pos 0))
     (z .side)
 
 unfoldable pub rowsTo : Border ℤ → Axis → Axis → Axis → List ℤ → List ℤ → ℕ → ℕ → ℕ → ℤ

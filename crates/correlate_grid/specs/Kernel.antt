@@ -1,5 +1,6 @@
 -- What the worker supposes of a kernel of as many axes as the grid, all sides equal.
---   Kernelled b ns side left right w cells out    an accepted grid, a kernel of side 1 to 7 with its weights, pads that the border fills, levels and weights
+--   Kernelled b ns side left right w cells out    an accepted grid, a kernel of side 1 to 7 with its weights, pads that
+--                                                 the border fills, levels and weights
 --                                                 within their limits
 use Prim.Native.Nat.{ℕ, _+_, _≤_, _<_}
 use mathlib.Core.Path.{_≡_}

@@ -21,7 +21,8 @@ byRows m =
     let x = axisFrom (2 ∷ 2 ∷ []) 2 2 1 0 in
     let y = axisFrom (2 ∷ 2 ∷ []) 1 2 1 0 in
     let z = axisFrom (2 ∷ 2 ∷ []) 0 2 1 0 in
-    tabulate (λ k. rowsTo (along Nearest) x y z (wholes (1 ∷ 0 ∷ 0 ∷ 10 ∷ [])) (wholes (1 ∷ 2 ∷ 3 ∷ 4 ∷ [])) (k / 2) m (k % 2)) 0 4
+    tabulate (λ k. rowsTo (along Nearest) x y z (wholes (1 ∷ 0 ∷ 0 ∷ 10 ∷ [])) (wholes (1 ∷ 2 ∷ 3 ∷ 4 ∷ [])) (k / 2) m
+    (k % 2)) 0 4
 
 pub record CorrelateGridRows : Type 0 where
   -- the sources of three cells under Mirror, and of two under Constant: −1 for none

@@ -24,7 +24,8 @@ pub struct Axes {
     pub cells: Axis,
 }
 
-// The axis that stands `back` axes before the last. A missing one has one cell and no pads, and the kernel one cell there.
+// The axis that stands `back` axes before the last. A missing one has one cell and no pads, and the kernel one cell
+// there.
 fn axis_from(shape: &[usize], back: usize, side: usize, left: usize, right: usize) -> Axis
     ensures { λ r. ⌜ r ≡ axisFrom (now (shape .entry)) back side left right ⌝ }
 {

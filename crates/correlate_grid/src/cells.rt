@@ -1,4 +1,5 @@
-// The rows of the kernel on each row of the grid, one after the other. Row s of plane p is row p * rows + s, and row j of kernel plane i is kernel row i * side + j.
+// The rows of the kernel on each row of the grid, one after the other. Row s of plane p is row p * rows + s, and row j
+// of kernel plane i is kernel row i * side + j.
 ghost use mathlib.Core.Path.{_≡_};
 ghost use Prim.Native.Nat.{_+_, _*_, _/_, _%_, _<_};
 ghost use lib.ListN.{length};
@@ -12,7 +13,8 @@ use crate::row::add_kernel_row;
 use crate::row::row_for;
 use border::BorderMode;
 
-// Adds the sums of kernel plane i to those of row s of plane p. The tables have the sources of planes and rows; line is a buffer.
+// Adds the sums of kernel plane i to those of row s of plane p. The tables have the sources of planes and rows; line is
+// a buffer.
 fn add_kernel_plane(
     data: &[i64],
     weights: &[i64],
@@ -26,8 +28,13 @@ fn add_kernel_plane(
     line: &mut [i64],
     out: &mut [i64],
 )
-    requires { ⌜ Mapped (borderOf mode) (axes .planes) (axes .rows) (axes .cells) (now weights) (now «data») (now first) (now second) × (p < axes .planes .len) × (s < axes .rows .len) × (i < axes .planes .side) × Summing (borderOf mode) (axes .planes) (axes .rows) (axes .cells) (now weights) (now «data») (p * axes .rows .len + s) (i * axes .rows .side) (now line) (now out) ⌝ }
-    ensures { λ _. ⌜ now (out .exit) ≡ tabulate (rowsTo (borderOf mode) (axes .planes) (axes .rows) (axes .cells) (now (weights .entry)) (now («data» .entry)) (p * axes .rows .len + s) ((i + 1) * axes .rows .side)) 0 (axes .cells .len) ⌝ }
+    requires { ⌜ Mapped (borderOf mode) (axes .planes) (axes .rows) (axes .cells) (now weights) (now «data») (now first)
+        (now second) × (p < axes .planes .len) × (s < axes .rows .len) × (i < axes .planes .side)
+        × Summing (borderOf mode) (axes .planes) (axes .rows) (axes .cells) (now weights) (now «data»)
+        (p * axes .rows .len + s) (i * axes .rows .side) (now line) (now out) ⌝ }
+    ensures { λ _. ⌜ now (out .exit) ≡ tabulate (rowsTo (borderOf mode) (axes .planes) (axes .rows) (axes .cells)
+        (now (weights .entry)) (now («data» .entry)) (p * axes .rows .len + s) ((i + 1) * axes .rows .side)) 0
+        (axes .cells .len) ⌝ }
 {
     let plane = first[p + i];
     let per = axes.rows.len;
@@ -55,8 +62,12 @@ fn correlate_row(
     line: &mut [i64],
     out: &mut [i64],
 )
-    requires { ⌜ Mapped (borderOf mode) (axes .planes) (axes .rows) (axes .cells) (now weights) (now «data») (now first) (now second) × (p < axes .planes .len) × (s < axes .rows .len) × (length (now line) ≡ axes .cells .left + axes .cells .len + axes .cells .right) × (length (now out) ≡ axes .cells .len) ⌝ }
-    ensures { λ _. ⌜ now (out .exit) ≡ tabulate (rowsTo (borderOf mode) (axes .planes) (axes .rows) (axes .cells) (now (weights .entry)) (now («data» .entry)) (p * axes .rows .len + s) (axes .planes .side * axes .rows .side)) 0 (axes .cells .len) ⌝ }
+    requires { ⌜ Mapped (borderOf mode) (axes .planes) (axes .rows) (axes .cells) (now weights) (now «data») (now first)
+        (now second) × (p < axes .planes .len) × (s < axes .rows .len) × (length (now line)
+        ≡ axes .cells .left + axes .cells .len + axes .cells .right) × (length (now out) ≡ axes .cells .len) ⌝ }
+    ensures { λ _. ⌜ now (out .exit) ≡ tabulate (rowsTo (borderOf mode) (axes .planes) (axes .rows) (axes .cells)
+        (now (weights .entry)) (now («data» .entry)) (p * axes .rows .len + s) (axes .planes .side * axes .rows .side))
+        0 (axes .cells .len) ⌝ }
 {
     array::fill(out, 0);
     let count = axes.planes.side;
@@ -78,8 +89,12 @@ fn correlate_rows(
     line: &mut [i64],
     out: &mut [i64],
 )
-    requires { ⌜ Mapped (borderOf mode) (axes .planes) (axes .rows) (axes .cells) (now weights) (now «data») (now first) (now second) × (length (now line) ≡ axes .cells .left + axes .cells .len + axes .cells .right) × (length (now out) ≡ length (now «data»)) ⌝ }
-    ensures { λ _. ⌜ now (out .exit) ≡ tabulate (λ k. rowsTo (borderOf mode) (axes .planes) (axes .rows) (axes .cells) (now (weights .entry)) (now («data» .entry)) (k / axes .cells .len) (axes .planes .side * axes .rows .side) (k % axes .cells .len)) 0 (length (now («data» .entry))) ⌝ }
+    requires { ⌜ Mapped (borderOf mode) (axes .planes) (axes .rows) (axes .cells) (now weights) (now «data») (now first)
+        (now second) × (length (now line) ≡ axes .cells .left + axes .cells .len + axes .cells .right)
+        × (length (now out) ≡ length (now «data»)) ⌝ }
+    ensures { λ _. ⌜ now (out .exit) ≡ tabulate (λ k. rowsTo (borderOf mode) (axes .planes) (axes .rows) (axes .cells)
+        (now (weights .entry)) (now («data» .entry)) (k / axes .cells .len) (axes .planes .side * axes .rows .side)
+        (k % axes .cells .len)) 0 (length (now («data» .entry))) ⌝ }
 {
     let per = axes.rows.len;
     let count = axes.planes.len * per;
@@ -112,8 +127,11 @@ pub(crate) fn correlate_three(
     axes: Axes,
     out: &mut [i64],
 )
-    requires { ⌜ KernelNeeds (borderOf mode) (axes .planes) (axes .rows) (axes .cells) (now weights) (now «data») × (length (now out) ≡ length (now «data»)) ⌝ }
-    ensures { λ _. ⌜ now (out .exit) ≡ tabulate (λ k. rowsTo (borderOf mode) (axes .planes) (axes .rows) (axes .cells) (now (weights .entry)) (now («data» .entry)) (k / axes .cells .len) (axes .planes .side * axes .rows .side) (k % axes .cells .len)) 0 (length (now («data» .entry))) ⌝ }
+    requires { ⌜ KernelNeeds (borderOf mode) (axes .planes) (axes .rows) (axes .cells) (now weights) (now «data»)
+        × (length (now out) ≡ length (now «data»)) ⌝ }
+    ensures { λ _. ⌜ now (out .exit) ≡ tabulate (λ k. rowsTo (borderOf mode) (axes .planes) (axes .rows) (axes .cells)
+        (now (weights .entry)) (now («data» .entry)) (k / axes .cells .len) (axes .planes .side * axes .rows .side)
+        (k % axes .cells .len)) 0 (length (now («data» .entry))) ⌝ }
 {
     let planes = axes.planes;
     let mut first = [0; numbers::LONGEST_LINE];

@@ -10,7 +10,8 @@ mod axes;
 mod cells;
 mod row;
 
-// Fills out with the correlation of data with a kernel of as many axes, all of `side` cells: left and right are the pads of every axis.
+// Fills out with the correlation of data with a kernel of as many axes, all of `side` cells: left and right are the
+// pads of every axis.
 pub fn correlate_cells(
     data: &[i64],
     shape: &[usize],
@@ -22,13 +23,14 @@ pub fn correlate_cells(
     out: &mut [i64],
 )
     requires { ⌜ Kernelled (borderOf mode) (now shape) side left right (now weights) (now «data») (now out) ⌝ }
-    ensures { λ _. ⌜ now (out .exit) ≡ kernelAnswer (borderOf mode) left (sidesOf (now (shape .entry)) side) (now (weights .entry)) (now (shape .entry)) (now («data» .entry)) ⌝ }
+    ensures { λ _. ⌜ now (out .exit) ≡ kernelAnswer (borderOf mode) left (sidesOf (now (shape .entry)) side)
+        (now (weights .entry)) (now (shape .entry)) (now («data» .entry)) ⌝ }
 {
     let axes = axes::axes_of(shape, side, left, right);
     cells::correlate_three(data, weights, mode, axes, out);
 }
 
-// Worked rows of this crate's definitions. Refuses nothing.
+// Worked rows of this crate's definitions.
 pub fn rows()
     ensures { λ _. ⌜ CorrelateGridRows ⌝ }
 {}

@@ -35,8 +35,13 @@ kind-pads Wrap n pad = refl
 -- ---- the weights and their place, by the answers to 6 and 9, the origin as it was handed in, and a border that fills the same pads
 module _ {A : Type 0} (heavy bad : A → Bool) (convolution : Bool) (b : Border A) (w : List A) (ns : List ℕ) (a : ℕ) where
   pub weighed : {weights-bad constant-bad : Bool} (c : Border ℤ) {handed o : ℤ} → weights-bad ≡ anyOf heavy w → constant-bad ≡ badConstantBy bad b → SamePads c b → handed ≡ o → {r : ℕ}
-      → r ≡ refusalOf ((badSize (length w), 5) ∷ (weights-bad, 6) ∷ (badWindowOrigin (length w) handed, 7) ∷ (badAxis ns a, 8) ∷ (constant-bad, 9) ∷ (badReach c (length w) (appliedOrigin convolution (length w) handed) (lengthOf ns a), 11) ∷ [])
+      → r ≡ refusalOf ((badSize (length w), 5) ∷ (weights-bad, 6) ∷ (badWindowOrigin (length w) handed, 7) ∷ (badAxis ns a, 8) ∷ (constant-bad, 9)
+      ∷ (badReach c (length w) (appliedOrigin convolution (length w) handed) (lengthOf ns a), 11) ∷ [])
       → r ≡ refusalOf (weightsJudged heavy w ++ placeJudged bad convolution b o (length w) ns a)
   weighed c p q s e h =
       h ∙ (λ j. refusalOf ((badSize (length w), 5) ∷ (p j, 6) ∷ (badWindowOrigin (length w) (e j), 7) ∷ (badAxis ns a, 8) ∷ (q j, 9)
-      ∷ (not (eqb (length w) 1) && (s (lengthOf ns a) (leftPad (length w) (appliedOrigin convolution (length w) (e j))) j || s (lengthOf ns a) (rightPad (length w) (appliedOrigin convolution (length w) (e j))) j), 11) ∷ []))
+      ∷ (
+        not (eqb (length w) 1) && (s (lengthOf ns a) (leftPad (length w) (appliedOrigin convolution (length w) (e j))) j
+            || s (lengthOf ns a) (rightPad (length w) (appliedOrigin convolution (length w) (e j))) j),
+        11,
+      ) ∷ []))

@@ -23,7 +23,8 @@ use Rattle.correlate_judge.proofs.Equal.{kernel-equal}
 pub no-bad-sums : (convolution : Bool) (b : Border ℤ) (o : ℤ) (sides : List ℕ) (w : List ℤ) (ns : List ℕ) (cells : List ℤ) → badShape ns ≡ false → anyOf badLevel cells ≡ false
     → badKernel ns sides (length w) ≡ false → anyOf badWeight w ≡ false → badConstantBy badLevel b ≡ false → badKernelSums convolution b o sides w ns cells ≡ false
 no-bad-sums convolution b o sides w ns cells e l h k c =
-    kernel-within 2147483647 65535 b (constant-sized b c) (appliedWeights convolution w) (weights-sized (appliedWeights convolution w) (applied-weights badWeight convolution w k)) ns cells (levels-sized cells l) _ sides small
+    kernel-within 2147483647 65535 b (constant-sized b c) (appliedWeights convolution w) (weights-sized (appliedWeights convolution w) (applied-weights badWeight convolution w k)) ns cells
+    (levels-sized cells l) _ sides small
   where
     small : (0 + length (appliedWeights convolution w) * 1) * (2147483647 * 65535) < 2 ^ 63
     small = omega (arith, applied-length convolution w, kernel-equal ns sides (length w) e h .few)

@@ -47,5 +47,6 @@ count-short n e = ltb-false 65 n (or-false (ltb n 1) (ltb 65 n) e .1)
 pub no-bad-sums : (convolution : Bool) (b : Border ℤ) (o : ℤ) (w : List ℤ) (ns : List ℕ) (a : ℕ) (cells : List ℤ) → anyOf badLevel cells ≡ false
     → outside 1 65 (length w) ≡ false → anyOf badWeight w ≡ false → badConstantBy badLevel b ≡ false → badCorrelateSums convolution b o w ns a cells ≡ false
 no-bad-sums convolution b o w ns a cells l n k c =
-    within b (appliedWeights convolution w) (omega (arith, applied-length convolution w, count-short (length w) n)) (constant-sized b c) (weights-sized (appliedWeights convolution w) (applied-weights badWeight convolution w k)) _ ns a cells
+    within b (appliedWeights convolution w) (omega (arith, applied-length convolution w, count-short (length w) n)) (constant-sized b c)
+    (weights-sized (appliedWeights convolution w) (applied-weights badWeight convolution w k)) _ ns a cells
     (levels-sized cells l)

@@ -1,11 +1,15 @@
--- The conditions of `correlate1d` and `convolve1d` and of their float forms, as document 01 words them. The flag `convolution` says convolution.
---   badWeight z                        6: a whole weight outside −65,535..65,535; a float weight has the test of a level, badFloat
+-- The conditions of `correlate1d` and `convolve1d` and of their float forms, as document 01 words them. The flag
+-- `convolution` says convolution.
+--   badWeight z                        6: a whole weight outside −65,535..65,535; a float weight has the test of a
+--                                      level, badFloat
 --   weightsJudged bad w                conditions 5 and 6 of the weights w, the test bad of one weight
 --   appliedWeights convolution w            the weights as they are applied: the caller's, or reversed
---   placeJudged bad convolution b o len ns a    conditions 7 (the caller's origin, where it is read), 8, 9 (the test bad of one level) and 11
+--   placeJudged bad convolution b o len ns a    conditions 7 (the caller's origin, where it is read), 8, 9 (the test
+--                                               bad of one level) and 11
 --                                      (the origin as it is applied) of len weights along axis a
 --   badCorrelateSums convolution b o w ns a cells    12: a sum of the answer outside signed 64 bits
---   correlateJudged convolution b o w ns a cells out    what a call on whole levels refuses, in rising order; out is the output's length
+--   correlateJudged convolution b o w ns a cells out    what a call on whole levels refuses, in rising order; out is
+--                                                       the output's length
 --   correlateJudgedF ..                the same of floats, whose sums are never refused
 use Prim.Native.Nat.{ℕ}
 use mathlib.Core.Bool.{Bool, not, _&&_, cond}
@@ -40,7 +44,8 @@ placeJudged bad convolution b o len ns a =
     ∷ (badReach b len (appliedOrigin convolution len o) (lengthOf ns a), 11) ∷ []
 
 abbrev pub badCorrelateSums : Bool → Border ℤ → ℤ → List ℤ → List ℕ → ℕ → List ℤ → Bool
-badCorrelateSums convolution b o w ns a cells = anyOf beyond (correlate1dZ b (appliedOrigin convolution (length w) o) (appliedWeights convolution w) ns a cells)
+badCorrelateSums convolution b o w ns a cells = anyOf beyond
+    (correlate1dZ b (appliedOrigin convolution (length w) o) (appliedWeights convolution w) ns a cells)
 
 abbrev pub correlateJudged : Bool → Border ℤ → ℤ → List ℤ → List ℕ → ℕ → List ℤ → ℕ → Judged
 correlateJudged convolution b o w ns a cells out =
@@ -49,4 +54,5 @@ correlateJudged convolution b o w ns a cells out =
 
 abbrev pub correlateJudgedF : Bool → Border Float → ℤ → List Float → List ℕ → ℕ → List Float → ℕ → Judged
 correlateJudgedF convolution b o w ns a cells out =
-    gridJudgedBy badFloat ns cells (out ∷ []) ++ weightsJudged badFloat w ++ placeJudged badFloat convolution b o (length w) ns a
+    gridJudgedBy badFloat ns cells (out ∷ []) ++ weightsJudged badFloat w
+    ++ placeJudged badFloat convolution b o (length w) ns a

@@ -1,6 +1,8 @@
--- The conditions of `correlate` and `convolve` with grid kernels, as document 01 words them. The flag `convolution` says convolution.
+-- The conditions of `correlate` and `convolve` with grid kernels, as document 01 words them. The flag `convolution`
+-- says convolution.
 --   badSide first side                 5 of one side: outside 1..7, or not the first side
---   badKernel ns sides count           5: kernel axes not as many as the grid's (a grid has axes, so none at all is refused), a side that is bad, or a count
+--   badKernel ns sides count           5: kernel axes not as many as the grid's (a grid has axes, so none at all is
+--                                      refused), a side that is bad, or a count
 --                                      of weights that is not the product of the sides
 --   kernelPlaced convolution b o sides w ns conditions 5, 6, 7 (the caller's origin, of every kernel), 9 and 11
 --   badKernelSums convolution b o sides w ns cells    12: a sum of the answer outside signed 64 bits
@@ -12,6 +14,7 @@ use mathlib.Core.List.{List, [], _∷_, _++_}
 use lib.Dec.{eqb}
 use lib.IntN.{ℤ}
 use lib.ListN.{length}
+use Rattle.numbers.specs.Limits.{longestSide}
 use Rattle.numbers.specs.Lists.{anyOf}
 use Rattle.numbers.specs.Ranges.{outside, beyond}
 use Rattle.numbers.specs.Refusal.{Judged}
@@ -26,10 +29,11 @@ use Rattle.window.specs.Window.{kernelLeft, kernelRight, appliedOrigin, badKern
 use Rattle.correlate_judge.specs.Judge.{badWeight, appliedWeights}
 
 abbrev pub badSide : ℕ → ℕ → Bool
-badSide first side = outside 1 7 side || not (eqb side first)
+badSide first side = outside 1 longestSide side || not (eqb side first)
 
 unfoldable pub badKernel : List ℕ → List ℕ → ℕ → Bool
-badKernel ns sides count = not (eqb (length sides) (length ns)) || anyOf (badSide (sideOf sides)) sides || not (eqb count (cellCount sides))
+badKernel ns sides count = not (eqb (length sides) (length ns)) || anyOf (badSide (sideOf sides)) sides
+    || not (eqb count (cellCount sides))
 
 abbrev pub kernelPlaced : Bool → Border ℤ → ℤ → List ℕ → List ℤ → List ℕ → Judged
 kernelPlaced convolution b o sides w ns =
@@ -38,8 +42,10 @@ kernelPlaced convolution b o sides w ns =
     ∷ (badKernelReach b side (appliedOrigin convolution side o) ns, 11) ∷ []
 
 abbrev pub badKernelSums : Bool → Border ℤ → ℤ → List ℕ → List ℤ → List ℕ → List ℤ → Bool
-badKernelSums convolution b o sides w ns cells = anyOf beyond (correlateZ b (appliedOrigin convolution (sideOf sides) o) sides (appliedWeights convolution w) ns cells)
+badKernelSums convolution b o sides w ns cells = anyOf beyond
+    (correlateZ b (appliedOrigin convolution (sideOf sides) o) sides (appliedWeights convolution w) ns cells)
 
 abbrev pub kernelJudged : Bool → Border ℤ → ℤ → List ℕ → List ℤ → List ℕ → List ℤ → ℕ → Judged
 kernelJudged convolution b o sides w ns cells out =
-    gridJudged ns cells (out ∷ []) ++ kernelPlaced convolution b o sides w ns ++ ((badKernelSums convolution b o sides w ns cells, 12) ∷ [])
+    gridJudged ns cells (out ∷ []) ++ kernelPlaced convolution b o sides w ns
+    ++ ((badKernelSums convolution b o sides w ns cells, 12) ∷ [])

@@ -17,7 +17,8 @@ fn judge_placed(
     convolution: bool,
 ) -> u8
     requires { ⌜ badShape (now shape) ≡ false ⌝ }
-    ensures { λ r. ⌜ r ≡ refusalOf (kernelPlaced convolution (borderOf mode) origin (now (sides .entry)) (now (weights .entry)) (now (shape .entry))) ⌝ }
+    ensures { λ r. ⌜ r ≡ refusalOf (kernelPlaced convolution (borderOf mode) origin (now (sides .entry))
+        (now (weights .entry)) (now (shape .entry))) ⌝ }
 {
     if crate::kernel_sides::bad_kernel(shape, sides, weights.len()) {
         return numbers::KERNEL;
@@ -49,10 +50,8 @@ fn judge_placed(
 // * `convolution` - true for a convolution, which reverses the weights and changes the origin.
 // * `out` - how many cells the lent output has.
 //
-// Returns 0, or the lowest number of a condition that holds: 1 (shape), 2 (a length), 3 (a level), 5 (the kernel's sides or the count of weights),
-// 6 (a weight), 7 (origin, also of a kernel of one cell), 9 (constant) or 11 (the border cannot fill a pad as it is laid). 12 never occurs: no sum of
-// accepted levels leaves 64 bits. Writes nothing and refuses nothing itself.
-// One cell under Wrap with a kernel of 2 cells and origin 0 gives 0, and with convolution 11.
+// Refuses: 1 (shape), 2 (length), 3 (level), 5 (kernel), 6 (weight), 7 (origin), 9 (constant), 11 (reach). One cell
+// under Wrap with a kernel of 2 cells and origin 0 gives 0, and with convolution 11.
 pub fn judge_kernel(
     data: &[i64],
     shape: &[usize],
@@ -63,7 +62,8 @@ pub fn judge_kernel(
     convolution: bool,
     out: usize,
 ) -> u8
-    ensures { λ r. ⌜ r ≡ refusalOf (kernelJudged convolution (borderOf mode) origin (now (sides .entry)) (now (weights .entry)) (now (shape .entry)) (now («data» .entry)) out) ⌝ }
+    ensures { λ r. ⌜ r ≡ refusalOf (kernelJudged convolution (borderOf mode) origin (now (sides .entry))
+        (now (weights .entry)) (now (shape .entry)) (now («data» .entry)) out) ⌝ }
 {
     let refusal = array::judge_grid(data, shape, &[out]);
     if refusal != 0 {

@@ -12,7 +12,7 @@ fn bad_side(first: usize, side: usize) -> bool
     if side < 1 {
         return true;
     }
-    if 7 < side {
+    if numbers::LONGEST_SIDE < side {
         return true;
     }
     side != first

@@ -1,4 +1,5 @@
-// The judge of `correlate1d` and `convolve1d`, whole and float: the conditions in rising order, before anything is stored.
+// The judge of `correlate1d` and `convolve1d`, whole and float: the conditions in rising order, before anything is
+// stored.
 ghost use Rattle.correlate_judge.specs.Rows.{CorrelateJudgeRows};
 ghost use mathlib.Core.Path.{_≡_};
 ghost use mathlib.Core.Bool.{not, _&&_};
@@ -32,7 +33,10 @@ fn judge_weighing(
     origin: isize,
     convolution: bool,
 ) -> u8
-    ensures { λ r. ⌜ r ≡ refusalOf ((badSize len, 5) ∷ («weights_bad», 6) ∷ (badWindowOrigin len origin, 7) ∷ (badAxis (now (shape .entry)) axis, 8) ∷ («constant_bad», 9) ∷ (badReach (borderOf mode) len (appliedOrigin convolution len origin) (lengthOf (now (shape .entry)) axis), 11) ∷ []) ⌝ }
+    ensures { λ r. ⌜ r ≡ refusalOf ((badSize len, 5) ∷ («weights_bad», 6) ∷ (badWindowOrigin len origin, 7)
+        ∷ (badAxis (now (shape .entry)) axis, 8) ∷ («constant_bad», 9)
+        ∷ (badReach (borderOf mode) len (appliedOrigin convolution len origin) (lengthOf (now (shape .entry)) axis), 11)
+        ∷ []) ⌝ }
 {
     if window::bad_size(len) {
         return numbers::KERNEL;
@@ -67,9 +71,8 @@ fn judge_weighing(
 // * `convolution` - true for a convolution, which reverses the weights and changes the origin.
 // * `out` - how many cells the lent output has.
 //
-// Returns 0, or the lowest number of a condition that holds: 1 (shape), 2 (a length), 3 (a level), 5 (count of weights), 6 (a weight),
-// 7 (origin), 8 (axis), 9 (constant) or 11 (the border cannot fill a pad). 12 never occurs: no sum of accepted levels leaves 64 bits.
-// Writes nothing and refuses nothing itself. Three cells under Mirror with 5 weights give 0, with 7 weights 11.
+// Refuses: 1 (shape), 2 (length), 3 (level), 5 (kernel), 6 (weight), 7 (origin), 8 (axis), 9 (constant), 11 (reach).
+// Three cells under Mirror with 5 weights give 0, with 7 weights 11.
 pub fn judge_correlate(
     data: &[i64],
     shape: &[usize],
@@ -80,7 +83,8 @@ pub fn judge_correlate(
     convolution: bool,
     out: usize,
 ) -> u8
-    ensures { λ r. ⌜ r ≡ refusalOf (correlateJudged convolution (borderOf mode) origin (now (weights .entry)) (now (shape .entry)) axis (now («data» .entry)) out) ⌝ }
+    ensures { λ r. ⌜ r ≡ refusalOf (correlateJudged convolution (borderOf mode) origin (now (weights .entry))
+        (now (shape .entry)) axis (now («data» .entry)) out) ⌝ }
 {
     let refusal = array::judge_grid(data, shape, &[out]);
     if refusal != 0 {
@@ -112,7 +116,8 @@ pub fn judge_correlate_f64(
     convolution: bool,
     out: usize,
 ) -> u8
-    ensures { λ r. ⌜ r ≡ refusalOf (correlateJudgedF convolution (borderOfF64 mode) origin (now (weights .entry)) (now (shape .entry)) axis (now («data» .entry)) out) ⌝ }
+    ensures { λ r. ⌜ r ≡ refusalOf (correlateJudgedF convolution (borderOfF64 mode) origin (now (weights .entry))
+        (now (shape .entry)) axis (now («data» .entry)) out) ⌝ }
 {
     let refusal = array::judge_grid_f64(data, shape, &[out]);
     if refusal != 0 {
@@ -132,7 +137,7 @@ pub fn judge_correlate_f64(
     )
 }
 
-// Worked rows of this crate's definitions: weights along an axis, grid kernels. Refuses nothing.
+// Worked rows of this crate's definitions: weights along an axis, grid kernels.
 pub fn rows()
     ensures { λ _. ⌜ CorrelateJudgeRows ⌝ }
 {}

@@ -3,7 +3,7 @@ ghost use mathlib.Core.Path.{_≡_};
 ghost use Rattle.numbers.specs.Lists.{anyOf};
 ghost use Rattle.correlate_judge.specs.Judge.{badWeight};
 
-// Condition 6 of one whole weight: outside -65,535..65,535. Refuses nothing. bad_weight(65535) is false, bad_weight(-65536) is true.
+// Condition 6 of one whole weight: outside -65,535..65,535. bad_weight(65535) is false, bad_weight(-65536) is true.
 pub fn bad_weight(z: i64) -> bool
     ensures { λ r. ⌜ r ≡ badWeight z ⌝ }
 {
@@ -16,7 +16,7 @@ pub fn bad_weight(z: i64) -> bool
     false
 }
 
-// Condition 6 of whole weights: some weight is outside. Refuses nothing. Of 1 65536 the answer is true.
+// Condition 6 of whole weights: some weight is outside. Of 1 65536 the answer is true.
 pub fn bad_weights(weights: &[i64]) -> bool
     ensures { λ r. ⌜ r ≡ anyOf badWeight (now (weights .entry)) ⌝ }
 {

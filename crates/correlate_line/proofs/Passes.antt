@@ -33,7 +33,8 @@ module _ {w s held : List ℤ} {n : ℕ} {out : List ℤ} (R : Adding w s held n
   pub passed : Addable w s held → n ≤ length w → Passed w s out
   passed A b = record {
     line = weighable-kept adding-length (A .line);
-    small = ap (anyOf _) (R .is) ∙ none-any _ (tabulate (addedTo held w s n) 0 (length held)) (every-table _ (addedTo held w s n) 0 (length held) (λ i. inside-sized (2 ^ 62) (addedTo held w s n i) (size i)));
+    small = ap (anyOf _) (R .is) ∙ none-any _ (tabulate (addedTo held w s n) 0 (length held))
+        (every-table _ (addedTo held w s n) 0 (length held) (λ i. inside-sized (2 ^ 62) (addedTo held w s n i) (size i)));
   }
     where
       many : (0 + n * 1) * (2 ^ 38 * 65535) ≤ 65 * (2 ^ 38 * 65535)

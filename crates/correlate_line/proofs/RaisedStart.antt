@@ -69,7 +69,8 @@ module _ {by : ℕ} {w s : List ℤ} {n : ℕ} (A : RaiseNeeds by w s n) where
     lowered m = computed _-ℤ_ base-held (times-computed m) (size-add (base-small liftable) (size-neg (total-small i m))) (omega arith)
 
     pub lowered-read : i < n → read (read base -ℤ read (read (t +ℤ read (getD s (i + (length w - 1)) (pos 0))) *ℤ read (pos by))) ≡ raisedStart by w s i
-    lowered-read h = computed-read (lowered (i + (length w - 1))) ∙ ap (λ (x : ℤ). raisedBase by w -ℤ x *ℤ pos by) (sum-enters s (length w - 1) i (omega (arith, A .weighable .some, A .weighable .long)) ∙ ap (λ k. windowSum s k i) whole)
+    lowered-read h = computed-read (lowered (i + (length w - 1))) ∙ ap (λ (x : ℤ). raisedBase by w -ℤ x *ℤ pos by)
+        (sum-enters s (length w - 1) i (omega (arith, A .weighable .some, A .weighable .long)) ∙ ap (λ k. windowSum s k i) whole)
       where
         whole : length w - 1 + 1 ≡ length w
         whole = omega (arith, A .weighable .some)

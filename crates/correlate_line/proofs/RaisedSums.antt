@@ -34,7 +34,8 @@ raised-sum x w a b n =
     summed-agree _+ℤ_ (pos 0) _ _ n (λ j h. term-apart (x j) (w j) a b)
     ∙ summed-plus (λ j. x j *ℤ w j) (λ j. x j *ℤ a +ℤ (w j +ℤ a) *ℤ b) n
     ∙ ap (λ (s : ℤ). Σ (λ j. x j *ℤ w j) n +ℤ s)
-    (summed-plus (λ j. x j *ℤ a) (λ j. (w j +ℤ a) *ℤ b) n ∙ (λ t. summed-times x a n t +ℤ (summed-times (λ j. w j +ℤ a) b n ∙ ap (λ (s : ℤ). s *ℤ b) (summed-plus w (λ j. a) n ∙ ap (λ (s : ℤ). Σ w n +ℤ s) (summed-same a n))) t))
+    (summed-plus (λ j. x j *ℤ a) (λ j. (w j +ℤ a) *ℤ b) n ∙ (λ t. summed-times x a n t +ℤ (summed-times (λ j. w j +ℤ a) b n
+    ∙ ap (λ (s : ℤ). s *ℤ b) (summed-plus w (λ j. a) n ∙ ap (λ (s : ℤ). Σ w n +ℤ s) (summed-same a n))) t))
 
 -- p and what was added, less what was added
 taken : (p c d : ℤ) → p +ℤ (c +ℤ d) +ℤ (pos 0 -ℤ d -ℤ c) ≡ p
@@ -74,7 +75,8 @@ module _ {by : ℕ} {w s t out : List ℤ} {n : ℕ} (e : t ≡ s) (A : RaiseNee
   long = ap length p ∙ length-tabulate (raisedStart by w s) 0 n
 
   pub raised-set : RaiseNeeds by w t (length out) × (out ≡ tabulate (raisedStart by w t) 0 (length out))
-  raised-set = subst (λ (x : List ℤ). RaiseNeeds by w x (length out) × (out ≡ tabulate (raisedStart by w x) 0 (length out))) (sym e) (raisable-kept long A, p ∙ ap (tabulate (raisedStart by w s) 0) (sym long))
+  raised-set = subst (λ (x : List ℤ). RaiseNeeds by w x (length out) × (out ≡ tabulate (raisedStart by w x) 0 (length out))) (sym e)
+      (raisable-kept long A, p ∙ ap (tabulate (raisedStart by w s) 0) (sym long))
 
   pub raised-sums : {new : List ℤ} → new ≡ tabulate (plainAt wholeOps w t) 0 (length out) → new ≡ tabulate (plainAt wholeOps w s) 0 n
   raised-sums q = q ∙ (λ j. tabulate (plainAt wholeOps w (e j)) 0 (long j))

@@ -40,7 +40,8 @@ module _ {by : ℕ} {w s : List ℤ} {n : ℕ} (A : RaiseNeeds by w s n) where
   -- ---- the size of a partial sum
   term-small : (a k : ℕ) → Size (term a k) (1 * (2 ^ 38 * 65535))
   term-small a k =
-      size-le (size-mul (subst (λ (z : ℤ). Size z 4294967295) (sym (cell a .is)) (record { size = cell a .small })) (subst (λ (z : ℤ). Size z 131070) (sym (weight k .is)) (record { size = weight k .small })))
+      size-le (size-mul (subst (λ (z : ℤ). Size z 4294967295) (sym (cell a .is)) (record { size = cell a .small }))
+      (subst (λ (z : ℤ). Size z 131070) (sym (weight k .is)) (record { size = weight k .small })))
       (omega arith)
 
   sum-small : (j i : ℕ) → Size (raisedTo by w s j i) ((130 + j * 1) * (2 ^ 38 * 65535))

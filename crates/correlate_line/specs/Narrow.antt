@@ -1,4 +1,5 @@
--- Numbers that are raised above zero: every cell by 2^31, every weight by up to 65,535, so that a product of two raised numbers is one multiply of the machine.
+-- Numbers that are raised above zero: every cell by 2^31, every weight by up to 65,535, so that a product of two raised
+-- numbers is one multiply of the machine.
 --   Raised by most x    x, raised, is 0 to most
 --   Narrow s            every cell of s, raised, is below 2^32
 --   raiseOf w           by how much the weights w are raised: by 65,535 where one is below 0, else not at all

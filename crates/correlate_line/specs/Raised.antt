@@ -1,11 +1,14 @@
--- Weighted sums of raised numbers: every cell is raised by 2^31 and every weight by up to 65,535, so that none is below 0 and each product is one multiply of
--- two numbers below 2^32. What raising adds to a sum is taken away where the sum starts.
+-- Weighted sums of raised numbers: every cell is raised by 2^31 and every weight by up to 65,535, so that none is below
+-- 0 and each product is one multiply of two numbers below 2^32. What raising adds to a sum is taken away where the sum
+-- starts.
 --   raisedBase by w           minus what raising the cells adds to a sum: 2^31 times the sum of the raised weights
---   raisedStart by w s i      what the sum of cell i starts from: from raisedBase, what raising the weights adds is taken away
+--   raisedStart by w s i      what the sum of cell i starts from: from raisedBase, what raising the weights adds is
+--                             taken away
 --   raisedTerm by w s i j     the window's cell j, raised, times weight j, raised
 --   raisedTo by w s n i       from the start, the first n terms
 --   Liftable by w             how large the weights w and by may be
---   RaiseNeeds by w s n         what the workers suppose: the weights w and the padded line s of n cells are weighable, and may be raised
+--   RaiseNeeds by w s n         what the workers suppose: the weights w and the padded line s of n cells are weighable,
+--                               and may be raised
 use Prim.Native.Nat.{ℕ, _+_, _≤_}
 use mathlib.Core.Path.{_≡_}
 use mathlib.Core.Bool.{false}

@@ -21,10 +21,13 @@ mod sums;
 pub use plain::add_line;
 pub use sums::sum_of;
 
-// Sets each cell of out to the weighted sum of its window of the padded line. From five weights on, raising them and the line pays; what the line then holds is of no use.
+// Sets each cell of out to the weighted sum of its window of the padded line. From five weights on, raising them and
+// the line pays; what the line then holds is of no use.
 pub fn correlate_line(weights: &[i64], line: &mut [i64], out: &mut [i64])
-    requires { ⌜ LineSumNeeds (now weights) (now line) (length (now out)) × (5 ≤ length (now weights) → Narrow (now line)) ⌝ }
-    ensures { λ _. ⌜ now (out .exit) ≡ weighedLine wholeOps NonSymmetric (now (weights .entry)) (now (line .entry)) (length (now (out .entry))) ⌝ }
+    requires { ⌜ LineSumNeeds (now weights) (now line) (length (now out))
+        × (5 ≤ length (now weights) → Narrow (now line)) ⌝ }
+    ensures { λ _. ⌜ now (out .exit) ≡ weighedLine wholeOps NonSymmetric (now (weights .entry)) (now (line .entry))
+        (length (now (out .entry))) ⌝ }
 {
     if weights.len() >= 5 {
         raised_line(weights, line, out);
@@ -34,7 +37,7 @@ pub fn correlate_line(weights: &[i64], line: &mut [i64], out: &mut [i64])
     add_line(weights, line, out);
 }
 
-// Worked rows of this crate's definitions. Refuses nothing.
+// Worked rows of this crate's definitions.
 pub fn rows()
     ensures { λ _. ⌜ CorrelateLineRows ⌝ }
 {}

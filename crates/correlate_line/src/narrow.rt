@@ -1,4 +1,5 @@
-// By how much weights are raised above zero, so that a product is one multiply of the machine. Which cells may be raised is a definition: specs/Narrow.antt.
+// By how much weights are raised above zero, so that a product is one multiply of the machine. Which cells may be
+// raised is a definition: specs/Narrow.antt.
 ghost use mathlib.Core.Path.{_≡_};
 ghost use Rattle.correlate_line.specs.Narrow.{raiseOf};
 

@@ -1,4 +1,5 @@
-// Adds the weighted sums of a whole line to what a row holds: three neighbouring weights a pass along the row while three are left, then one.
+// Adds the weighted sums of a whole line to what a row holds: three neighbouring weights a pass along the row while
+// three are left, then one.
 ghost use mathlib.Core.Path.{_≡_};
 ghost use Prim.Native.Nat.{_+_, _≤_, _<_};
 ghost use lib.ListN.{length};
@@ -9,7 +10,8 @@ ghost use Rattle.correlate_line.specs.Added.{plus, threeTerms, addedTo, 
 // Adds to every cell the term of cell j of its window.
 fn add_row(weights: &[i64], line: &[i64], j: usize, out: &mut [i64])
     requires { ⌜ Passed (now weights) (now line) (now out) × (j < length (now weights)) ⌝ }
-    ensures { λ _. ⌜ now (out .exit) ≡ tabulate (plus (now (out .entry)) (λ i. cellTerm wholeOps (now (weights .entry)) (now (line .entry)) i j)) 0 (length (now (out .entry))) ⌝ }
+    ensures { λ _. ⌜ now (out .exit) ≡ tabulate (plus (now (out .entry))
+        (λ i. cellTerm wholeOps (now (weights .entry)) (now (line .entry)) i j)) 0 (length (now (out .entry))) ⌝ }
 {
     let weight = weights[j];
     let n = out.len();
@@ -20,11 +22,13 @@ fn add_row(weights: &[i64], line: &[i64], j: usize, out: &mut [i64])
     }
 }
 
-// Adds to every cell the terms of cells j to j + 2 of its window. Two of them are kept from cell to cell: so the compiler makes one machine multiply of a product,
-// where it makes several vector instructions of one whose cell is read anew.
+// Adds to every cell the terms of cells j to j + 2 of its window. Two of them are kept from cell to cell: so the
+// compiler makes one machine multiply of a product, where it makes several vector instructions of one whose cell is
+// read anew.
 fn add_three_rows(weights: &[i64], line: &[i64], j: usize, out: &mut [i64])
     requires { ⌜ Passed (now weights) (now line) (now out) × (j + 3 ≤ length (now weights)) ⌝ }
-    ensures { λ _. ⌜ now (out .exit) ≡ tabulate (plus (now (out .entry)) (λ i. threeTerms (now (weights .entry)) (now (line .entry)) i j)) 0 (length (now (out .entry))) ⌝ }
+    ensures { λ _. ⌜ now (out .exit) ≡ tabulate (plus (now (out .entry))
+        (λ i. threeTerms (now (weights .entry)) (now (line .entry)) i j)) 0 (length (now (out .entry))) ⌝ }
 {
     let w0 = weights[j];
     let w1 = weights[j + 1];
@@ -45,7 +49,9 @@ fn add_three_rows(weights: &[i64], line: &[i64], j: usize, out: &mut [i64])
 // Adds the terms of three weights at a time while three are left, and says how many were taken.
 fn add_threes(weights: &[i64], line: &[i64], out: &mut [i64]) -> usize
     requires { ⌜ Addable (now weights) (now line) (now out) ⌝ }
-    ensures { λ r. ⌜ (r ≤ length (now (weights .entry))) × (now (out .exit) ≡ tabulate (addedTo (now (out .entry)) (now (weights .entry)) (now (line .entry)) r) 0 (length (now (out .entry)))) ⌝ }
+    ensures { λ r. ⌜ (r ≤ length (now (weights .entry))) × (now (out .exit)
+        ≡ tabulate (addedTo (now (out .entry)) (now (weights .entry)) (now (line .entry)) r) 0
+        (length (now (out .entry)))) ⌝ }
 {
     let count = weights.len();
     let mut k = 0;
@@ -59,7 +65,8 @@ fn add_threes(weights: &[i64], line: &[i64], out: &mut [i64]) -> usize
 // Adds to each cell of out the weighted sum of its window of the padded line.
 pub fn add_line(weights: &[i64], line: &[i64], out: &mut [i64])
     requires { ⌜ Addable (now weights) (now line) (now out) ⌝ }
-    ensures { λ _. ⌜ now (out .exit) ≡ tabulate (addedTo (now (out .entry)) (now (weights .entry)) (now (line .entry)) (length (now (weights .entry)))) 0 (length (now (out .entry))) ⌝ }
+    ensures { λ _. ⌜ now (out .exit) ≡ tabulate (addedTo (now (out .entry)) (now (weights .entry)) (now (line .entry))
+        (length (now (weights .entry)))) 0 (length (now (out .entry))) ⌝ }
 {
     let count = weights.len();
     let mut k = add_threes(weights, line, out);

@@ -1,5 +1,6 @@
-// The weighted sums of a line whose cells fit 32 bits, four weights a pass: cells and weights are raised so that none is below 0, and a product is one
-// multiply of the machine. What raising adds is taken away beforehand. The line is a buffer of the caller's, and its cells are raised in place.
+// The weighted sums of a line whose cells fit 32 bits, four weights a pass: cells and weights are raised so that none
+// is below 0, and a product is one multiply of the machine. What raising adds is taken away beforehand. The line is a
+// buffer of the caller's, and its cells are raised in place.
 ghost use mathlib.Core.Path.{_≡_};
 ghost use Prim.Native.Nat.{_+_, _≤_, _<_};
 ghost use lib.ListN.{length};
@@ -20,8 +21,10 @@ use crate::raised_terms::raised_weight;
 
 // Adds to every cell the raised term of cell j of its window. The line holds raised cells.
 fn add_raised_row(weights: &[i64], line: &[i64], by: u32, j: usize, out: &mut [i64])
-    requires { ⌜ RaiseNeeds by (now weights) (lowered (now line)) (length (now out)) × (j < length (now weights)) × (now out ≡ tabulate (raisedTo by (now weights) (lowered (now line)) j) 0 (length (now out))) ⌝ }
-    ensures { λ _. ⌜ now (out .exit) ≡ tabulate (raisedTo by (now (weights .entry)) (lowered (now (line .entry))) (j + 1)) 0 (length (now (out .entry))) ⌝ }
+    requires { ⌜ RaiseNeeds by (now weights) (lowered (now line)) (length (now out)) × (j < length (now weights))
+        × (now out ≡ tabulate (raisedTo by (now weights) (lowered (now line)) j) 0 (length (now out))) ⌝ }
+    ensures { λ _. ⌜ now (out .exit) ≡ tabulate (raisedTo by (now (weights .entry)) (lowered (now (line .entry)))
+        (j + 1)) 0 (length (now (out .entry))) ⌝ }
 {
     let weight = raised_weight(weights, by, j);
     let n = out.len();
@@ -34,8 +37,10 @@ fn add_raised_row(weights: &[i64], line: &[i64], by: u32, j: usize, out: &mut [i
 
 // Adds to every cell the raised terms of cells j to j + 3 of its window. The line holds raised cells.
 fn add_four_raised_rows(weights: &[i64], line: &[i64], by: u32, j: usize, out: &mut [i64])
-    requires { ⌜ RaiseNeeds by (now weights) (lowered (now line)) (length (now out)) × (j + 4 ≤ length (now weights)) × (now out ≡ tabulate (raisedTo by (now weights) (lowered (now line)) j) 0 (length (now out))) ⌝ }
-    ensures { λ _. ⌜ now (out .exit) ≡ tabulate (raisedTo by (now (weights .entry)) (lowered (now (line .entry))) (j + 4)) 0 (length (now (out .entry))) ⌝ }
+    requires { ⌜ RaiseNeeds by (now weights) (lowered (now line)) (length (now out)) × (j + 4 ≤ length (now weights))
+        × (now out ≡ tabulate (raisedTo by (now weights) (lowered (now line)) j) 0 (length (now out))) ⌝ }
+    ensures { λ _. ⌜ now (out .exit) ≡ tabulate (raisedTo by (now (weights .entry)) (lowered (now (line .entry)))
+        (j + 4)) 0 (length (now (out .entry))) ⌝ }
 {
     let four = raised_four(weights, by, j);
     let n = out.len();
@@ -46,10 +51,13 @@ fn add_four_raised_rows(weights: &[i64], line: &[i64], by: u32, j: usize, out: &
     }
 }
 
-// Adds to every cell the raised terms of all weights, four weights a pass while four are left. The line holds raised cells, and every cell what its sum starts from.
+// Adds to every cell the raised terms of all weights, four weights a pass while four are left. The line holds raised
+// cells, and every cell what its sum starts from.
 fn add_raised(weights: &[i64], line: &[i64], by: u32, out: &mut [i64])
-    requires { ⌜ RaiseNeeds by (now weights) (lowered (now line)) (length (now out)) × (now out ≡ tabulate (raisedStart by (now weights) (lowered (now line))) 0 (length (now out))) ⌝ }
-    ensures { λ _. ⌜ now (out .exit) ≡ weighedLine wholeOps NonSymmetric (now (weights .entry)) (lowered (now (line .entry))) (length (now (out .entry))) ⌝ }
+    requires { ⌜ RaiseNeeds by (now weights) (lowered (now line)) (length (now out)) × (now out
+        ≡ tabulate (raisedStart by (now weights) (lowered (now line))) 0 (length (now out))) ⌝ }
+    ensures { λ _. ⌜ now (out .exit) ≡ weighedLine wholeOps NonSymmetric (now (weights .entry))
+        (lowered (now (line .entry))) (length (now (out .entry))) ⌝ }
 {
     let count = weights.len();
     let mut k = 0;
@@ -66,7 +74,8 @@ fn add_raised(weights: &[i64], line: &[i64], by: u32, out: &mut [i64])
 // Every cell of the window times its own weight, both raised. What the line then holds is of no use.
 pub(crate) fn raised_line(weights: &[i64], line: &mut [i64], out: &mut [i64])
     requires { ⌜ LineSumNeeds (now weights) (now line) (length (now out)) × Narrow (now line) ⌝ }
-    ensures { λ _. ⌜ now (out .exit) ≡ weighedLine wholeOps NonSymmetric (now (weights .entry)) (now (line .entry)) (length (now (out .entry))) ⌝ }
+    ensures { λ _. ⌜ now (out .exit) ≡ weighedLine wholeOps NonSymmetric (now (weights .entry)) (now (line .entry))
+        (length (now (out .entry))) ⌝ }
 {
     let by = raise_of(weights);
     start_row(weights, line, by, out);

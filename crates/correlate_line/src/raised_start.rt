@@ -20,7 +20,8 @@ fn base_of(weights: &[i64], by: u32) -> i64
 // Sets every cell to base less what raising the weights adds to its sum: the sum of its window, by times.
 fn lower_row(weights: &[i64], line: &[i64], by: u32, base: i64, out: &mut [i64])
     requires { ⌜ RaiseNeeds by (now weights) (now line) (length (now out)) × (base ≡ raisedBase by (now weights)) ⌝ }
-    ensures { λ _. ⌜ now (out .exit) ≡ tabulate (raisedStart by (now (weights .entry)) (now (line .entry))) 0 (length (now (out .entry))) ⌝ }
+    ensures { λ _. ⌜ now (out .exit) ≡ tabulate (raisedStart by (now (weights .entry)) (now (line .entry))) 0
+        (length (now (out .entry))) ⌝ }
 {
     let times = by as i64;
     let before = weights.len() - 1;
@@ -38,7 +39,8 @@ fn lower_row(weights: &[i64], line: &[i64], by: u32, base: i64, out: &mut [i64])
 // Sets every cell to what its sum starts from: minus what raising adds to it.
 pub(crate) fn start_row(weights: &[i64], line: &[i64], by: u32, out: &mut [i64])
     requires { ⌜ RaiseNeeds by (now weights) (now line) (length (now out)) ⌝ }
-    ensures { λ _. ⌜ now (out .exit) ≡ tabulate (raisedStart by (now (weights .entry)) (now (line .entry))) 0 (length (now (out .entry))) ⌝ }
+    ensures { λ _. ⌜ now (out .exit) ≡ tabulate (raisedStart by (now (weights .entry)) (now (line .entry))) 0
+        (length (now (out .entry))) ⌝ }
 {
     let base = base_of(weights, by);
     if by == 0 {

@@ -1,5 +1,6 @@
-// Cells, weights and terms that are raised above zero: a product is one multiply of numbers below 2^32. The way through 32 bits lets the compiler see that the upper
-// half is 0. A line's cells are raised once, in place, and not for every weight.
+// Cells, weights and terms that are raised above zero: a product is one multiply of numbers below 2^32. The way through
+// 32 bits lets the compiler see that the upper half is 0. A line's cells are raised once, in place, and not for every
+// weight.
 ghost use mathlib.Core.Path.{_≡_};
 ghost use Prim.Native.Nat.{_+_, _*_, _^_, _≤_, _<_};
 ghost use lib.IntN.{pos};
@@ -28,7 +29,10 @@ pub(crate) fn raised_weight(weights: &[i64], by: u32, j: usize) -> u64
 // Weights j to j + 3, raised.
 pub(crate) fn raised_four(weights: &[i64], by: u32, j: usize) -> Four
     requires { ⌜ Every (Raised by 131070) (now weights) × (by ≤ largestWeight) × (j + 4 ≤ length (now weights)) ⌝ }
-    ensures { λ r. ⌜ RaisedWeight by (now (weights .entry)) j (r .w0) × RaisedWeight by (now (weights .entry)) (j + 1) (r .w1) × RaisedWeight by (now (weights .entry)) (j + 2) (r .w2) × RaisedWeight by (now (weights .entry)) (j + 3) (r .w3) ⌝ }
+    ensures { λ r. ⌜ RaisedWeight by (now (weights .entry)) j (r .w0)
+        × RaisedWeight by (now (weights .entry)) (j + 1) (r .w1)
+        × RaisedWeight by (now (weights .entry)) (j + 2) (r .w2)
+        × RaisedWeight by (now (weights .entry)) (j + 3) (r .w3) ⌝ }
 {
     let w0 = raised_weight(weights, by, j);
     let w1 = raised_weight(weights, by, j + 1);
@@ -65,8 +69,10 @@ pub(crate) fn raised_term(line: &[i64], at: usize, weight: u64) -> u64
 
 // The raised cells at four neighbouring places, each times its raised weight, in one sum.
 pub(crate) fn four_terms(line: &[i64], at: usize, four: Four) -> u64
-    requires { ⌜ Narrow (lowered (now line)) × (at + 4 ≤ length (now line)) × (four .w0 ≤ 131070) × (four .w1 ≤ 131070) × (four .w2 ≤ 131070) × (four .w3 ≤ 131070) ⌝ }
-    ensures { λ r. ⌜ (pos r ≡ fourProducts (lowered (now (line .entry))) at (four .w0) (four .w1) (four .w2) (four .w3)) × (r ≤ 4 * (2 ^ 38 * largestWeight)) ⌝ }
+    requires { ⌜ Narrow (lowered (now line)) × (at + 4 ≤ length (now line)) × (four .w0 ≤ 131070) × (four .w1 ≤ 131070)
+        × (four .w2 ≤ 131070) × (four .w3 ≤ 131070) ⌝ }
+    ensures { λ r. ⌜ (pos r ≡ fourProducts (lowered (now (line .entry))) at (four .w0) (four .w1) (four .w2) (four .w3))
+        × (r ≤ 4 * (2 ^ 38 * largestWeight)) ⌝ }
 {
     let t0 = raised_term(line, at, four.w0);
     let t1 = raised_term(line, at + 1, four.w1);

@@ -18,7 +18,8 @@ mod terms;
 // Sets every cell to 0.0 and the term of the first cell of its window.
 fn start_row(weights: &[f64], line: &[f64], out: &mut [f64])
     requires { ⌜ Windows (now weights) (now line) (length (now out)) ⌝ }
-    ensures { λ _. ⌜ now (out .exit) ≡ tabulate (plainTo floatOps (now (weights .entry)) (now (line .entry)) 1) 0 (length (now (out .entry))) ⌝ }
+    ensures { λ _. ⌜ now (out .exit) ≡ tabulate (plainTo floatOps (now (weights .entry)) (now (line .entry)) 1) 0
+        (length (now (out .entry))) ⌝ }
 {
     let weight = weights[0];
     let n = out.len();
@@ -32,7 +33,8 @@ fn start_row(weights: &[f64], line: &[f64], out: &mut [f64])
 // Sets every cell to 0.0 and the terms of the first four cells of its window.
 fn start_four_rows(weights: &[f64], line: &[f64], out: &mut [f64])
     requires { ⌜ Windows (now weights) (now line) (length (now out)) × (4 ≤ length (now weights)) ⌝ }
-    ensures { λ _. ⌜ now (out .exit) ≡ tabulate (plainTo floatOps (now (weights .entry)) (now (line .entry)) 4) 0 (length (now (out .entry))) ⌝ }
+    ensures { λ _. ⌜ now (out .exit) ≡ tabulate (plainTo floatOps (now (weights .entry)) (now (line .entry)) 4) 0
+        (length (now (out .entry))) ⌝ }
 {
     let four = four_weights(weights, 0);
     let n = out.len();
@@ -46,7 +48,8 @@ fn start_four_rows(weights: &[f64], line: &[f64], out: &mut [f64])
 // Starts every cell with the first four weights, or with the first where there are fewer, and says how many were taken.
 fn start_rows(weights: &[f64], line: &[f64], out: &mut [f64]) -> usize
     requires { ⌜ Windows (now weights) (now line) (length (now out)) ⌝ }
-    ensures { λ r. ⌜ (r ≤ length (now (weights .entry))) × (now (out .exit) ≡ tabulate (plainTo floatOps (now (weights .entry)) (now (line .entry)) r) 0 (length (now (out .entry)))) ⌝ }
+    ensures { λ r. ⌜ (r ≤ length (now (weights .entry))) × (now (out .exit)
+        ≡ tabulate (plainTo floatOps (now (weights .entry)) (now (line .entry)) r) 0 (length (now (out .entry)))) ⌝ }
 {
     if weights.len() < 4 {
         start_row(weights, line, out);
@@ -58,8 +61,10 @@ fn start_rows(weights: &[f64], line: &[f64], out: &mut [f64]) -> usize
 
 // Adds to every cell the term of cell j of its window.
 fn add_row(weights: &[f64], line: &[f64], j: usize, out: &mut [f64])
-    requires { ⌜ Windows (now weights) (now line) (length (now out)) × (j < length (now weights)) × (now out ≡ tabulate (plainTo floatOps (now weights) (now line) j) 0 (length (now out))) ⌝ }
-    ensures { λ _. ⌜ now (out .exit) ≡ tabulate (plainTo floatOps (now (weights .entry)) (now (line .entry)) (j + 1)) 0 (length (now (out .entry))) ⌝ }
+    requires { ⌜ Windows (now weights) (now line) (length (now out)) × (j < length (now weights)) × (now out
+        ≡ tabulate (plainTo floatOps (now weights) (now line) j) 0 (length (now out))) ⌝ }
+    ensures { λ _. ⌜ now (out .exit) ≡ tabulate (plainTo floatOps (now (weights .entry)) (now (line .entry)) (j + 1)) 0
+        (length (now (out .entry))) ⌝ }
 {
     let weight = weights[j];
     let n = out.len();
@@ -72,8 +77,10 @@ fn add_row(weights: &[f64], line: &[f64], j: usize, out: &mut [f64])
 
 // Adds to every cell the terms of cells j to j + 3 of its window, one after the other.
 fn add_four_rows(weights: &[f64], line: &[f64], j: usize, out: &mut [f64])
-    requires { ⌜ Windows (now weights) (now line) (length (now out)) × (j + 4 ≤ length (now weights)) × (now out ≡ tabulate (plainTo floatOps (now weights) (now line) j) 0 (length (now out))) ⌝ }
-    ensures { λ _. ⌜ now (out .exit) ≡ tabulate (plainTo floatOps (now (weights .entry)) (now (line .entry)) (j + 4)) 0 (length (now (out .entry))) ⌝ }
+    requires { ⌜ Windows (now weights) (now line) (length (now out)) × (j + 4 ≤ length (now weights)) × (now out
+        ≡ tabulate (plainTo floatOps (now weights) (now line) j) 0 (length (now out))) ⌝ }
+    ensures { λ _. ⌜ now (out .exit) ≡ tabulate (plainTo floatOps (now (weights .entry)) (now (line .entry)) (j + 4)) 0
+        (length (now (out .entry))) ⌝ }
 {
     let four = four_weights(weights, j);
     let n = out.len();
@@ -87,7 +94,8 @@ fn add_four_rows(weights: &[f64], line: &[f64], j: usize, out: &mut [f64])
 // Every cell of the window times its own weight.
 fn plain_line(weights: &[f64], line: &[f64], out: &mut [f64])
     requires { ⌜ Windows (now weights) (now line) (length (now out)) ⌝ }
-    ensures { λ _. ⌜ now (out .exit) ≡ weighedLine floatOps NonSymmetric (now (weights .entry)) (now (line .entry)) (length (now (out .entry))) ⌝ }
+    ensures { λ _. ⌜ now (out .exit) ≡ weighedLine floatOps NonSymmetric (now (weights .entry)) (now (line .entry))
+        (length (now (out .entry))) ⌝ }
 {
     let count = weights.len();
     let mut k = start_rows(weights, line, out);
@@ -101,10 +109,12 @@ fn plain_line(weights: &[f64], line: &[f64], out: &mut [f64])
     }
 }
 
-// Sets each cell of out to the weighted sum of its window of the padded line, summed as the class says: each operation rounded, in that order.
+// Sets each cell of out to the weighted sum of its window of the padded line, summed as the class says: each operation
+// rounded, in that order.
 pub fn correlate_line_f64(weights: &[f64], class: SymmetryState, line: &[f64], out: &mut [f64])
     requires { ⌜ Windows (now weights) (now line) (length (now out)) ⌝ }
-    ensures { λ _. ⌜ now (out .exit) ≡ weighedLine floatOps class (now (weights .entry)) (now (line .entry)) (length (now (out .entry))) ⌝ }
+    ensures { λ _. ⌜ now (out .exit) ≡ weighedLine floatOps class (now (weights .entry)) (now (line .entry))
+        (length (now (out .entry))) ⌝ }
 {
     match class {
         SymmetryState::NonSymmetric => plain_line(weights, line, out),
@@ -113,7 +123,7 @@ pub fn correlate_line_f64(weights: &[f64], class: SymmetryState, line: &[f64], o
     }
 }
 
-// Worked rows of this crate's definitions. Refuses nothing.
+// Worked rows of this crate's definitions.
 pub fn rows()
     ensures { λ _. ⌜ CorrelateLineF64Rows ⌝ }
 {}

@@ -1,4 +1,5 @@
-// As `pair_line`, of floats: each operation is rounded, in the order that the definition has. The pair is rounded first, then the product, then the sum.
+// As `pair_line`, of floats: each operation is rounded, in the order that the definition has. The pair is rounded
+// first, then the product, then the sum.
 ghost use mathlib.Core.Path.{_≡_};
 ghost use Prim.Native.Nat.{_+_, _-_, _/_, _<_};
 ghost use lib.ListN.{length};
@@ -12,7 +13,8 @@ use window::window_f64;
 // Sets every cell to cell j of its window times weight j.
 fn set_row(weights: &[f64], line: &[f64], j: usize, out: &mut [f64])
     requires { ⌜ Windows (now weights) (now line) (length (now out)) × (j < length (now weights)) ⌝ }
-    ensures { λ _. ⌜ now (out .exit) ≡ tabulate (λ i. cellTerm floatOps (now (weights .entry)) (now (line .entry)) i j) 0 (length (now (out .entry))) ⌝ }
+    ensures { λ _. ⌜ now (out .exit) ≡ tabulate (λ i. cellTerm floatOps (now (weights .entry)) (now (line .entry)) i j)
+        0 (length (now (out .entry))) ⌝ }
 {
     let weight = weights[j];
     let n = out.len();
@@ -26,8 +28,11 @@ fn set_row(weights: &[f64], line: &[f64], j: usize, out: &mut [f64])
 
 // Adds to every cell the term of its window's cells left and right, which mirror each other.
 fn add_pairs(weights: &[f64], minus: bool, line: &[f64], left: usize, right: usize, out: &mut [f64])
-    requires { ⌜ Windows (now weights) (now line) (length (now out)) × (left < length (now weights) / 2) × (right ≡ length (now weights) - 1 - left) × (now out ≡ tabulate (pairsTo floatOps (joinedBy floatOps minus) (now weights) (now line) left) 0 (length (now out))) ⌝ }
-    ensures { λ _. ⌜ now (out .exit) ≡ tabulate (pairsTo floatOps (joinedBy floatOps minus) (now (weights .entry)) (now (line .entry)) (left + 1)) 0 (length (now (out .entry))) ⌝ }
+    requires { ⌜ Windows (now weights) (now line) (length (now out)) × (left < length (now weights) / 2) × (right
+        ≡ length (now weights) - 1 - left) × (now out ≡ tabulate
+        (pairsTo floatOps (joinedBy floatOps minus) (now weights) (now line) left) 0 (length (now out))) ⌝ }
+    ensures { λ _. ⌜ now (out .exit) ≡ tabulate (pairsTo floatOps (joinedBy floatOps minus) (now (weights .entry))
+        (now (line .entry)) (left + 1)) 0 (length (now (out .entry))) ⌝ }
 {
     let shared = weights[left];
     let n = out.len();
@@ -47,8 +52,11 @@ fn add_two_pairs(
     right: usize,
     out: &mut [f64],
 )
-    requires { ⌜ Windows (now weights) (now line) (length (now out)) × (left + 1 < length (now weights) / 2) × (right ≡ length (now weights) - 1 - left) × (now out ≡ tabulate (pairsTo floatOps (joinedBy floatOps minus) (now weights) (now line) left) 0 (length (now out))) ⌝ }
-    ensures { λ _. ⌜ now (out .exit) ≡ tabulate (pairsTo floatOps (joinedBy floatOps minus) (now (weights .entry)) (now (line .entry)) (left + 2)) 0 (length (now (out .entry))) ⌝ }
+    requires { ⌜ Windows (now weights) (now line) (length (now out)) × (left + 1 < length (now weights) / 2) × (right
+        ≡ length (now weights) - 1 - left) × (now out ≡ tabulate
+        (pairsTo floatOps (joinedBy floatOps minus) (now weights) (now line) left) 0 (length (now out))) ⌝ }
+    ensures { λ _. ⌜ now (out .exit) ≡ tabulate (pairsTo floatOps (joinedBy floatOps minus) (now (weights .entry))
+        (now (line .entry)) (left + 2)) 0 (length (now (out .entry))) ⌝ }
 {
     let outer = weights[left];
     let inner = weights[left + 1];
@@ -62,12 +70,14 @@ fn add_two_pairs(
     }
 }
 
-// Sets each cell of out to the sum of its window by pairs: the middle cell and then the pairs from the outside in, joined by difference where minus is true, else by
-// sum. The weights of the right half are not read. The loop ends by left and right: where it ends by left and a count, LLVM (22) takes the test that line and out
-// do not overlap out of the loop, can't make it for a place that goes down, and leaves the row's loop without vectors.
+// Sets each cell of out to the sum of its window by pairs: the middle cell and then the pairs from the outside in,
+// joined by difference where minus is true, else by sum. The weights of the right half are not read. The loop ends by
+// left and right: where it ends by left and a count, LLVM (22) takes the test that line and out do not overlap out of
+// the loop, can't make it for a place that goes down, and leaves the row's loop without vectors.
 pub(crate) fn pair_line_f64(weights: &[f64], minus: bool, line: &[f64], out: &mut [f64])
     requires { ⌜ Windows (now weights) (now line) (length (now out)) ⌝ }
-    ensures { λ _. ⌜ now (out .exit) ≡ tabulate (pairsAt floatOps (joinedBy floatOps minus) (now (weights .entry)) (now (line .entry))) 0 (length (now (out .entry))) ⌝ }
+    ensures { λ _. ⌜ now (out .exit) ≡ tabulate (pairsAt floatOps (joinedBy floatOps minus) (now (weights .entry))
+        (now (line .entry))) 0 (length (now (out .entry))) ⌝ }
 {
     let half = weights.len() / 2;
     set_row(weights, line, half, out);

@@ -1,8 +1,12 @@
 -- Correlation and convolution along an axis, from SciPy's pages on `correlate1d` and `convolve1d`, over any element.
---   correlatedLine o class b left right w s    for each cell of the lane s the weighted sum of its window of the padded line
---   correlatedBy o class b origin w ns a cells one weight: every cell times it, nothing padded, origin not read; else correlatedLine on every lane of axis a
+--   correlatedLine o class b left right w s    for each cell of the lane s the weighted sum of its window of the padded
+--                                              line
+--   correlatedBy o class b origin w ns a cells
+--                                one weight: every cell times it, nothing padded, origin not read; else
+--                                correlatedLine on every lane of axis a
 --   correlate1dZ, convolve1dZ    whole numbers: the plain sum; convolution reverses the weights
---   correlate1dF, convolve1dF    floats: summed as the class of the weights says, as they are summed (after the reversal in convolution)
+--   correlate1dF, convolve1dF    floats: summed as the class of the weights says, as they are summed (after the
+--                                reversal in convolution)
 use Prim.Native.Nat.{ℕ, _-_, _/_, _%_}
 use mathlib.Core.Bool.{cond}
 use mathlib.Core.List.{List, map, reverse}
@@ -22,10 +26,12 @@ use Rattle.window.specs.Window.{leftPad, rightPad, changedOrigin}
 abbrev pub correlatedLine : {A : Type 0} → Ops A → SymmetryState → Border A → ℕ → ℕ → List A → List A → List A
 correlatedLine o class b left right w s = weighedLine o class w (paddedLine (o .past) b left right s) (length s)
 
-unfoldable pub correlatedBy : {A : Type 0} → Ops A → SymmetryState → Border A → ℤ → List A → List ℕ → ℕ → List A → List A
+unfoldable pub correlatedBy : {A : Type 0} → Ops A → SymmetryState → Border A → ℤ → List A → List ℕ → ℕ → List A
+    → List A
 correlatedBy o class b origin w ns a cells =
     cond (eqb (length w) 1) (map (λ x. o .product x (getD w 0 (o .past))) cells)
-    (alongAxis (o .past) (correlatedLine o class b (leftPad (length w) origin) (rightPad (length w) origin) w) ns a cells)
+    (alongAxis (o .past) (correlatedLine o class b (leftPad (length w) origin) (rightPad (length w) origin) w) ns a
+    cells)
 
 abbrev pub correlate1dZ : Border ℤ → ℤ → List ℤ → List ℕ → ℕ → List ℤ → List ℤ
 correlate1dZ b origin w ns a cells = correlatedBy wholeOps NonSymmetric b origin w ns a cells

@@ -1,11 +1,16 @@
--- Correlation and convolution with a kernel of as many axes as the grid, from SciPy's pages on `correlate` and `convolve`. Kernels have equal sides.
+-- Correlation and convolution with a kernel of as many axes as the grid, from SciPy's pages on `correlate` and
+-- `convolve`. Kernels have equal sides.
 --   sidesOf ns side               the kernel's shape
---   sideOf sides                  the side of a kernel of that shape, its first; 1 where there is none, a kernel that condition 5 refuses
---   windowAt left sides p k a     the coordinate on axis a of kernel cell k, in the window of the cell with coordinates p: the window starts at cell − left pad
---   kernelSum b left sides w ns cells p    the sum of the window of the cell with coordinates p, each cell of the extended grid times its weight
+--   sideOf sides                  the side of a kernel of that shape, its first; 1 where there is none, a kernel that
+--                                 condition 5 refuses
+--   windowAt left sides p k a     the coordinate on axis a of kernel cell k, in the window of the cell with coordinates
+--                                 p: the window starts at cell − left pad
+--   kernelSum b left sides w ns cells p    the sum of the window of the cell with coordinates p, each cell of the
+--                                          extended grid times its weight
 --   kernelAnswer b left sides w ns cells   the sums of all cells
 --   correlateZ b o sides w ns cells        the sums, the window moved by the origin o
---   convolveZ b o sides w ns cells         the same with the kernel reversed along every axis, so its list of weights from the last to the first, and
+--   convolveZ b o sides w ns cells         the same with the kernel reversed along every axis, so its list of weights
+--                                          from the last to the first, and
 --                                          the origin changed
 use Prim.Native.Nat.{ℕ, _/_}
 use mathlib.Core.List.{List, reverse}
@@ -27,10 +32,12 @@ abbrev pub windowAt : ℕ → List ℕ → (ℕ → ℕ) → ℕ → ℕ → ℤ
 windowAt left sides p k a = pos (p a) -ℤ pos left +ℤ pos (coordinate sides k a)
 
 unfoldable pub kernelSum : Border ℤ → ℕ → List ℕ → List ℤ → List ℕ → List ℤ → (ℕ → ℕ) → ℤ
-kernelSum b left sides w ns cells p = summed _+ℤ_ (pos 0) (λ k. extendedGrid (pos 0) b ns cells (windowAt left sides p k) *ℤ getD w k (pos 0)) (length w)
+kernelSum b left sides w ns cells p = summed _+ℤ_ (pos 0)
+    (λ k. extendedGrid (pos 0) b ns cells (windowAt left sides p k) *ℤ getD w k (pos 0)) (length w)
 
 unfoldable pub kernelAnswer : Border ℤ → ℕ → List ℕ → List ℤ → List ℕ → List ℤ → List ℤ
-kernelAnswer b left sides w ns cells = tabulate (λ k. kernelSum b left sides w ns cells (coordinate ns k)) 0 (cellCount ns)
+kernelAnswer b left sides w ns cells = tabulate (λ k. kernelSum b left sides w ns cells (coordinate ns k)) 0
+    (cellCount ns)
 
 abbrev pub correlateZ : Border ℤ → ℤ → List ℕ → List ℤ → List ℕ → List ℤ → List ℤ
 correlateZ b o sides w ns cells = kernelAnswer b (kernelLeft (sideOf sides) o) sides w ns cells

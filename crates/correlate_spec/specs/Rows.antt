@@ -34,7 +34,8 @@ abbrev pub three : (Border ℤ → ℤ → List ℤ → List ℕ → ℕ → Lis
 three f w = f (along Nearest) (pos 0) (wholes w) (3 ∷ []) 0 (wholes (1 ∷ 2 ∷ 3 ∷ []))
 
 abbrev pub squared : (Border ℤ → ℤ → List ℕ → List ℤ → List ℕ → List ℤ → List ℤ) → ℤ → List ℤ
-squared f o = f (along Nearest) o (sidesOf (2 ∷ 2 ∷ []) 2) (wholes (1 ∷ 0 ∷ 0 ∷ 10 ∷ [])) (2 ∷ 2 ∷ []) (wholes (1 ∷ 2 ∷ 3 ∷ 4 ∷ []))
+squared f o = f (along Nearest) o (sidesOf (2 ∷ 2 ∷ []) 2) (wholes (1 ∷ 0 ∷ 0 ∷ 10 ∷ [])) (2 ∷ 2 ∷ [])
+    (wholes (1 ∷ 2 ∷ 3 ∷ 4 ∷ []))
 
 abbrev pub nearly : List Float
 nearly = one ∷ fin false 1 (pos 1) ∷ fin false 4503599627370497 (negsuc 51) ∷ []
@@ -48,16 +49,24 @@ pub record CorrelateSpecRows : Type 0 where
   pub symmetric : weighedAt wholeOps Symmetric (wholes (1 ∷ 2 ∷ 1 ∷ [])) (wholes (3 ∷ 7 ∷ 4 ∷ [])) 0 ≡ pos 21
   pub anti : weighedAt wholeOps AntiSymmetric (minus 1 ∷ pos 5 ∷ pos 1 ∷ []) (wholes (3 ∷ 7 ∷ 4 ∷ [])) 0 ≡ pos 36
   -- T2 and T3: 1 2 3 with weights 1 2 3 and 1 10 under Nearest; one weight with an origin that is not read
-  pub t2 : three correlate1dZ (1 ∷ 2 ∷ 3 ∷ []) ∷ three convolve1dZ (1 ∷ 2 ∷ 3 ∷ []) ∷ [] ≡ wholes (9 ∷ 14 ∷ 17 ∷ []) ∷ wholes (7 ∷ 10 ∷ 15 ∷ []) ∷ []
-  pub t3 : three correlate1dZ (1 ∷ 10 ∷ []) ∷ three convolve1dZ (1 ∷ 10 ∷ []) ∷ [] ≡ wholes (11 ∷ 21 ∷ 32 ∷ []) ∷ wholes (12 ∷ 23 ∷ 33 ∷ []) ∷ []
+  pub t2 : three correlate1dZ (1 ∷ 2 ∷ 3 ∷ []) ∷ three convolve1dZ (1 ∷ 2 ∷ 3 ∷ []) ∷ []
+      ≡ wholes (9 ∷ 14 ∷ 17 ∷ []) ∷ wholes (7 ∷ 10 ∷ 15 ∷ []) ∷ []
+  pub t3 : three correlate1dZ (1 ∷ 10 ∷ []) ∷ three convolve1dZ (1 ∷ 10 ∷ []) ∷ []
+      ≡ wholes (11 ∷ 21 ∷ 32 ∷ []) ∷ wholes (12 ∷ 23 ∷ 33 ∷ []) ∷ []
   -- the same moved by origin 1, which a convolution negates
-  pub moved : correlate1dZ (along Nearest) (pos 1) (wholes (1 ∷ 2 ∷ 3 ∷ [])) (3 ∷ []) 0 (wholes (1 ∷ 2 ∷ 3 ∷ [])) ∷ convolve1dZ (along Nearest) (pos 1) (wholes (1 ∷ 2 ∷ 3 ∷ [])) (3 ∷ []) 0 (wholes (1 ∷ 2 ∷ 3 ∷ [])) ∷ [] ≡ wholes (6 ∷ 9 ∷ 14 ∷ []) ∷ wholes (10 ∷ 15 ∷ 18 ∷ []) ∷ []
-  pub one-weight : correlate1dZ (along Nearest) (pos 99) (wholes (4 ∷ [])) (3 ∷ []) 0 (wholes (1 ∷ 2 ∷ 3 ∷ [])) ≡ wholes (4 ∷ 8 ∷ 12 ∷ [])
-  -- floats 0, 0, 1 under weights 1, 2, 1 + 2^−52 and Constant 0: cell 1 of the correlation is exactly 1, of the convolution 1 + 2^−52
-  pub float : getD (correlate1dF (constant none) (pos 0) nearly (3 ∷ []) 0 (none ∷ none ∷ one ∷ [])) 1 none ∷ getD (convolve1dF (constant none) (pos 0) nearly (3 ∷ []) 0 (none ∷ none ∷ one ∷ [])) 1 none ∷ []
+  pub moved : correlate1dZ (along Nearest) (pos 1) (wholes (1 ∷ 2 ∷ 3 ∷ [])) (3 ∷ []) 0 (wholes (1 ∷ 2 ∷ 3 ∷ []))
+      ∷ convolve1dZ (along Nearest) (pos 1) (wholes (1 ∷ 2 ∷ 3 ∷ [])) (3 ∷ []) 0 (wholes (1 ∷ 2 ∷ 3 ∷ [])) ∷ []
+      ≡ wholes (6 ∷ 9 ∷ 14 ∷ []) ∷ wholes (10 ∷ 15 ∷ 18 ∷ []) ∷ []
+  pub one-weight : correlate1dZ (along Nearest) (pos 99) (wholes (4 ∷ [])) (3 ∷ []) 0 (wholes (1 ∷ 2 ∷ 3 ∷ []))
+      ≡ wholes (4 ∷ 8 ∷ 12 ∷ [])
+  -- floats 0, 0, 1 under weights 1, 2, 1 + 2^−52 and Constant 0: cell 1 of the correlation is exactly 1, of the
+  -- convolution 1 + 2^−52
+  pub float : getD (correlate1dF (constant none) (pos 0) nearly (3 ∷ []) 0 (none ∷ none ∷ one ∷ [])) 1 none
+      ∷ getD (convolve1dF (constant none) (pos 0) nearly (3 ∷ []) 0 (none ∷ none ∷ one ∷ [])) 1 none ∷ []
       ≡ one ∷ fin false 4503599627370497 (negsuc 51) ∷ []
   -- floats 0, 0, 1 under weights 1, 2, 1 + 2^−52, taken as Symmetric: exactly 1; the right weight is not read
-  pub near : weighedAt floatOps Symmetric (one ∷ fin false 1 (pos 1) ∷ fin false 4503599627370497 (negsuc 51) ∷ []) (none ∷ none ∷ one ∷ []) 0 ≡ one
+  pub near : weighedAt floatOps Symmetric (one ∷ fin false 1 (pos 1) ∷ fin false 4503599627370497 (negsuc 51) ∷ [])
+      (none ∷ none ∷ one ∷ []) 0 ≡ one
   -- a plain sum starts from 0.0, one by pairs from its middle term: of the cell −0.0 under the weight 1, 0.0 and −0.0
   pub from-zero : weighedAt floatOps NonSymmetric (one ∷ []) (fin true 0 (pos 0) ∷ []) 0 ≡ none
   pub from-middle : weighedAt floatOps Symmetric (one ∷ []) (fin true 0 (pos 0) ∷ []) 0 ≡ fin true 0 (pos 0)
@@ -67,10 +76,15 @@ pub record CorrelateSpecRows : Type 0 where
   pub left-pads : kernelLeft 2 (pos 0) ∷ kernelLeft 2 (minus 1) ∷ kernelLeft 3 (pos 1) ∷ [] ≡ 1 ∷ 0 ∷ 2 ∷ []
   pub right-pads : kernelRight 2 (pos 0) ∷ kernelRight 2 (minus 1) ∷ kernelRight 3 (pos 1) ∷ [] ≡ 1 ∷ 2 ∷ 0 ∷ []
   -- T8, and its convolution: each cell 10 times, and the cell below and to the right of it
-  pub t8 : squared correlateZ (pos 0) ∷ squared convolveZ (pos 0) ∷ [] ≡ wholes (11 ∷ 21 ∷ 31 ∷ 41 ∷ []) ∷ wholes (14 ∷ 24 ∷ 34 ∷ 44 ∷ []) ∷ []
+  pub t8 : squared correlateZ (pos 0) ∷ squared convolveZ (pos 0) ∷ []
+      ≡ wholes (11 ∷ 21 ∷ 31 ∷ 41 ∷ []) ∷ wholes (14 ∷ 24 ∷ 34 ∷ 44 ∷ []) ∷ []
   -- the same with origin −1: no pad on the left, and one
-  pub no-left : squared correlateZ (minus 1) ∷ squared convolveZ (minus 1) ∷ [] ≡ wholes (41 ∷ 42 ∷ 43 ∷ 44 ∷ []) ∷ wholes (11 ∷ 12 ∷ 13 ∷ 14 ∷ []) ∷ []
+  pub no-left : squared correlateZ (minus 1) ∷ squared convolveZ (minus 1) ∷ []
+      ≡ wholes (41 ∷ 42 ∷ 43 ∷ 44 ∷ []) ∷ wholes (11 ∷ 12 ∷ 13 ∷ 14 ∷ []) ∷ []
   -- three axes, 2 by 1 by 2 cells: the constant 10 stands wherever one coordinate is outside
-  pub three-axes : correlateZ (constant (pos 10)) (pos 0) (sidesOf (2 ∷ 1 ∷ 2 ∷ []) 2) (wholes (1 ∷ 2 ∷ 3 ∷ 4 ∷ 5 ∷ 6 ∷ 7 ∷ 8 ∷ [])) (2 ∷ 1 ∷ 2 ∷ []) (wholes (1 ∷ 2 ∷ 3 ∷ 4 ∷ [])) ≡ wholes (288 ∷ 233 ∷ 268 ∷ 204 ∷ [])
+  pub three-axes : correlateZ (constant (pos 10)) (pos 0) (sidesOf (2 ∷ 1 ∷ 2 ∷ []) 2)
+      (wholes (1 ∷ 2 ∷ 3 ∷ 4 ∷ 5 ∷ 6 ∷ 7 ∷ 8 ∷ [])) (2 ∷ 1 ∷ 2 ∷ []) (wholes (1 ∷ 2 ∷ 3 ∷ 4 ∷ []))
+      ≡ wholes (288 ∷ 233 ∷ 268 ∷ 204 ∷ [])
   -- one weight
-  pub one-cell : correlateZ (along Nearest) (pos 0) (sidesOf (2 ∷ 2 ∷ []) 1) (wholes (7 ∷ [])) (2 ∷ 2 ∷ []) (wholes (1 ∷ 2 ∷ 3 ∷ 4 ∷ [])) ≡ wholes (7 ∷ 14 ∷ 21 ∷ 28 ∷ [])
+  pub one-cell : correlateZ (along Nearest) (pos 0) (sidesOf (2 ∷ 2 ∷ []) 1) (wholes (7 ∷ [])) (2 ∷ 2 ∷ [])
+      (wholes (1 ∷ 2 ∷ 3 ∷ 4 ∷ [])) ≡ wholes (7 ∷ 14 ∷ 21 ∷ 28 ∷ [])

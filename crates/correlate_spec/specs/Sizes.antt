@@ -1,4 +1,5 @@
--- How large the cells and weights of a line may be, so that no sum leaves 64 bits: cells up to 2^38, weights up to 65,535, at most 65 of them.
+-- How large the cells and weights of a line may be, so that no sum leaves 64 bits: cells up to 2^38, weights up to
+-- 65,535, at most 65 of them.
 --   LineSumNeeds w s n    the weights w and the padded line s of n cells are so
 --   SumNeeds s         the cells of s, at most 65, are so
 use Prim.Native.Nat.{ℕ, _+_, _-_, _^_, _≤_, _<_}

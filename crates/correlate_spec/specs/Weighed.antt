@@ -1,16 +1,19 @@
--- The weighted sum of a window, from SciPy's page on `correlate1d`, over any element: which operations, and in which order.
--- s is the padded line; the window of cell i is its cells from place i on, as many as there are weights in w.
---   Ops A               the operations on an element: what stands past the end of a line, zero, sum, difference and product
+-- The weighted sum of a window, from SciPy's page on `correlate1d`, over any element: which operations, and in which
+-- order. s is the padded line; the window of cell i is its cells from place i on, as many as there are weights in w.
+--   Ops A               the operations on an element: what stands past the end of a line, zero, sum, difference and
+--                       product
 --   wholeOps            whole numbers, unbounded
 --   floatOps            floats, each operation rounded
 --   summed add a f n    a, plus f 0, plus f 1, .., n terms, added from left to right
 --   cellTerm o w s i j  the window's cell j times weight j
 --   pairTerm o op w s i j   the pair of the window's cells j and len − 1 − j, joined by op, times weight j
 --   plainTo o w s n i   from zero, the first n cells of the window, each times its weight
---   pairsTo o op w s n i    from the middle cell times the middle weight, the first n pairs of the left half; right-half weights are not read
+--   pairsTo o op w s n i    from the middle cell times the middle weight, the first n pairs of the left half;
+--                           right-half weights are not read
 --   plainAt o w s i     plainTo of every cell
 --   pairsAt o op w s i  pairsTo of every pair
---   weighedAt o class w s i    plainAt; pairs joined by sum where the weights are Symmetric, by difference where they are AntiSymmetric
+--   weighedAt o class w s i    plainAt; pairs joined by sum where the weights are Symmetric, by difference where they
+--                              are AntiSymmetric
 --   weighedLine o class w s n  the weighted sums of cells 0 to n − 1
 use Prim.Native.Nat.{ℕ, zero, suc, _+_, _-_, _/_}
 use mathlib.Core.Bool.{false}
@@ -33,7 +36,14 @@ abbrev pub wholeOps : Ops ℤ
 wholeOps = record { past = pos 0; none = pos 0; sum = _+ℤ_; difference = _-ℤ_; product = _*ℤ_ }
 
 abbrev pub floatOps : Ops Float
-floatOps = record { past = nan; none = fin false 0 (pos 0); sum = add binary64; difference = sub binary64; product = mul binary64 }
+floatOps = record {
+  past = nan;
+  none = fin false 0 (pos 0);
+  sum = add binary64;
+  difference = sub binary64;
+  product = mul
+      binary64;
+}
 
 unfoldable pub summed : {A : Type 0} → (A → A → A) → A → (ℕ → A) → ℕ → A
 summed add a f zero = a
@@ -43,7 +53,8 @@ abbrev pub cellTerm : {A : Type 0} → Ops A → List A → List A → ℕ → �
 cellTerm o w s i j = o .product (getD s (i + j) (o .past)) (getD w j (o .past))
 
 abbrev pub pairTerm : {A : Type 0} → Ops A → (A → A → A) → List A → List A → ℕ → ℕ → A
-pairTerm o op w s i j = o .product (op (getD s (i + j) (o .past)) (getD s (i + (length w - 1 - j)) (o .past))) (getD w j (o .past))
+pairTerm o op w s i j = o .product (op (getD s (i + j) (o .past)) (getD s (i + (length w - 1 - j)) (o .past)))
+    (getD w j (o .past))
 
 abbrev pub plainTo : {A : Type 0} → Ops A → List A → List A → ℕ → ℕ → A
 plainTo o w s n i = summed (o .sum) (o .none) (cellTerm o w s i) n

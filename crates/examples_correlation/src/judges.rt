@@ -1,4 +1,5 @@
-// The examples of the judges of `correlate_judge`, `gradient`, `uniform` and `median`; those of the calls are requests of `ndimage`.
+// The examples of the judges of `correlate_judge`, `gradient`, `uniform` and `median`; those of the calls are requests
+// of `ndimage`.
 use border::BorderMode;
 use examples_print::line;
 use examples_print::test;

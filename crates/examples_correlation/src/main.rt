@@ -1,6 +1,7 @@
-// The numeric examples of the public comments, run and printed; `stdout` beside src/ has what they must be. Here are kernels, padded lines, windows and the judges
-// of correlation, gradients, uniform filters and masks; `examples_lines` has the others, and those of the calls that `ndimage` serves are among its requests.
-// The theorems of worked rows are called here too, so that no crate can drop its own unnoticed.
+// The numeric examples of the public comments, run and printed; `stdout` beside src/ has what they must be. Here are
+// kernels, padded lines, windows and the judges of correlation, gradients, uniform filters and masks; `examples_lines`
+// has the others, and those of the calls that `ndimage` serves are among its requests. The theorems of worked rows are
+// called here too, so that no crate can drop its own unnoticed.
 
 mod judges;
 mod kernels;

@@ -1,6 +1,7 @@
-// The numeric examples of the public comments, run and printed; `stdout` beside src/ has what they must be. Here are the ground floor, lines and the judge of
-// minimum and maximum; `examples_correlation` has the others, and those of the calls that `ndimage` serves are among its requests.
-// The theorems of worked rows and the rule on the order of axes are called here too, so that no crate can drop its own unnoticed.
+// The numeric examples of the public comments, run and printed; `stdout` beside src/ has what they must be. Here are
+// the ground floor, lines and the judge of minimum and maximum; `examples_correlation` has the others, and those of the
+// calls that `ndimage` serves are among its requests. The theorems of worked rows and the rule on the order of axes are
+// called here too, so that no crate can drop its own unnoticed.
 
 mod arrays;
 mod averages;

@@ -29,9 +29,8 @@ fn judge_passes(shape: &[usize], axis: usize, mode: BorderMode) -> u8
 // * `mode` - the border of every pass.
 // * `out`, `second` - how many cells the lent output and the lent second grid have.
 //
-// Returns 0, or the lowest number of a condition that holds: 1 (shape), 2 (a length), 3 (a level), 8 (axis), 9 (constant) or
-// 11 (the border cannot fill a pad of one cell on some axis). 12 never occurs: no sum of a pass over accepted levels leaves 64 bits.
-// Writes nothing and refuses nothing itself. Cells of the shape 4 1 under Mirror give 11 along both axes.
+// Refuses: 1 (shape), 2 (length), 3 (level), 8 (axis), 9 (constant), 11 (reach). 12 never occurs: no sum of a pass over
+// accepted levels leaves 64 bits. Cells of the shape 4 1 under Mirror give 11 along both axes.
 pub fn judge_gradient(
     data: &[i64],
     shape: &[usize],

@@ -1,5 +1,5 @@
-// Prewitt and Sobel filters of whole levels (src/filters/con_corr.rs; SciPy's prewitt and sobel): the difference along an axis, smoothed
-// along every other axis.
+// Prewitt and Sobel filters of whole levels (src/filters/con_corr.rs; SciPy's prewitt and sobel): the difference along
+// an axis, smoothed along every other axis.
 ghost use mathlib.Core.List.{[], _∷_};
 ghost use lib.IntN.{pos};
 ghost use lib.ListN.{length};
@@ -26,8 +26,10 @@ fn filter(
     out: &mut [i64],
 ) -> u8
     requires { ⌜ ThreeSmall (now smooth) ⌝ }
-    ensures { λ r. ⌜ ScratchAnswers (pos 0) (gradientJudged (now (smooth .entry)) (borderOf mode) (now (shape .entry)) axis (now («data» .entry)) (length (now (out .entry))) (length (now (second .entry))))
-        (gradient (now (smooth .entry)) (borderOf mode) (now (shape .entry)) axis (now («data» .entry))) (now (out .entry)) (now (second .entry) ∷ []) r (now (out .exit)) (now (second .exit) ∷ []) ⌝ }
+    ensures { λ r. ⌜ ScratchAnswers (pos 0) (gradientJudged (now (smooth .entry)) (borderOf mode) (now (shape .entry))
+        axis (now («data» .entry)) (length (now (out .entry))) (length (now (second .entry))))
+        (gradient (now (smooth .entry)) (borderOf mode) (now (shape .entry)) axis (now («data» .entry)))
+        (now (out .entry)) (now (second .entry) ∷ []) r (now (out .exit)) (now (second .exit) ∷ []) ⌝ }
 {
     let refusal = judge::judge_gradient(data, shape, axis, mode, out.len(), second.len());
     if refusal != 0 {
@@ -38,8 +40,8 @@ fn filter(
     numbers::ACCEPTED
 }
 
-// The differences of the neighbours along an axis, by the weights -1 0 1, smoothed along every other axis by 1 1 1, in rising order;
-// SciPy's prewitt.
+// The differences of the neighbours along an axis, by the weights -1 0 1, smoothed along every other axis by 1 1 1, in
+// rising order; SciPy's prewitt.
 //
 // * `data` - the cells of the grid, in row-major order.
 // * `shape` - the length of each axis.
@@ -48,9 +50,8 @@ fn filter(
 // * `second` - a second grid as long as data, for what a pass leaves to the next; an accepted call leaves zeros in it.
 // * `out` - as long as data.
 //
-// Returns 0, or the lowest number of a condition that holds: 1 (shape), 2 (a length), 3 (a level), 8 (axis), 9 (constant),
-// 11 (the border cannot fill a pad of one cell on some axis) or 12 (a sum, which never occurs). A refused call leaves both lent grids as
-// they were. The rows 1 2 / 3 4 along axis 0 under Constant(0) give 7 7 / -3 -3.
+// Refuses: 1 (shape), 2 (length), 3 (level), 8 (axis), 9 (constant), 11 (reach). A refused call leaves both lent grids
+// as they were. The rows 1 2 / 3 4 along axis 0 under Constant(0) give 7 7 / -3 -3.
 pub fn prewitt(
     data: &[i64],
     shape: &[usize],
@@ -59,8 +60,10 @@ pub fn prewitt(
     second: &mut [i64],
     out: &mut [i64],
 ) -> u8
-    ensures { λ r. ⌜ ScratchAnswers (pos 0) (gradientJudged prewittWeights (borderOf mode) (now (shape .entry)) axis (now («data» .entry)) (length (now (out .entry))) (length (now (second .entry))))
-        (gradient prewittWeights (borderOf mode) (now (shape .entry)) axis (now («data» .entry))) (now (out .entry)) (now (second .entry) ∷ []) r (now (out .exit)) (now (second .exit) ∷ []) ⌝ }
+    ensures { λ r. ⌜ ScratchAnswers (pos 0) (gradientJudged prewittWeights (borderOf mode) (now (shape .entry)) axis
+        (now («data» .entry)) (length (now (out .entry))) (length (now (second .entry))))
+        (gradient prewittWeights (borderOf mode) (now (shape .entry)) axis (now («data» .entry))) (now (out .entry))
+        (now (second .entry) ∷ []) r (now (out .exit)) (now (second .exit) ∷ []) ⌝ }
 {
     filter(&[1, 1, 1], data, shape, axis, mode, second, out)
 }
@@ -75,8 +78,10 @@ pub fn sobel(
     second: &mut [i64],
     out: &mut [i64],
 ) -> u8
-    ensures { λ r. ⌜ ScratchAnswers (pos 0) (gradientJudged sobelWeights (borderOf mode) (now (shape .entry)) axis (now («data» .entry)) (length (now (out .entry))) (length (now (second .entry))))
-        (gradient sobelWeights (borderOf mode) (now (shape .entry)) axis (now («data» .entry))) (now (out .entry)) (now (second .entry) ∷ []) r (now (out .exit)) (now (second .exit) ∷ []) ⌝ }
+    ensures { λ r. ⌜ ScratchAnswers (pos 0) (gradientJudged sobelWeights (borderOf mode) (now (shape .entry)) axis
+        (now («data» .entry)) (length (now (out .entry))) (length (now (second .entry))))
+        (gradient sobelWeights (borderOf mode) (now (shape .entry)) axis (now («data» .entry))) (now (out .entry))
+        (now (second .entry) ∷ []) r (now (out .exit)) (now (second .exit) ∷ []) ⌝ }
 {
     filter(&[1, 2, 1], data, shape, axis, mode, second, out)
 }

@@ -39,8 +39,10 @@ pub(crate) fn passes(
     second: &mut [i64],
     out: &mut [i64],
 )
-    requires { ⌜ ThreeSmall (now smooth) × (refusalOf (gradientJudged (now smooth) (borderOf mode) (now shape) axis (now «data») (length (now out)) (length (now second))) ≡ 0) ⌝ }
-    ensures { λ _. ⌜ now (out .exit) ≡ gradient (now (smooth .entry)) (borderOf mode) (now (shape .entry)) axis (now («data» .entry)) ⌝ }
+    requires { ⌜ ThreeSmall (now smooth) × (refusalOf (gradientJudged (now smooth) (borderOf mode) (now shape) axis
+        (now «data») (length (now out)) (length (now second))) ≡ 0) ⌝ }
+    ensures { λ _. ⌜ now (out .exit) ≡ gradient (now (smooth .entry)) (borderOf mode) (now (shape .entry)) axis
+        (now («data» .entry)) ⌝ }
 {
     let difference = [-1, 0, 1];
     let axes = shape.len();
@@ -60,7 +62,7 @@ pub(crate) fn passes(
     correlate1d::weigh(second, shape, smooth, last, mode, 0, out);
 }
 
-// Worked rows of this crate's definitions: the axes beside each axis. Refuses nothing.
+// Worked rows of this crate's definitions: the axes beside each axis.
 pub fn rows()
     ensures { λ _. ⌜ GradientRows ⌝ }
 {}

@@ -62,7 +62,8 @@ module _ (b : Border ℤ) {w : List ℤ} (S : ThreeSmall w) (ns : List ℕ) wher
     unfolding gradientTo
     passes-within k l =
         within-sized (gradientTo w b ns axis cells k)
-        (over-sized axis k (6 * level) 0 (correlate1dZ b (pos 0) difference ns axis cells) (border-le b c (omega arith)) (answer-sized level 2 b difference c (tested-sized 2 difference refl) (pos 0) ns axis cells h)) (few k l)
+        (over-sized axis k (6 * level) 0 (correlate1dZ b (pos 0) difference ns axis cells) (border-le b c (omega arith))
+        (answer-sized level 2 b difference c (tested-sized 2 difference refl) (pos 0) ns axis cells h)) (few k l)
 
 -- no member of a table passes a test
 none-table : {A : Type 0} (t : A → Bool) (f : ℕ → A) (m n : ℕ) → ((k : ℕ) → k < m + n → t (f k) ≡ false) → anyOf t (tabulate f m n) ≡ false
@@ -74,4 +75,5 @@ none-table t f m (suc n) h = or-no (t (f m)) (anyOf t (tabulate f (suc m) n)) (h
 pub no-gradient-sums : (b : Border ℤ) {w : List ℤ} → ThreeSmall w → (ns : List ℕ) (axis : ℕ) (cells : List ℤ) → badShape ns ≡ false → anyOf badLevel cells ≡ false
     → badConstantBy badLevel b ≡ false → badGradientSums w b ns axis cells ≡ false
 no-gradient-sums b {w} S ns axis cells s l c =
-    none-table (anyOf beyond) (gradientTo w b ns axis cells) 0 (suc (length ns)) (λ k h. passes-within b S ns axis cells (constant-sized b c) (levels-sized cells l) k (omega (arith, shape-accepted ns s .few)))
+    none-table (anyOf beyond) (gradientTo w b ns axis cells) 0 (suc (length ns)) (λ k h. passes-within b S ns axis cells (constant-sized b c) (levels-sized cells l) k
+    (omega (arith, shape-accepted ns s .few)))

@@ -1,8 +1,10 @@
--- The conditions of `prewitt` and `sobel`, as document 01 words them. 11 looks at every axis, and 12 at the grid after every pass.
+-- The conditions of `prewitt` and `sobel`, as document 01 words them. 11 looks at every axis, and 12 at the grid after
+-- every pass.
 --   passesJudged b ns axis              8, 9 and 11 (a pad of one cell on each side of every axis)
 --   badGradientSums smooth b ns axis cells      12: a sum of some pass outside signed 64 bits
 --   gradientJudged smooth b ns axis cells out second
---                                       what a call refuses, in rising order; out and second are the lengths of the lent grids
+--                                       what a call refuses, in rising order; out and second are the lengths of the
+--                                       lent grids
 --   ThreeSmall w                        three weights within −2..2, as those of both filters are
 --   GradientNumber b ns axis cells out second r
 --                                       r is the number of a call, by whichever of such weights it smooths
@@ -25,15 +27,18 @@ abbrev pub passesJudged : Border ℤ → List ℕ → ℕ → Judged
 passesJudged b ns axis = (badAxis ns axis, 8) ∷ (badConstantBy badLevel b, 9) ∷ (anyOf (λ n. badPad b n 1) ns, 11) ∷ []
 
 abbrev pub badGradientSums : List ℤ → Border ℤ → List ℕ → ℕ → List ℤ → Bool
-badGradientSums smooth b ns axis cells = anyOf (anyOf beyond) (tabulate (gradientTo smooth b ns axis cells) 0 (suc (length ns)))
+badGradientSums smooth b ns axis cells = anyOf (anyOf beyond)
+    (tabulate (gradientTo smooth b ns axis cells) 0 (suc (length ns)))
 
 abbrev pub gradientJudged : List ℤ → Border ℤ → List ℕ → ℕ → List ℤ → ℕ → ℕ → Judged
 gradientJudged smooth b ns axis cells out second =
-    gridJudged ns cells (out ∷ second ∷ []) ++ passesJudged b ns axis ++ ((badGradientSums smooth b ns axis cells, 12) ∷ [])
+    gridJudged ns cells (out ∷ second ∷ []) ++ passesJudged b ns axis
+    ++ ((badGradientSums smooth b ns axis cells, 12) ∷ [])
 
 pub record ThreeSmall (w : List ℤ) : Type 0 where
   pub three : length w ≡ 3
   pub small : anyOf (outsideZ (negℤ (pos 2)) (pos 2)) w ≡ false
 
 abbrev pub GradientNumber : Border ℤ → List ℕ → ℕ → List ℤ → ℕ → ℕ → ℕ → Type 0
-GradientNumber b ns axis cells out second r = (smooth : List ℤ) → ThreeSmall smooth → r ≡ refusalOf (gradientJudged smooth b ns axis cells out second)
+GradientNumber b ns axis cells out second r = (smooth : List ℤ) → ThreeSmall smooth → r
+    ≡ refusalOf (gradientJudged smooth b ns axis cells out second)

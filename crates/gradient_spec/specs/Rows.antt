@@ -34,28 +34,41 @@ pub record GradientSpecRows : Type 0 where
   -- T7, Sobel along axis 0; the grid after the difference, and after axis 0, which is not smoothed
   pub t7-nearest : onSquare sobelWeights (along Nearest) 0 ≡ wholes (8 ∷ 8 ∷ 8 ∷ 8 ∷ [])
   pub t7-constant : onSquare sobelWeights (constant (pos 0)) 0 ≡ pos 10 ∷ pos 11 ∷ minus 4 ∷ minus 5 ∷ []
-  pub t7-passes : map (gradientTo sobelWeights (constant (pos 0)) (2 ∷ 2 ∷ []) 0 square) (0 ∷ 1 ∷ []) ≡ (pos 3 ∷ pos 4 ∷ minus 1 ∷ minus 2 ∷ []) ∷ (pos 3 ∷ pos 4 ∷ minus 1 ∷ minus 2 ∷ []) ∷ []
+  pub t7-passes : map (gradientTo sobelWeights (constant (pos 0)) (2 ∷ 2 ∷ []) 0 square) (0 ∷ 1 ∷ [])
+      ≡ (pos 3 ∷ pos 4 ∷ minus 1 ∷ minus 2 ∷ []) ∷ (pos 3 ∷ pos 4 ∷ minus 1 ∷ minus 2 ∷ []) ∷ []
   -- the same by Prewitt, and both along axis 1
   pub prewitt-nearest : onSquare prewittWeights (along Nearest) 0 ≡ wholes (6 ∷ 6 ∷ 6 ∷ 6 ∷ [])
   pub prewitt-constant : onSquare prewittWeights (constant (pos 0)) 0 ≡ pos 7 ∷ pos 7 ∷ minus 3 ∷ minus 3 ∷ []
   pub sobel-last : onSquare sobelWeights (constant (pos 0)) 1 ≡ pos 8 ∷ minus 5 ∷ pos 10 ∷ minus 7 ∷ []
   pub prewitt-last : onSquare prewittWeights (constant (pos 0)) 1 ≡ pos 6 ∷ minus 4 ∷ pos 6 ∷ minus 4 ∷ []
-  -- three axes: along the first, the middle one of one cell, and the last; each pass reads the constant 1 past its edges
+  -- three axes: along the first, the middle one of one cell, and the last; each pass reads the constant 1 past its
+  -- edges
   pub sobel-first : box sobelWeights (constant (pos 1)) 0 ≡ wholes (21 ∷ 23 ∷ 5 ∷ 3 ∷ [])
   pub prewitt-first : box prewittWeights (constant (pos 1)) 0 ≡ wholes (10 ∷ 10 ∷ 4 ∷ 4 ∷ [])
   pub sobel-middle : box sobelWeights (constant (pos 1)) 1 ≡ wholes (4 ∷ 4 ∷ 4 ∷ 4 ∷ [])
   pub sobel-third : box sobelWeights (constant (pos 0)) 2 ≡ pos 16 ∷ minus 10 ∷ pos 20 ∷ minus 14 ∷ []
   -- one axis has nothing to smooth
-  pub one-axis : gradient sobelWeights (along Nearest) (3 ∷ []) 0 (wholes (1 ∷ 2 ∷ 4 ∷ [])) ∷ gradient prewittWeights (along Mirror) (3 ∷ []) 0 (wholes (1 ∷ 2 ∷ 4 ∷ [])) ∷ [] ≡ wholes (1 ∷ 3 ∷ 2 ∷ []) ∷ wholes (0 ∷ 3 ∷ 0 ∷ []) ∷ []
+  pub one-axis : gradient sobelWeights (along Nearest) (3 ∷ []) 0 (wholes (1 ∷ 2 ∷ 4 ∷ []))
+      ∷ gradient prewittWeights (along Mirror) (3 ∷ []) 0 (wholes (1 ∷ 2 ∷ 4 ∷ [])) ∷ []
+      ≡ wholes (1 ∷ 3 ∷ 2 ∷ []) ∷ wholes (0 ∷ 3 ∷ 0 ∷ []) ∷ []
   -- 8: axis 2 of two axes; 9: Constant 2^31 and −(2^31 − 1); 8 before 9
   pub axes : map (numberOn (along Nearest)) (0 ∷ 1 ∷ 2 ∷ []) ≡ 0 ∷ 0 ∷ 8 ∷ []
   pub constants : map (λ z. numberOn (constant z) 1) (pos (2 ^ 31) ∷ minus (2 ^ 31 - 1) ∷ []) ≡ 9 ∷ 0 ∷ []
   pub axis-before-constant : numberOn (constant (pos (2 ^ 31))) 2 ≡ 8
   -- 11: Mirror with an axis of one cell, whichever axis is differenced; the other borders fill one cell; 8 before 11
-  pub reaches : map (λ a. refusalOf (gradientJudged prewittWeights (along Mirror) (4 ∷ 1 ∷ []) a square 4 4)) (0 ∷ 1 ∷ 2 ∷ []) ≡ 11 ∷ 11 ∷ 8 ∷ []
-  pub filled : map (λ b. refusalOf (passesJudged b (4 ∷ 1 ∷ []) 0)) (along Reflect ∷ along Wrap ∷ along Nearest ∷ constant (pos 0) ∷ []) ≡ 0 ∷ 0 ∷ 0 ∷ 0 ∷ []
+  pub reaches : map (λ a. refusalOf (gradientJudged prewittWeights (along Mirror) (4 ∷ 1 ∷ []) a square 4 4))
+      (0 ∷ 1 ∷ 2 ∷ []) ≡ 11 ∷ 11 ∷ 8 ∷ []
+  pub filled : map (λ b. refusalOf (passesJudged b (4 ∷ 1 ∷ []) 0))
+      (along Reflect ∷ along Wrap ∷ along Nearest ∷ constant (pos 0) ∷ []) ≡ 0 ∷ 0 ∷ 0 ∷ 0 ∷ []
   -- 1, 2 (the output or the second grid a cell short) and 3 come first
-  pub grids : refusalOf (gradientJudged sobelWeights (along Mirror) [] 9 [] 0 0) ∷ refusalOf (gradientJudged sobelWeights (along Mirror) (2 ∷ 2 ∷ []) 9 square 3 4) ∷ refusalOf (gradientJudged sobelWeights (along Mirror) (2 ∷ 2 ∷ []) 9 square 4 3) ∷ refusalOf (gradientJudged sobelWeights (along Mirror) (1 ∷ []) 9 (pos (2 ^ 31) ∷ []) 1 1) ∷ [] ≡ 1 ∷ 2 ∷ 2 ∷ 3 ∷ []
-  -- 12, of levels that 3 refuses: the difference of 2^62 and −2^62, and of 2^62 − 1 and −2^62; smoothing by 1 2 1 beyond it
-  pub sums : map (λ z. badGradientSums sobelWeights (along Nearest) (2 ∷ []) 0 (minus (2 ^ 62) ∷ z ∷ [])) (pos (2 ^ 62) ∷ pos (2 ^ 62 - 1) ∷ []) ≡ true ∷ false ∷ []
-  pub later-sums : badGradientSums sobelWeights (along Nearest) (2 ∷ 1 ∷ []) 0 (minus (2 ^ 62) ∷ pos (2 ^ 62 - 1) ∷ []) ≡ true
+  pub grids : refusalOf (gradientJudged sobelWeights (along Mirror) [] 9 [] 0 0)
+      ∷ refusalOf (gradientJudged sobelWeights (along Mirror) (2 ∷ 2 ∷ []) 9 square 3 4)
+      ∷ refusalOf (gradientJudged sobelWeights (along Mirror) (2 ∷ 2 ∷ []) 9 square 4 3)
+      ∷ refusalOf (gradientJudged sobelWeights (along Mirror) (1 ∷ []) 9 (pos (2 ^ 31) ∷ []) 1 1) ∷ []
+      ≡ 1 ∷ 2 ∷ 2 ∷ 3 ∷ []
+  -- 12, of levels that 3 refuses: the difference of 2^62 and −2^62, and of 2^62 − 1 and −2^62; smoothing by 1 2 1
+  -- beyond it
+  pub sums : map (λ z. badGradientSums sobelWeights (along Nearest) (2 ∷ []) 0 (minus (2 ^ 62) ∷ z ∷ []))
+      (pos (2 ^ 62) ∷ pos (2 ^ 62 - 1) ∷ []) ≡ true ∷ false ∷ []
+  pub later-sums : badGradientSums sobelWeights (along Nearest) (2 ∷ 1 ∷ []) 0 (minus (2 ^ 62) ∷ pos (2 ^ 62 - 1) ∷ [])
+      ≡ true

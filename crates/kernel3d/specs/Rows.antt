@@ -22,7 +22,8 @@ pub record Kernel3dRows : Type 0 where
   pub ball : kinds Ball ≡ true ∷ true ∷ true ∷ false ∷ []
   pub full : kinds Full ≡ true ∷ true ∷ true ∷ true ∷ []
   -- the faces of the star on each axis, before and after the centre
-  pub star-faces : cellAt Star 0 1 1 ∷ cellAt Star 2 1 1 ∷ cellAt Star 1 0 1 ∷ cellAt Star 1 2 1 ∷ cellAt Star 1 1 0 ∷ cellAt Star 1 1 2 ∷ []
+  pub star-faces : cellAt Star 0 1 1 ∷ cellAt Star 2 1 1 ∷ cellAt Star 1 0 1 ∷ cellAt Star 1 2 1 ∷ cellAt Star 1 1 0
+      ∷ cellAt Star 1 1 2 ∷ []
       ≡ true ∷ true ∷ true ∷ true ∷ true ∷ true ∷ []
   -- the centre and 6 faces; 12 edges more; all
   pub star-count : countOf Star ≡ 7

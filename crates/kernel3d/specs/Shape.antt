@@ -1,5 +1,5 @@
--- Which cells of a 3 × 3 × 3 kernel are true, and how many. A cell is named by its distance from the centre, the number of axes
--- on which it stands off the middle: 0 the centre, 1 a face neighbour, 2 an edge neighbour, 3 a corner.
+-- Which cells of a 3 × 3 × 3 kernel are true, and how many. A cell is named by its distance from the centre, the number
+-- of axes on which it stands off the middle: 0 the centre, 1 a face neighbour, 2 an edge neighbour, 3 a corner.
 --   off i               1 at either end of an axis, 0 in its middle
 --   distance a b c      the distance of cell a, b, c from the centre
 --   reach k             the greatest distance of a true cell of k

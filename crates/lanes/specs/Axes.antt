@@ -1,5 +1,6 @@
 -- Axes taken one after the other.
---   overAxes f a n g   f on axis a, then on axis a + 1, .., n of them, each on what the one before it left of the grid g
+--   overAxes f a n g   f on axis a, then on axis a + 1, .., n of them, each on what the one before it left of the grid
+--                      g
 use Prim.Native.Nat.{ℕ, zero, suc}
 use mathlib.Core.List.{List}
 

@@ -1,4 +1,5 @@
--- The lanes of an axis of n cells that stand s places apart, over any element. The cell at place k is cell k / s % n of lane laneOf n s k.
+-- The lanes of an axis of n cells that stand s places apart, over any element. The cell at place k is cell k / s % n of
+-- lane laneOf n s k.
 --   laneOf n s k             the lane that the cell at place k is on
 --   laneBase n s l           the place of the first cell of lane l
 --   laneAt d g at s n        the n cells of g from place at on, s apart; d where g has none
@@ -6,7 +7,8 @@
 --   withLane d n s l line g  the grid g with the line written to lane l
 --   laneInside n s l count   whether lane l is inside a grid of that many cells, of at most 32,768
 --   readLane d s l g line    what reading lane l leaves in the line: nothing changes where the lane is not inside
---   laneThrough d ns a g k   the lane along axis a through the cell at place k of a grid g of shape ns: the cells that differ
+--   laneThrough d ns a g k   the lane along axis a through the cell at place k of a grid g of shape ns: the cells that
+--                            differ
 --                            from it in their coordinate on that axis alone
 --   alongAxis d f ns a g     f on every lane of axis a: each cell is the cell of f of its lane at its own coordinate
 --   lanesOf ns a             length, stride and number of the lanes of axis a; all 0 where condition 1 holds
@@ -34,10 +36,12 @@ abbrev pub lane : {A : Type 0} → A → ℕ → ℕ → ℕ → List A → List
 lane d n s l g = laneAt d g (laneBase n s l) s n
 
 unfoldable pub withLane : {A : Type 0} → A → ℕ → ℕ → ℕ → List A → List A → List A
-withLane d n s l line g = tabulate (λ k. cond (eqb (laneOf n s k) l) (getD line (k / s % n) d) (getD g k d)) 0 (length g)
+withLane d n s l line g = tabulate (λ k. cond (eqb (laneOf n s k) l) (getD line (k / s % n) d) (getD g k d)) 0
+    (length g)
 
 unfoldable pub laneInside : ℕ → ℕ → ℕ → ℕ → Bool
-laneInside n s l count = leb count mostPaddedCells && leb 1 n && leb 1 s && leb s count && ltb (laneBase n s l + (n - 1) * s) count
+laneInside n s l count = leb count mostPaddedCells && leb 1 n && leb 1 s && leb s count
+    && ltb (laneBase n s l + (n - 1) * s) count
 
 abbrev pub readLane : {A : Type 0} → A → ℕ → ℕ → List A → List A → List A
 readLane d s l g line = cond (laneInside (length line) s l (length g)) (lane d (length line) s l g) line

@@ -28,15 +28,19 @@ pub record LanesRows : Type 0 where
   pub lane-numbers : map (laneOf 2 3) (0 ∷ 1 ∷ 4 ∷ 5 ∷ []) ≡ 0 ∷ 1 ∷ 1 ∷ 2 ∷ []
   pub lane-written : withLane (pos 0) 2 3 1 (wholes (7 ∷ 8 ∷ [])) two ≡ wholes (1 ∷ 7 ∷ 3 ∷ 4 ∷ 8 ∷ 6 ∷ [])
   -- inside: lanes 0 and 2 of axis 0, not 3; not a line of no cells, a stride of 0, or a grid of over 32,768 cells
-  pub insides : laneInside 2 3 0 6 ∷ laneInside 2 3 2 6 ∷ laneInside 2 3 3 6 ∷ laneInside 0 3 0 6 ∷ laneInside 2 0 0 6 ∷ laneInside 2 3 0 32769 ∷ [] ≡ true ∷ true ∷ false ∷ false ∷ false ∷ false ∷ []
+  pub insides : laneInside 2 3 0 6 ∷ laneInside 2 3 2 6 ∷ laneInside 2 3 3 6 ∷ laneInside 0 3 0 6 ∷ laneInside 2 0 0 6
+      ∷ laneInside 2 3 0 32769 ∷ [] ≡ true ∷ true ∷ false ∷ false ∷ false ∷ false ∷ []
   pub read-in : readLane (pos 0) 3 2 two (wholes (9 ∷ 9 ∷ [])) ≡ wholes (3 ∷ 6 ∷ [])
   pub read-out : readLane (pos 0) 3 3 two (wholes (9 ∷ 9 ∷ [])) ≡ wholes (9 ∷ 9 ∷ [])
   -- the lanes through the cell at place 7 of 2 by 3 by 2 cells, which has the coordinates 1 0 1
-  pub through : map (λ a. laneThrough 0 (2 ∷ 3 ∷ 2 ∷ []) a (tabulate (λ k. k) 0 12) 7) (0 ∷ 1 ∷ 2 ∷ []) ≡ (1 ∷ 7 ∷ []) ∷ (7 ∷ 9 ∷ 11 ∷ []) ∷ (6 ∷ 7 ∷ []) ∷ []
+  pub through : map (λ a. laneThrough 0 (2 ∷ 3 ∷ 2 ∷ []) a (tabulate (λ k. k) 0 12) 7) (0 ∷ 1 ∷ 2 ∷ [])
+      ≡ (1 ∷ 7 ∷ []) ∷ (7 ∷ 9 ∷ 11 ∷ []) ∷ (6 ∷ 7 ∷ []) ∷ []
   -- every lane of the middle of three axes read from its end
-  pub turned-middle : alongAxis 0 reverse (2 ∷ 3 ∷ 2 ∷ []) 1 (tabulate (λ k. k) 0 12) ≡ 4 ∷ 5 ∷ 2 ∷ 3 ∷ 0 ∷ 1 ∷ 10 ∷ 11 ∷ 8 ∷ 9 ∷ 6 ∷ 7 ∷ []
+  pub turned-middle : alongAxis 0 reverse (2 ∷ 3 ∷ 2 ∷ []) 1 (tabulate (λ k. k) 0 12)
+      ≡ 4 ∷ 5 ∷ 2 ∷ 3 ∷ 0 ∷ 1 ∷ 10 ∷ 11 ∷ 8 ∷ 9 ∷ 6 ∷ 7 ∷ []
   -- every lane of an axis read from its end
   pub turned-down : turned 0 ≡ wholes (4 ∷ 5 ∷ 6 ∷ 1 ∷ 2 ∷ 3 ∷ [])
   pub turned-across : turned 1 ≡ wholes (3 ∷ 2 ∷ 1 ∷ 6 ∷ 5 ∷ 4 ∷ [])
   -- axis 0 first, then axis 1
-  pub turned-both : overAxes (λ a g. alongAxis (pos 0) reverse (2 ∷ 3 ∷ []) a g) 0 2 two ≡ wholes (6 ∷ 5 ∷ 4 ∷ 3 ∷ 2 ∷ 1 ∷ [])
+  pub turned-both : overAxes (λ a g. alongAxis (pos 0) reverse (2 ∷ 3 ∷ []) a g) 0 2 two
+      ≡ wholes (6 ∷ 5 ∷ 4 ∷ 3 ∷ 2 ∷ 1 ∷ [])

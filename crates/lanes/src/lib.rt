@@ -1,4 +1,5 @@
-// The lanes of an axis: how long, how far apart and how many they are, and where a lane starts. `lane_cells` reads and write them.
+// The lanes of an axis: how long, how far apart and how many they are, and where a lane starts. `lane_cells` reads and
+// write them.
 ghost use mathlib.Core.Path.{_≡_};
 ghost use mathlib.Core.Bool.{cond};
 ghost use Prim.Native.Nat.{ℕ, _+_, _≤_, _<_};
@@ -16,8 +17,8 @@ pub struct Lanes {
     pub count: usize,
 }
 
-// How many places apart the cells of an axis stand, in a grid of at most three axes of at most 1,152 cells each: a padded grid has so many.
-// Of 4 2 3 the cells of axis 0 stand 6 apart.
+// How many places apart the cells of an axis stand, in a grid of at most three axes of at most 1,152 cells each: a
+// padded grid has so many. Of 4 2 3 the cells of axis 0 stand 6 apart.
 pub fn stride_of(shape: &[usize], axis: usize) -> usize
     requires { ⌜ (length (now shape) ≤ 3) × ((a : ℕ) → lengthOf (now shape) a ≤ longestPaddedAxis) ⌝ }
     ensures { λ r. ⌜ r ≡ strideOf (now (shape .entry)) axis ⌝ }
@@ -31,9 +32,8 @@ pub fn stride_of(shape: &[usize], axis: usize) -> usize
     1
 }
 
-// The lanes of an axis: their length, their stride and their number; all 0 where condition 1 refuses the shape.
-// Of 2 3 axis 0 has lanes of 2 cells 3 places apart, 3 of them; axis 1 has lanes of 3 cells 1 place apart, 2 of them.
-// Refuses nothing.
+// The lanes of an axis: their length, their stride and their number; all 0 where condition 1 refuses the shape. Of 2 3
+// axis 0 has lanes of 2 cells 3 places apart, 3 of them; axis 1 has lanes of 3 cells 1 place apart, 2 of them.
 pub fn lanes_of(shape: &[usize], axis: usize) -> Lanes
     ensures { λ r. ⌜ r ≡ lanesOf (now (shape .entry)) axis ⌝ }
 {
@@ -54,7 +54,8 @@ pub fn lanes_of(shape: &[usize], axis: usize) -> Lanes
     }
 }
 
-// The place of a lane's first cell. Lanes of neighbouring cells, and those of an axis that has none before it, need no division.
+// The place of a lane's first cell. Lanes of neighbouring cells, and those of an axis that has none before it, need no
+// division.
 fn base_of(n: usize, stride: usize, lane: usize) -> usize
     requires { ⌜ (0 < stride) × (n ≤ mostPaddedCells) × (stride ≤ mostPaddedCells) × (lane ≤ mostPaddedCells) ⌝ }
     ensures { λ r. ⌜ r ≡ laneBase n stride lane ⌝ }
@@ -74,7 +75,7 @@ fn base_of(n: usize, stride: usize, lane: usize) -> usize
 // * `n`, `stride` - the cells of the lane, and how many places apart they stand (`lanes_of`).
 // * `lane` - the number of the lane, counted from 0 in stored order of the lanes' first cells.
 //
-// Refuses nothing. Of 2 by 3 cells lane 1 of axis 0 starts at place 1, lane 1 of axis 1 at place 3.
+// Of 2 by 3 cells lane 1 of axis 0 starts at place 1, lane 1 of axis 1 at place 3.
 pub fn first_place(count: usize, n: usize, stride: usize, lane: usize) -> usize
     ensures { λ r. ⌜ r ≡ cond (laneInside n stride lane count) (laneBase n stride lane) count ⌝ }
 {
@@ -116,7 +117,8 @@ pub struct Start {
 //
 // Of 2 by 3 by 2 cells lane 1 of axis 1 starts at place 1 and is the last of its run, lane 2 at place 6.
 pub fn next_start(n: usize, stride: usize, lane: usize, start: Start) -> Start
-    requires { ⌜ Starts n stride lane start × (0 < n) × (n ≤ mostPaddedCells) × (0 < stride) × (stride ≤ mostPaddedCells) × (start .place ≤ mostPaddedCells) ⌝ }
+    requires { ⌜ Starts n stride lane start × (0 < n) × (n ≤ mostPaddedCells) × (0 < stride)
+        × (stride ≤ mostPaddedCells) × (start .place ≤ mostPaddedCells) ⌝ }
     ensures { λ r. ⌜ Starts n stride (lane + 1) r ⌝ }
 {
     let offset = start.offset + 1;
@@ -132,7 +134,7 @@ pub fn next_start(n: usize, stride: usize, lane: usize, start: Start) -> Start
     }
 }
 
-// Worked rows of this crate's definitions. Refuses nothing.
+// Worked rows of this crate's definitions.
 pub fn rows()
     ensures { λ _. ⌜ LanesRows ⌝ }
 {}

@@ -13,10 +13,13 @@ judgedOn ns len out = refusalOf (medianJudged ns len out)
 
 pub record MedianRows : Type 0 where
   -- 1: no axis, two axes, four; 1,025 cells on an axis; over 8,192 cells
-  pub axes : map badAxes ([] ∷ (2 ∷ 2 ∷ []) ∷ (2 ∷ 2 ∷ 2 ∷ 2 ∷ []) ∷ (2 ∷ 2 ∷ 1025 ∷ []) ∷ (32 ∷ 32 ∷ 9 ∷ []) ∷ (2 ∷ 2 ∷ 2 ∷ []) ∷ []) ≡ true ∷ true ∷ true ∷ true ∷ true ∷ false ∷ []
+  pub axes : map badAxes ([] ∷ (2 ∷ 2 ∷ []) ∷ (2 ∷ 2 ∷ 2 ∷ 2 ∷ []) ∷ (2 ∷ 2 ∷ 1025 ∷ []) ∷ (32 ∷ 32 ∷ 9 ∷ [])
+      ∷ (2 ∷ 2 ∷ 2 ∷ []) ∷ []) ≡ true ∷ true ∷ true ∷ true ∷ true ∷ false ∷ []
   -- 4
-  pub single : map badSingle ((1 ∷ 1 ∷ 1 ∷ []) ∷ (2 ∷ 1 ∷ 2 ∷ []) ∷ (2 ∷ 2 ∷ 1 ∷ []) ∷ (2 ∷ 2 ∷ 2 ∷ []) ∷ []) ≡ true ∷ true ∷ true ∷ false ∷ []
-  -- the numbers: two axes and four are 1; a mask or an output of 7 cells is 2; a single cell on every axis, or on one, is 4
+  pub single : map badSingle ((1 ∷ 1 ∷ 1 ∷ []) ∷ (2 ∷ 1 ∷ 2 ∷ []) ∷ (2 ∷ 2 ∷ 1 ∷ []) ∷ (2 ∷ 2 ∷ 2 ∷ []) ∷ [])
+      ≡ true ∷ true ∷ true ∷ false ∷ []
+  -- the numbers: two axes and four are 1; a mask or an output of 7 cells is 2; a single cell on every axis, or on one,
+  -- is 4
   pub two-axes : judgedOn (2 ∷ 4 ∷ []) 8 8 ≡ 1
   pub four-axes : judgedOn (2 ∷ 2 ∷ 2 ∷ 2 ∷ []) 16 16 ≡ 1
   pub lengths : judgedOn (2 ∷ 2 ∷ 2 ∷ []) 7 8 ∷ judgedOn (2 ∷ 2 ∷ 2 ∷ []) 8 7 ∷ [] ≡ 2 ∷ 2 ∷ []

@@ -9,7 +9,7 @@ ghost use Rattle.median.specs.Rows.{MedianRows};
 mod row;
 mod votes;
 
-// Condition 1: what condition 1 refuses of every grid, or not three axes. 2 2 2 passes, 2 2 does not. Refuses nothing.
+// Condition 1: what condition 1 refuses of every grid, or not three axes. 2 2 2 passes, 2 2 does not.
 pub fn bad_axes(shape: &[usize]) -> bool
     ensures { λ r. ⌜ r ≡ badAxes (now (shape .entry)) ⌝ }
 {
@@ -19,7 +19,7 @@ pub fn bad_axes(shape: &[usize]) -> bool
     shape.len() != 3
 }
 
-// Condition 4: an axis of one cell. 2 2 2 passes, 2 1 2 does not. Refuses nothing.
+// Condition 4: an axis of one cell. 2 2 2 passes, 2 1 2 does not.
 pub fn bad_single(shape: &[usize]) -> bool
     ensures { λ r. ⌜ r ≡ badSingle (now (shape .entry)) ⌝ }
 {
@@ -33,9 +33,10 @@ pub fn bad_single(shape: &[usize]) -> bool
     false
 }
 
-// Conditions 1, 2 and 4 in rising order, of a mask of `len` cells and a lent output of `out` cells: the number of the first that holds, or 0.
+// Conditions 1, 2 and 4 in rising order, of a mask of `len` cells and a lent output of `out` cells: the number of the
+// first that holds, or 0.
 //
-// Refuses: 1, 2, 4. Of 2 1 2 a mask of 5 cells gives 2, of 4 cells 4.
+// Refuses: 1 (shape), 2 (length), 4 (single cell). Of 2 1 2 a mask of 5 cells gives 2, of 4 cells 4.
 pub fn judge_median(shape: &[usize], len: usize, out: usize) -> u8
     ensures { λ r. ⌜ r ≡ refusalOf (medianJudged (now (shape .entry)) len out) ⌝ }
 {
@@ -69,9 +70,11 @@ fn median_cells(mask: &[bool], shape: &[usize], out: &mut [bool])
 // * `shape` - the length of each axis.
 // * `out` - the lent output, as many cells.
 //
-// Refuses: 1, 2, 4. Of 2 by 2 by 2 cells of which four are true every cell is true, and where three are, none.
+// Refuses: 1 (shape), 2 (length), 4 (single cell). Of 2 by 2 by 2 cells of which four are true every cell is true, and
+// where three are, none.
 pub fn median_filter(mask: &[bool], shape: &[usize], out: &mut [bool]) -> u8
-    ensures { λ r. ⌜ Answers (medianJudged (now (shape .entry)) (length (now (mask .entry))) (length (now (out .entry))))
+    ensures { λ r. ⌜ Answers (medianJudged (now (shape .entry)) (length (now (mask .entry)))
+        (length (now (out .entry))))
         (medianAnswer (now (shape .entry)) (now (mask .entry))) (now (out .entry)) r (now (out .exit)) ⌝ }
 {
     let refusal = judge_median(shape, mask.len(), out.len());
@@ -82,7 +85,7 @@ pub fn median_filter(mask: &[bool], shape: &[usize], out: &mut [bool]) -> u8
     numbers::ACCEPTED
 }
 
-// Worked rows of this crate's definitions. Refuses nothing.
+// Worked rows of this crate's definitions.
 pub fn rows()
     ensures { λ _. ⌜ MedianRows ⌝ }
 {}

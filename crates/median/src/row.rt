@@ -1,4 +1,5 @@
-// The median of a mask, row by row: how many rows around are true at each place of a row, then the votes along it (votes.rt).
+// The median of a mask, row by row: how many rows around are true at each place of a row, then the votes along it
+// (votes.rt).
 ghost use mathlib.Core.Path.{_≡_};
 ghost use mathlib.Core.Bool.{false};
 ghost use mathlib.Core.List.{[], _∷_};
@@ -47,8 +48,10 @@ fn add_row(row: &[bool], counts: &mut [u8])
 
 // Adds to each count how many of the rows ys of plane x are true there.
 fn add_plane(mask: &[bool], rows: usize, ys: Span, x: usize, counts: &mut [u8])
-    requires { ⌜ Reaches (now mask) (length (now counts)) (x * rows + ys .to) × Room (planeCount (now mask) rows (length (now counts)) ys x) (now counts) ⌝ }
-    ensures { λ _. ⌜ now (counts .exit) ≡ added (planeCount (now (mask .entry)) rows (length (now (counts .entry))) ys x) (now (counts .entry)) ⌝ }
+    requires { ⌜ Reaches (now mask) (length (now counts)) (x * rows + ys .to)
+        × Room (planeCount (now mask) rows (length (now counts)) ys x) (now counts) ⌝ }
+    ensures { λ _. ⌜ now (counts .exit) ≡ added (planeCount (now (mask .entry)) rows (length (now (counts .entry))) ys
+        x) (now (counts .entry)) ⌝ }
 {
     let n = counts.len();
     let end = ys.to;
@@ -63,8 +66,10 @@ fn add_plane(mask: &[bool], rows: usize, ys: Span, x: usize, counts: &mut [u8])
 
 // Adds to each count how many of the rows ys of the planes xs are true there.
 fn add_planes(mask: &[bool], rows: usize, xs: Span, ys: Span, counts: &mut [u8])
-    requires { ⌜ Reaches (now mask) (length (now counts)) (xs .to * rows) × (1 ≤ rows) × (ys .to ≤ rows) × Room (columnCount (now mask) rows (length (now counts)) xs ys) (now counts) ⌝ }
-    ensures { λ _. ⌜ now (counts .exit) ≡ added (columnCount (now (mask .entry)) rows (length (now (counts .entry))) xs ys) (now (counts .entry)) ⌝ }
+    requires { ⌜ Reaches (now mask) (length (now counts)) (xs .to * rows) × (1 ≤ rows) × (ys .to ≤ rows)
+        × Room (columnCount (now mask) rows (length (now counts)) xs ys) (now counts) ⌝ }
+    ensures { λ _. ⌜ now (counts .exit) ≡ added (columnCount (now (mask .entry)) rows (length (now (counts .entry))) xs
+        ys) (now (counts .entry)) ⌝ }
 {
     let end = xs.to;
     let mut x = xs.from;
@@ -83,8 +88,10 @@ fn median_row(
     counts: &mut [u8],
     out: &mut [bool],
 )
-    requires { ⌜ MaskNeeds planes rows (length (now counts)) (now mask) × (r < planes * rows) × (length (now out) ≡ length (now mask)) × Blank (now counts) ⌝ }
-    ensures { λ _. ⌜ now (out .exit) ≡ setRow (r * length (now (counts .entry))) (length (now (counts .entry))) (medianOfPlace planes rows (length (now (counts .entry))) (now (mask .entry))) (now (out .entry)) ⌝ }
+    requires { ⌜ MaskNeeds planes rows (length (now counts)) (now mask) × (r < planes * rows) × (length (now out)
+        ≡ length (now mask)) × Blank (now counts) ⌝ }
+    ensures { λ _. ⌜ now (out .exit) ≡ setRow (r * length (now (counts .entry))) (length (now (counts .entry)))
+        (medianOfPlace planes rows (length (now (counts .entry))) (now (mask .entry))) (now (out .entry)) ⌝ }
 {
     let xs = around(planes, r / rows);
     let ys = around(rows, r % rows);
@@ -97,7 +104,8 @@ fn median_row(
 // The same, with a buffer of its own.
 fn set_row(mask: &[bool], planes: usize, rows: usize, n: usize, r: usize, out: &mut [bool])
     requires { ⌜ MaskNeeds planes rows n (now mask) × (r < planes * rows) × (length (now out) ≡ length (now mask)) ⌝ }
-    ensures { λ _. ⌜ now (out .exit) ≡ setRow (r * n) n (medianOfPlace planes rows n (now (mask .entry))) (now (out .entry)) ⌝ }
+    ensures { λ _. ⌜ now (out .exit) ≡ setRow (r * n) n (medianOfPlace planes rows n (now (mask .entry)))
+        (now (out .entry)) ⌝ }
 {
     let mut counts = [0; numbers::LONGEST_AXIS];
     median_row(mask, planes, rows, r, &mut counts[..n], out);

@@ -29,7 +29,8 @@ module _ (planes rows n : ℕ) (mask : List Bool) where
   place-three x y z = (λ j. x * (rows * mul-one n j) + (y * mul-one n j + (z * 1 + 0))) ∙ omega (arith, add-mul (x * rows) y n, mul-assoc x rows n)
 
   -- the three sums, the row's own axis first
-  column-sum : (xs ys zs : List ℕ) → total (λ x. total (λ y. total (λ z. one (levelAt false ns mask (three x y z))) zs) ys) xs ≡ total (λ z. total (λ x. total (λ y. cellOf mask rows n x y z) ys) xs) zs
+  column-sum : (xs ys zs : List ℕ) → total (λ x. total (λ y. total (λ z. one (levelAt false ns mask (three x y z))) zs) ys) xs
+      ≡ total (λ z. total (λ x. total (λ y. cellOf mask rows n x y z) ys) xs) zs
   column-sum xs ys zs =
       (λ i. total (λ x. total (λ y. total (λ z. one (getD mask (place-three x y z i) false)) zs) ys) xs)
       ∙ (λ i. total (λ x. total-swap (λ y z. cellOf mask rows n x y z) ys zs i) xs)

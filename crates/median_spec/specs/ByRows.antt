@@ -1,4 +1,5 @@
--- The counts taken row by row: of every place along a row how many of the rows around it are true there, then the neighbours along the row.
+-- The counts taken row by row: of every place along a row how many of the rows around it are true there, then the
+-- neighbours along the row.
 --   spanOf n i              around n i, as the code has it: its first coordinate, and the one past its last
 --   cellOf mask rows n x y z    1 where cell z of row y of plane x is true, else 0; rows to a plane, n cells to a row
 --   planeCount ..           of rows ys of plane x, how many are true at place z
@@ -6,7 +7,8 @@
 --   Reaches mask n last     the mask has `last` rows of n cells, one or more, and at most 8,192 cells
 --   Room g counts           g fits into the counts: no sum is over 255
 --   added g counts          the counts, each with g of its place added
---   votedAt counts m i      whether cell i is true: the counts of its m rows around, over cell i and its neighbours along the row
+--   votedAt counts m i      whether cell i is true: the counts of its m rows around, over cell i and its neighbours
+--                           along the row
 --   Counted counts m        the counts of one to nine rows around, along a row of two cells or more
 --   inRow a n k             whether k is one of the n places from a on
 --   setRow a n f held       the cells held, with f of its place on the n places from a on

@@ -27,21 +27,25 @@ six = bits (1 ∷ 1 ∷ 0 ∷ 1 ∷ 0 ∷ 0 ∷ 1 ∷ 0 ∷ 1 ∷ 0 ∷ 1 ∷ 0 
 
 pub record MedianSpecRows : Type 0 where
   -- the first, a middle and the last cell of an axis; the cells of an axis of two; the cell of an axis of one
-  pub neighbours : around 5 0 ∷ around 5 2 ∷ around 5 4 ∷ around 2 0 ∷ around 2 1 ∷ around 1 0 ∷ [] ≡ (0 ∷ 1 ∷ []) ∷ (1 ∷ 2 ∷ 3 ∷ []) ∷ (3 ∷ 4 ∷ []) ∷ (0 ∷ 1 ∷ []) ∷ (0 ∷ 1 ∷ []) ∷ (0 ∷ []) ∷ []
+  pub neighbours : around 5 0 ∷ around 5 2 ∷ around 5 4 ∷ around 2 0 ∷ around 2 1 ∷ around 1 0 ∷ []
+      ≡ (0 ∷ 1 ∷ []) ∷ (1 ∷ 2 ∷ 3 ∷ []) ∷ (3 ∷ 4 ∷ []) ∷ (0 ∷ 1 ∷ []) ∷ (0 ∷ 1 ∷ []) ∷ (0 ∷ []) ∷ []
   pub sums : total (λ j. j) (upTo 2 5) ∷ one true ∷ one false ∷ [] ≡ 9 ∷ 1 ∷ 0 ∷ []
   -- at a corner, on an edge, on a face and inside
-  pub cells : map (λ p. cellsAround (3 ∷ 3 ∷ 3 ∷ []) (at p)) ((0 ∷ 0 ∷ 0 ∷ []) ∷ (0 ∷ 1 ∷ 2 ∷ []) ∷ (1 ∷ 1 ∷ 2 ∷ []) ∷ (1 ∷ 1 ∷ 1 ∷ []) ∷ []) ≡ 8 ∷ 12 ∷ 18 ∷ 27 ∷ []
+  pub cells : map (λ p. cellsAround (3 ∷ 3 ∷ 3 ∷ []) (at p))
+      ((0 ∷ 0 ∷ 0 ∷ []) ∷ (0 ∷ 1 ∷ 2 ∷ []) ∷ (1 ∷ 1 ∷ 2 ∷ []) ∷ (1 ∷ 1 ∷ 1 ∷ []) ∷ []) ≡ 8 ∷ 12 ∷ 18 ∷ 27 ∷ []
   -- T9: of 8 cells four are enough and three are not
   pub t9-four : medianAnswer (2 ∷ 2 ∷ 2 ∷ []) (bits (1 ∷ 0 ∷ 1 ∷ 0 ∷ 0 ∷ 1 ∷ 0 ∷ 1 ∷ [])) ≡ replicate 8 true
   pub t9-three : medianAnswer (2 ∷ 2 ∷ 2 ∷ []) (bits (1 ∷ 0 ∷ 1 ∷ 0 ∷ 0 ∷ 1 ∷ 0 ∷ 0 ∷ [])) ≡ replicate 8 false
   -- SciPy, which extends the grid at the border, leaves this mask as it is
   pub clipped : medianAnswer (2 ∷ 2 ∷ 2 ∷ []) (bits (1 ∷ 1 ∷ 0 ∷ 0 ∷ 0 ∷ 1 ∷ 0 ∷ 1 ∷ [])) ≡ replicate 8 true
   -- of 27 cells 14 are needed
-  pub middle : medianAt (3 ∷ 3 ∷ 3 ∷ []) (cube 13 14) (at (1 ∷ 1 ∷ 1 ∷ [])) ∷ medianAt (3 ∷ 3 ∷ 3 ∷ []) (cube 14 13) (at (1 ∷ 1 ∷ 1 ∷ [])) ∷ [] ≡ false ∷ true ∷ []
+  pub middle : medianAt (3 ∷ 3 ∷ 3 ∷ []) (cube 13 14) (at (1 ∷ 1 ∷ 1 ∷ []))
+      ∷ medianAt (3 ∷ 3 ∷ 3 ∷ []) (cube 14 13) (at (1 ∷ 1 ∷ 1 ∷ [])) ∷ [] ≡ false ∷ true ∷ []
   -- 5, 6 and 3 of 8, 12 and 8 cells; of 12 cells five are not enough
   pub counts : map (λ z. trueAround (2 ∷ 2 ∷ 3 ∷ []) six (at (0 ∷ 1 ∷ z ∷ []))) (0 ∷ 1 ∷ 2 ∷ []) ≡ 5 ∷ 6 ∷ 3 ∷ []
   pub half-of-twelve : medianAnswer (2 ∷ 2 ∷ 3 ∷ []) six ≡ bits (1 ∷ 1 ∷ 0 ∷ 1 ∷ 1 ∷ 0 ∷ 1 ∷ 1 ∷ 0 ∷ 1 ∷ 1 ∷ 0 ∷ [])
-  pub five-of-twelve : medianAt (2 ∷ 2 ∷ 3 ∷ []) (bits (1 ∷ 1 ∷ 0 ∷ 1 ∷ 0 ∷ 0 ∷ 1 ∷ 0 ∷ 1 ∷ [])) (at (0 ∷ 1 ∷ 1 ∷ [])) ≡ false
+  pub five-of-twelve : medianAt (2 ∷ 2 ∷ 3 ∷ []) (bits (1 ∷ 1 ∷ 0 ∷ 1 ∷ 0 ∷ 0 ∷ 1 ∷ 0 ∷ 1 ∷ [])) (at (0 ∷ 1 ∷ 1 ∷ []))
+      ≡ false
   -- the same row by row: cell 2 of row 0 of plane 1; the counts of plane 0 and of both planes; the votes of four rows
   pub cell : cellOf six 2 3 1 0 2 ≡ 1
   pub plane : map (planeCount six 2 3 (spanOf 2 1) 0) (0 ∷ 1 ∷ 2 ∷ []) ≡ 2 ∷ 1 ∷ 0 ∷ []

@@ -8,7 +8,7 @@ pub struct Span {
     pub to: usize,
 }
 
-// Worked rows of this crate's definitions. Refuses nothing.
+// Worked rows of this crate's definitions.
 pub fn rows()
     ensures { λ _. ⌜ MedianSpecRows ⌝ }
 {}

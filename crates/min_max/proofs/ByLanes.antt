@@ -92,7 +92,8 @@ module _ (cells : List ℤ) (c : Call) (P : Passed cells c) (padded : alone c �
         coordinate-is =
             ap (λ (x : ℤ). x +ℤ pos t) (first-padded c (pos i) padded) ∙ first-is i t (pos (left c)) (c .origin) ∙ ap (λ (x : ℤ). pos (i + t) -ℤ x) (sym (signed .left-pad))
 
-    same-window : map (extendedLane (c .border) (axisLength c) h) (window c (pos i)) ≡ windowOf (paddedLine (pos 0) (c .border) (leftPad (c .size) (c .origin)) (rightPad (c .size) (c .origin)) s) i (c .size)
+    same-window : map (extendedLane (c .border) (axisLength c) h) (window c (pos i)) ≡ windowOf (paddedLine (pos 0) (c .border) (leftPad (c .size) (c .origin)) (rightPad (c .size) (c .origin)) s) i
+        (c .size)
     unfolding paddedLine
     same-window =
         let p = leftPad (c .size) (c .origin) in
@@ -143,7 +144,8 @@ module _ (le : ℤ → ℤ → Bool) (cells : List ℤ) (c : Call) (accept : num
           ∙ ap (extreme le (pos 0)) (same-window cells c P padded f s (p (c .axis)) ls m (λ j l. sym (getD-tabulate f n j (pos 0) l)))
           ∙ sym (ap (λ x. getD (alongAxis (pos 0) (lineOf le c) (c .shape) (c .axis) cells) x (pos 0)) (sym (place-coordinate (c .shape) k full b))
           ∙ getD-along (pos 0) (lineOf le c) (c .shape) (c .axis) cells p full on (coordinate-within (c .shape) k full b) count
-          ∙ getD-tabulate (λ i. extreme le (pos 0) (windowOf (paddedLine (pos 0) (c .border) (leftPad (c .size) (c .origin)) (rightPad (c .size) (c .origin)) s) i (c .size))) (length s) (p (c .axis)) (pos 0) (subst (λ (x : ℕ). p (c .axis) < x) (sym ls) m))
+          ∙ getD-tabulate (λ i. extreme le (pos 0) (windowOf (paddedLine (pos 0) (c .border) (leftPad (c .size) (c .origin)) (rightPad (c .size) (c .origin)) s) i (c .size))) (length s) (p (c .axis))
+          (pos 0) (subst (λ (x : ℕ). p (c .axis) < x) (sym ls) m))
 
   pub answer-copied : alone c ≡ true → answerOf le cells c ≡ cells
   answer-copied one =
@@ -161,4 +163,5 @@ module _ (le : ℤ → ℤ → Bool) (cells : List ℤ) (c : Call) (accept : num
           given k h
           ∙ (λ j. extreme le (pos 0) (map (laneLevel cells c k) (upFrom (first-alone c (pos i) one j) (eqb-true (c .size) 1 one j))))
           ∙ lane-inside (c .border) (axisLength c) (λ j. levelAt (pos 0) (c .shape) cells (moved (c .axis) j (coordinate (c .shape) k))) i m
-          ∙ ap (λ x. getD cells x (pos 0)) (place-ext (c .shape) (moved (c .axis) i (coordinate (c .shape) k)) (coordinate (c .shape) k) (λ x l. own k x (eqb x (c .axis)) refl) ∙ place-coordinate (c .shape) k full b)
+          ∙ ap (λ x. getD cells x (pos 0)) (place-ext (c .shape) (moved (c .axis) i (coordinate (c .shape) k)) (coordinate (c .shape) k) (λ x l. own k x (eqb x (c .axis)) refl)
+          ∙ place-coordinate (c .shape) k full b)

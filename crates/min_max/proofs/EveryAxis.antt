@@ -58,7 +58,18 @@ module _ (cells : List ℤ) (ns : List ℕ) (size : ℕ) (m : BorderMode) (o : �
     unfolding numberOf
     pass-accepted {g} held a B e h =
         let n = sym (count-accepted ns (F .grid .shape)) in
-        simp (F .grid .shape, eq-eqb (length g) (gridCount ns) (B .count ∙ n), eq-eqb (length held) (gridCount ns) (e ∙ n), B .range, F .sizes, F .origin, lt-ltb a (length ns) h, F .level, reach-at a h) refl
+        simp (
+          F .grid .shape,
+          eq-eqb (length g) (gridCount ns) (B .count ∙ n),
+          eq-eqb (length held) (gridCount ns) (e ∙ n),
+          B .range,
+          F .sizes,
+          F .origin,
+          lt-ltb a (length ns) h,
+          F .level,
+          reach-at a
+              h,
+        ) refl
 
     pub between-pass : (le : ℤ → ℤ → Bool) {g : List ℤ} (held : List ℤ) (a : ℕ) → Between g → {new : List ℤ} → new ≡ answerOf le g (callOf ns size a m o held) → Between new
     between-pass le {g} held a B e = record {
@@ -67,7 +78,8 @@ module _ (cells : List ℤ) (ns : List ℕ) (size : ℕ) (m : BorderMode) (o : �
     }
 
 -- the grid that a pass is lent is not read
-pub answer-held : (le : ℤ → ℤ → Bool) (g : List ℤ) (ns : List ℕ) (size a : ℕ) (m : BorderMode) (o : ℤ) (held held′ : List ℤ) → answerOf le g (callOf ns size a m o held) ≡ answerOf le g (callOf ns size a m o held′)
+pub answer-held : (le : ℤ → ℤ → Bool) (g : List ℤ) (ns : List ℕ) (size a : ℕ) (m : BorderMode) (o : ℤ) (held held′ : List ℤ) → answerOf le g (callOf ns size a m o held)
+    ≡ answerOf le g (callOf ns size a m o held′)
 unfolding answerOf firstIn
 answer-held le g ns size a m o held held′ = refl
 
@@ -84,11 +96,13 @@ module _ (le : ℤ → ℤ → Bool) (cells : List ℤ) (ns : List ℕ) (size : 
   unfolding filterAnswer step
   one-pass h n e = passes.one-pass step cells n (made cells 0 h e)
 
-  pub two-passes : {x y : List ℤ} (h k : List ℤ) → length ns ≡ 2 → x ≡ answerOf le cells (callOf ns size 0 m o h) → y ≡ answerOf le x (callOf ns size 1 m o k) → y ≡ filterAnswer le (callOf ns size 0 m o out) cells
+  pub two-passes : {x y : List ℤ} (h k : List ℤ) → length ns ≡ 2 → x ≡ answerOf le cells (callOf ns size 0 m o h) → y ≡ answerOf le x (callOf ns size 1 m o k) → y
+      ≡ filterAnswer le (callOf ns size 0 m o out) cells
   unfolding filterAnswer step
   two-passes {x} h k n e f = passes.two-passes step cells n (made cells 0 h e) (made x 1 k f)
 
-  pub three-passes : {x y z : List ℤ} (h k l : List ℤ) → length ns ≡ 3 → x ≡ answerOf le cells (callOf ns size 0 m o h) → y ≡ answerOf le x (callOf ns size 1 m o k) → z ≡ answerOf le y (callOf ns size 2 m o l)
+  pub three-passes : {x y z : List ℤ} (h k l : List ℤ) → length ns ≡ 3 → x ≡ answerOf le cells (callOf ns size 0 m o h) → y ≡ answerOf le x (callOf ns size 1 m o k) → z
+      ≡ answerOf le y (callOf ns size 2 m o l)
       → z ≡ filterAnswer le (callOf ns size 0 m o out) cells
   unfolding filterAnswer step
   three-passes {x} {y} h k l n e f g = passes.three-passes step cells n (made cells 0 h e) (made x 1 k f) (made y 2 l g)

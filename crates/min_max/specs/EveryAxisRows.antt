@@ -22,6 +22,9 @@ onSquare size m o = callOf (2 ∷ 2 ∷ []) size 0 m o square
 
 pub record EveryAxisRows : Type 0 where
   -- T5 on every axis, and the greatest of the same boxes; 2 by 2 by 1 cells sweep a third axis
-  pub t5-minimum : filterAnswer leZ (onSquare 2 (modes.Constant (pos 0)) (pos 0)) square ≡ pos 0 ∷ pos 0 ∷ pos 0 ∷ pos 3 ∷ []
-  pub t5-maximum : filterAnswer atLeast (onSquare 2 (modes.Constant (pos 0)) (pos 0)) square ≡ pos 5 ∷ pos 5 ∷ pos 5 ∷ pos 9 ∷ []
-  pub third-axis : filterAnswer leZ (callOf (2 ∷ 2 ∷ 1 ∷ []) 2 0 (modes.Constant (pos 2)) (pos 0) square) square ≡ pos 2 ∷ pos 2 ∷ pos 2 ∷ pos 2 ∷ []
+  pub t5-minimum : filterAnswer leZ (onSquare 2 (modes.Constant (pos 0)) (pos 0)) square
+      ≡ pos 0 ∷ pos 0 ∷ pos 0 ∷ pos 3 ∷ []
+  pub t5-maximum : filterAnswer atLeast (onSquare 2 (modes.Constant (pos 0)) (pos 0)) square
+      ≡ pos 5 ∷ pos 5 ∷ pos 5 ∷ pos 9 ∷ []
+  pub third-axis : filterAnswer leZ (callOf (2 ∷ 2 ∷ 1 ∷ []) 2 0 (modes.Constant (pos 2)) (pos 0) square) square
+      ≡ pos 2 ∷ pos 2 ∷ pos 2 ∷ pos 2 ∷ []

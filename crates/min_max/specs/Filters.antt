@@ -1,5 +1,6 @@
--- The grid forms of the minimum and maximum filters. What a one-axis call is, which number it gets and what it fills stand in `min_max_spec`,
--- which number a grid call gets in `min_max_judge`; here is what the grid forms fill: every axis in rising order.
+-- The grid forms of the minimum and maximum filters. What a one-axis call is, which number it gets and what it fills
+-- stand in `min_max_spec`, which number a grid call gets in `min_max_judge`; here is what the grid forms fill: every
+-- axis in rising order.
 --   onAxis c a                  the call c on axis a
 --   filterAnswer le c cells     every axis in rising order, each pass on what the one before it left
 use Prim.Native.Nat.{ℕ}

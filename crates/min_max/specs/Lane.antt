@@ -1,7 +1,8 @@
 -- Which level of a window is kept, and one lane: what the workers fill. What a one-axis call is, which number it gets
 -- and what it fills stand in `min_max_spec`.
 --   orderOf e                      the test of the order: ≤ for the least level, ≥ for the greatest
---   extremesBy le size p n           the line filter: the first level, in the order, of each window of size cells of the
+--   extremesBy le size p n           the line filter: the first level, in the order, of each window of size cells of
+--                                    the
 --                                  padded line p, cells 0 to n − 1
 --   extremesOf le b left right s   for each cell of the line s the first level, in the order, of its window of the
 --                                  padded line

@@ -17,7 +17,8 @@ use border::BorderMode;
 // Writes the least or the greatest level of each window of a padded line.
 fn filter_line(extreme: Extreme, size: usize, line: &[i64], out: &mut [i64])
     requires { ⌜ RingNeeds (length (now line)) size (length (now out)) ⌝ }
-    ensures { λ _. ⌜ now (out .exit) ≡ extremes (orderOf extreme) (now (line .entry)) size (length (now (out .entry))) ⌝ }
+    ensures { λ _. ⌜ now (out .exit) ≡ extremes (orderOf extreme) (now (line .entry)) size
+        (length (now (out .entry))) ⌝ }
 {
     match extreme {
         Extreme::Least => min_max_line::minimum_windows(line, size, out),
@@ -38,8 +39,10 @@ fn filter_lane(
     line: &mut [i64],
     row: &mut [i64],
 )
-    requires { ⌜ LineNeeds (borderOf mode) (length (now row)) stride base left right (now «data») (now line) × (0 < left + right) ⌝ }
-    ensures { λ _. ⌜ now (row .exit) ≡ extremesOf (orderOf extreme) (borderOf mode) left right (laneAt (pos 0) (now («data» .entry)) base stride (length (now (row .entry)))) ⌝ }
+    requires { ⌜ LineNeeds (borderOf mode) (length (now row)) stride base left right (now «data») (now line)
+        × (0 < left + right) ⌝ }
+    ensures { λ _. ⌜ now (row .exit) ≡ extremesOf (orderOf extreme) (borderOf mode) left right
+        (laneAt (pos 0) (now («data» .entry)) base stride (length (now (row .entry)))) ⌝ }
 {
     let n = row.len();
     pad_line::pad_from(data, base, stride, n, mode, left, right, line);
@@ -60,8 +63,10 @@ fn filter_rows(
     line: &mut [i64],
     out: &mut [i64],
 )
-    requires { ⌜ AxisNeeds (borderOf mode) (now shape) axis left right (now «data») (now out) × (0 < left + right) × (length (now line) ≡ longestLine) × (strideOf (now shape) axis ≡ 1) ⌝ }
-    ensures { λ _. ⌜ now (out .exit) ≡ alongAxis (pos 0) (extremesOf (orderOf extreme) (borderOf mode) left right) (now (shape .entry)) axis (now («data» .entry)) ⌝ }
+    requires { ⌜ AxisNeeds (borderOf mode) (now shape) axis left right (now «data») (now out) × (0 < left + right)
+        × (length (now line) ≡ longestLine) × (strideOf (now shape) axis ≡ 1) ⌝ }
+    ensures { λ _. ⌜ now (out .exit) ≡ alongAxis (pos 0) (extremesOf (orderOf extreme) (borderOf mode) left right)
+        (now (shape .entry)) axis (now («data» .entry)) ⌝ }
 {
     let along = lanes::lanes_of(shape, axis);
     let n = along.len;
@@ -100,8 +105,10 @@ fn filter_lanes(
     swept: &mut [i64],
     out: &mut [i64],
 )
-    requires { ⌜ AxisNeeds (borderOf mode) (now shape) axis left right (now «data») (now out) × (0 < left + right) × (length (now line) ≡ longestLine) × (length (now swept) ≡ lengthOf (now shape) axis) ⌝ }
-    ensures { λ _. ⌜ now (out .exit) ≡ alongAxis (pos 0) (extremesOf (orderOf extreme) (borderOf mode) left right) (now (shape .entry)) axis (now («data» .entry)) ⌝ }
+    requires { ⌜ AxisNeeds (borderOf mode) (now shape) axis left right (now «data») (now out) × (0 < left + right)
+        × (length (now line) ≡ longestLine) × (length (now swept) ≡ lengthOf (now shape) axis) ⌝ }
+    ensures { λ _. ⌜ now (out .exit) ≡ alongAxis (pos 0) (extremesOf (orderOf extreme) (borderOf mode) left right)
+        (now (shape .entry)) axis (now («data» .entry)) ⌝ }
 {
     let along = lanes::lanes_of(shape, axis);
     let n = along.len;
@@ -142,8 +149,10 @@ fn filter_columns(
     line: &mut [i64],
     out: &mut [i64],
 )
-    requires { ⌜ AxisNeeds (borderOf mode) (now shape) axis left right (now «data») (now out) × (0 < left + right) × (length (now line) ≡ longestLine) ⌝ }
-    ensures { λ _. ⌜ now (out .exit) ≡ alongAxis (pos 0) (extremesOf (orderOf extreme) (borderOf mode) left right) (now (shape .entry)) axis (now («data» .entry)) ⌝ }
+    requires { ⌜ AxisNeeds (borderOf mode) (now shape) axis left right (now «data») (now out) × (0 < left + right)
+        × (length (now line) ≡ longestLine) ⌝ }
+    ensures { λ _. ⌜ now (out .exit) ≡ alongAxis (pos 0) (extremesOf (orderOf extreme) (borderOf mode) left right)
+        (now (shape .entry)) axis (now («data» .entry)) ⌝ }
 {
     let n = array::len_of(shape, axis);
     let mut swept = [0; numbers::LONGEST_AXIS];
@@ -174,7 +183,8 @@ pub(crate) fn filter_axis(
     out: &mut [i64],
 )
     requires { ⌜ AxisNeeds (borderOf mode) (now shape) axis left right (now «data») (now out) × (0 < left + right) ⌝ }
-    ensures { λ _. ⌜ now (out .exit) ≡ alongAxis (pos 0) (extremesOf (orderOf extreme) (borderOf mode) left right) (now (shape .entry)) axis (now («data» .entry)) ⌝ }
+    ensures { λ _. ⌜ now (out .exit) ≡ alongAxis (pos 0) (extremesOf (orderOf extreme) (borderOf mode) left right)
+        (now (shape .entry)) axis (now («data» .entry)) ⌝ }
 {
     let mut line = [0; numbers::LONGEST_LINE];
     if lanes::stride_of(shape, axis) == 1 {

@@ -23,8 +23,10 @@ fn passes(
     second: &mut [i64],
     out: &mut [i64],
 )
-    requires { ⌜ refusalOf (filterJudged (now «data») (callOf (now shape) size 0 mode origin (now out)) (length (now second))) ≡ 0 ⌝ }
-    ensures { λ _. ⌜ now (out .exit) ≡ filterAnswer (orderOf extreme) (callOf (now (shape .entry)) size 0 mode origin (now (out .entry))) (now («data» .entry)) ⌝ }
+    requires { ⌜ refusalOf (filterJudged (now «data») (callOf (now shape) size 0 mode origin (now out))
+        (length (now second))) ≡ 0 ⌝ }
+    ensures { λ _. ⌜ now (out .exit) ≡ filterAnswer (orderOf extreme)
+        (callOf (now (shape .entry)) size 0 mode origin (now (out .entry))) (now («data» .entry)) ⌝ }
 {
     let axes = shape.len();
     if axes == 1 {
@@ -52,8 +54,11 @@ fn filter(
     second: &mut [i64],
     out: &mut [i64],
 ) -> u8
-    ensures { λ r. ⌜ ScratchAnswers (pos 0) (filterJudged (now («data» .entry)) (callOf (now (shape .entry)) size 0 mode origin (now (out .entry))) (length (now (second .entry))))
-        (filterAnswer (orderOf extreme) (callOf (now (shape .entry)) size 0 mode origin (now (out .entry))) (now («data» .entry))) (now (out .entry)) (now (second .entry) ∷ []) r (now (out .exit)) (now (second .exit) ∷ []) ⌝ }
+    ensures { λ r. ⌜ ScratchAnswers (pos 0) (filterJudged (now («data» .entry))
+        (callOf (now (shape .entry)) size 0 mode origin (now (out .entry))) (length (now (second .entry))))
+        (filterAnswer (orderOf extreme) (callOf (now (shape .entry)) size 0 mode origin (now (out .entry)))
+        (now («data» .entry))) (now (out .entry)) (now (second .entry) ∷ []) r (now (out .exit))
+        (now (second .exit) ∷ []) ⌝ }
 {
     let refusal = min_max_judge::judge_filter(data, shape, size, mode, origin, out, second.len());
     if refusal != 0 {
@@ -64,7 +69,8 @@ fn filter(
     numbers::ACCEPTED
 }
 
-// Fills each cell of out with the least level of its box: the minimum along every axis, in rising order; SciPy's minimum_filter.
+// Fills each cell of out with the least level of its box: the minimum along every axis, in rising order; SciPy's
+// minimum_filter.
 //
 // * `data` - the cells of the grid, in row-major order.
 // * `shape` - the length of each axis.
@@ -74,9 +80,8 @@ fn filter(
 // * `second` - a second grid as long as data, for what a pass leaves to the next; an accepted call leaves zeros in it.
 // * `out` - as long as data.
 //
-// Returns 0, or the lowest number of a condition that holds: 1 (shape), 2 (a length), 3 (a level), 5 (size), 7 (origin),
-// 9 (constant) or 11 (the border cannot fill a pad of some axis). A refused call leaves both lent grids as they were.
-// The rows 5 3 / 4 9 with size 2 under Constant(0) and origin 0 give 0 0 / 0 3.
+// Refuses: 1 (shape), 2 (length), 3 (level), 5 (kernel), 7 (origin), 9 (constant), 11 (reach). A refused call leaves
+// both lent grids as they were. The rows 5 3 / 4 9 with size 2 under Constant(0) and origin 0 give 0 0 / 0 3.
 pub fn minimum_filter(
     data: &[i64],
     shape: &[usize],
@@ -86,8 +91,10 @@ pub fn minimum_filter(
     second: &mut [i64],
     out: &mut [i64],
 ) -> u8
-    ensures { λ r. ⌜ ScratchAnswers (pos 0) (filterJudged (now («data» .entry)) (callOf (now (shape .entry)) size 0 mode origin (now (out .entry))) (length (now (second .entry))))
-        (filterAnswer leZ (callOf (now (shape .entry)) size 0 mode origin (now (out .entry))) (now («data» .entry))) (now (out .entry)) (now (second .entry) ∷ []) r (now (out .exit)) (now (second .exit) ∷ []) ⌝ }
+    ensures { λ r. ⌜ ScratchAnswers (pos 0) (filterJudged (now («data» .entry))
+        (callOf (now (shape .entry)) size 0 mode origin (now (out .entry))) (length (now (second .entry))))
+        (filterAnswer leZ (callOf (now (shape .entry)) size 0 mode origin (now (out .entry))) (now («data» .entry)))
+        (now (out .entry)) (now (second .entry) ∷ []) r (now (out .exit)) (now (second .exit) ∷ []) ⌝ }
 {
     filter(Extreme::Least, data, shape, size, mode, origin, second, out)
 }
@@ -103,8 +110,10 @@ pub fn maximum_filter(
     second: &mut [i64],
     out: &mut [i64],
 ) -> u8
-    ensures { λ r. ⌜ ScratchAnswers (pos 0) (filterJudged (now («data» .entry)) (callOf (now (shape .entry)) size 0 mode origin (now (out .entry))) (length (now (second .entry))))
-        (filterAnswer atLeast (callOf (now (shape .entry)) size 0 mode origin (now (out .entry))) (now («data» .entry))) (now (out .entry)) (now (second .entry) ∷ []) r (now (out .exit)) (now (second .exit) ∷ []) ⌝ }
+    ensures { λ r. ⌜ ScratchAnswers (pos 0) (filterJudged (now («data» .entry))
+        (callOf (now (shape .entry)) size 0 mode origin (now (out .entry))) (length (now (second .entry))))
+        (filterAnswer atLeast (callOf (now (shape .entry)) size 0 mode origin (now (out .entry))) (now («data» .entry)))
+        (now (out .entry)) (now (second .entry) ∷ []) r (now (out .exit)) (now (second .exit) ∷ []) ⌝ }
 {
     filter(
         Extreme::Greatest,

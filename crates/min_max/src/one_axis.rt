@@ -17,8 +17,7 @@ use window::Origin;
 // * `extreme` - which level of a window is kept.
 // * `data`, `shape`, `size`, `axis`, `mode`, `origin`, `out` - as in `minimum_filter1d`.
 //
-// Supposes the number 0, and refuses nothing. 4 2 7 1 with Least and size 3 along axis 0 under Reflect and origin 0
-// gives 2 2 1 1.
+// Supposes the number 0. 4 2 7 1 with Least and size 3 along axis 0 under Reflect and origin 0 gives 2 2 1 1.
 pub(crate) fn pass(
     extreme: Extreme,
     data: &[i64],
@@ -30,7 +29,8 @@ pub(crate) fn pass(
     out: &mut [i64],
 )
     requires { ⌜ numberOf (now «data») (callOf (now shape) size axis mode origin (now out)) ≡ 0 ⌝ }
-    ensures { λ _. ⌜ now (out .exit) ≡ answerOf (orderOf extreme) (now («data» .entry)) (callOf (now (shape .entry)) size axis mode origin (now (out .entry))) ⌝ }
+    ensures { λ _. ⌜ now (out .exit) ≡ answerOf (orderOf extreme) (now («data» .entry))
+        (callOf (now (shape .entry)) size axis mode origin (now (out .entry))) ⌝ }
 {
     if size == 1 {
         array::copy(data, out);
@@ -62,8 +62,11 @@ fn filter1d(
     origin: isize,
     out: &mut [i64],
 ) -> u8
-    ensures { λ r. ⌜ Answers (callJudged (now («data» .entry)) (callOf (now (shape .entry)) size axis mode origin (now (out .entry))))
-        (answerOf (orderOf extreme) (now («data» .entry)) (callOf (now (shape .entry)) size axis mode origin (now (out .entry)))) (now (out .entry)) r (now (out .exit)) ⌝ }
+    ensures { λ r. ⌜ Answers (callJudged (now («data» .entry))
+        (callOf (now (shape .entry)) size axis mode origin (now (out .entry))))
+        (answerOf (orderOf extreme) (now («data» .entry))
+        (callOf (now (shape .entry)) size axis mode origin (now (out .entry)))) (now (out .entry)) r
+        (now (out .exit)) ⌝ }
 {
     let refusal = min_max_judge::judge_call(data, shape, size, axis, mode, origin, out);
     if refusal != 0 {
@@ -83,9 +86,8 @@ fn filter1d(
 // * `origin` - moves the window of cell i to i - size / 2 - origin.
 // * `out` - as long as data; kept as it was where the call is refused.
 //
-// Returns 0, or the lowest number of a condition that holds: 1 (shape), 2 (a length), 3 (a level), 5 (size), 7
-// (origin), 8 (axis), 9 (constant) or 11 (the border cannot fill a pad).
-// 2 1 4 3 5 with size 3 along axis 0 under Reflect and origin 0 gives 1 1 1 3 3.
+// Refuses: 1 (shape), 2 (length), 3 (level), 5 (kernel), 7 (origin), 8 (axis), 9 (constant), 11 (reach). 2 1 4 3 5 with
+// size 3 along axis 0 under Reflect and origin 0 gives 1 1 1 3 3.
 pub fn minimum_filter1d(
     data: &[i64],
     shape: &[usize],
@@ -95,8 +97,10 @@ pub fn minimum_filter1d(
     origin: isize,
     out: &mut [i64],
 ) -> u8
-    ensures { λ r. ⌜ Answers (callJudged (now («data» .entry)) (callOf (now (shape .entry)) size axis mode origin (now (out .entry))))
-        (answerOf leZ (now («data» .entry)) (callOf (now (shape .entry)) size axis mode origin (now (out .entry)))) (now (out .entry)) r (now (out .exit)) ⌝ }
+    ensures { λ r. ⌜ Answers (callJudged (now («data» .entry))
+        (callOf (now (shape .entry)) size axis mode origin (now (out .entry))))
+        (answerOf leZ (now («data» .entry)) (callOf (now (shape .entry)) size axis mode origin (now (out .entry))))
+        (now (out .entry)) r (now (out .exit)) ⌝ }
 {
     filter1d(Extreme::Least, data, shape, size, axis, mode, origin, out)
 }
@@ -112,8 +116,10 @@ pub fn maximum_filter1d(
     origin: isize,
     out: &mut [i64],
 ) -> u8
-    ensures { λ r. ⌜ Answers (callJudged (now («data» .entry)) (callOf (now (shape .entry)) size axis mode origin (now (out .entry))))
-        (answerOf atLeast (now («data» .entry)) (callOf (now (shape .entry)) size axis mode origin (now (out .entry)))) (now (out .entry)) r (now (out .exit)) ⌝ }
+    ensures { λ r. ⌜ Answers (callJudged (now («data» .entry))
+        (callOf (now (shape .entry)) size axis mode origin (now (out .entry))))
+        (answerOf atLeast (now («data» .entry)) (callOf (now (shape .entry)) size axis mode origin (now (out .entry))))
+        (now (out .entry)) r (now (out .exit)) ⌝ }
 {
     filter1d(
         Extreme::Greatest,

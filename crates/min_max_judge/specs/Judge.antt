@@ -1,5 +1,6 @@
--- The conditions of the minimum and maximum filters, one-axis and grid forms. Which number a one-axis call gets stands in `min_max_spec`;
--- here is how the arguments of the program's calls make such a call, and which number a grid call gets.
+-- The conditions of the minimum and maximum filters, one-axis and grid forms. Which number a one-axis call gets stands
+-- in `min_max_spec`; here is how the arguments of the program's calls make such a call, and which number a grid call
+-- gets.
 --   callOf ns size a m o held   the one-axis call of these arguments, `held` the lent output as it stands
 --   sizeJudged size o           conditions 5 and 7 of a window
 --   filterAxesJudged ns size b o      conditions 5, 7, 9 and 11 (of any axis) of a window along every axis
@@ -33,4 +34,5 @@ filterAxesJudged ns size b o =
 
 abbrev pub filterJudged : List ℤ → Call → ℕ → Judged
 filterJudged cells c second =
-    gridJudged (c .shape) cells (length (c .out) ∷ second ∷ []) ++ filterAxesJudged (c .shape) (c .size) (c .border) (c .origin)
+    gridJudged (c .shape) cells (length (c .out) ∷ second ∷ [])
+    ++ filterAxesJudged (c .shape) (c .size) (c .border) (c .origin)

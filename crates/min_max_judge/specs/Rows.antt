@@ -27,14 +27,16 @@ abbrev pub alongSquare : ℕ → ℕ → BorderMode → ℤ → ℕ
 alongSquare size a m o = refusalOf (callJudged square (callOf (2 ∷ 2 ∷ []) size a m o square))
 
 pub record MinMaxJudgeRows : Type 0 where
-  -- the refusals of a one-axis call: accepted on the last axis, length 66, origin 1 of length 2, axis 2, Constant 2^31, Mirror with length 5 on two cells
+  -- the refusals of a one-axis call: accepted on the last axis, length 66, origin 1 of length 2, axis 2, Constant 2^31,
+  -- Mirror with length 5 on two cells
   pub last-axis : alongSquare 2 1 modes.Wrap (pos 0) ≡ 0
   pub along-size-66 : alongSquare 66 0 modes.Nearest (pos 0) ≡ 5
   pub along-origin-1 : alongSquare 2 0 modes.Nearest (pos 1) ≡ 7
   pub axis-2 : alongSquare 2 2 modes.Nearest (pos 0) ≡ 8
   pub along-constant-out : alongSquare 2 0 (modes.Constant (pos 2147483648)) (pos 0) ≡ 9
   pub along-reach-out : alongSquare 5 0 modes.Mirror (pos 0) ≡ 11
-  -- the refusals of a grid call: a second grid of 3 cells, length 66, origin 1 of length 2, Constant 2^31, Mirror with length 5 on two cells
+  -- the refusals of a grid call: a second grid of 3 cells, length 66, origin 1 of length 2, Constant 2^31, Mirror with
+  -- length 5 on two cells
   pub second-short : refusalOf (filterJudged square (onSquare 2 modes.Wrap (pos 0)) 3) ≡ 2
   pub accepted : refusalOf (filterJudged square (onSquare 2 modes.Wrap (pos 0)) 4) ≡ 0
   pub size-66 : refusalOf (filterJudged square (onSquare 66 modes.Nearest (pos 0)) 4) ≡ 5

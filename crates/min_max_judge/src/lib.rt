@@ -55,9 +55,8 @@ fn judge_window(shape: &[usize], size: usize, axis: usize, mode: BorderMode, ori
 // * `origin` - how far the window is moved.
 // * `out` - the lent output; only its length is judged.
 //
-// Returns 0, or the lowest number of a condition that holds: 1 (shape), 2 (a length), 3 (a level), 5 (size), 7 (origin), 8 (axis),
-// 9 (constant) or 11 (the border cannot fill a pad). Writes nothing and refuses nothing itself.
-// The rows 5 3 / 4 9 with size 2 under Nearest and origin 1 give 7, along axis 2 with origin 0 they give 8.
+// Refuses: 1 (shape), 2 (length), 3 (level), 5 (kernel), 7 (origin), 8 (axis), 9 (constant), 11 (reach). The rows 5 3 /
+// 4 9 with size 2 under Nearest and origin 1 give 7, along axis 2 with origin 0 they give 8.
 pub fn judge_call(
     data: &[i64],
     shape: &[usize],
@@ -67,7 +66,8 @@ pub fn judge_call(
     origin: isize,
     out: &[i64],
 ) -> u8
-    ensures { λ r. ⌜ r ≡ refusalOf (callJudged (now («data» .entry)) (callOf (now (shape .entry)) size axis mode origin (now (out .entry)))) ⌝ }
+    ensures { λ r. ⌜ r ≡ refusalOf (callJudged (now («data» .entry))
+        (callOf (now (shape .entry)) size axis mode origin (now (out .entry)))) ⌝ }
 {
     let refusal = array::judge_grid(data, shape, &[out.len()]);
     if refusal != 0 {
@@ -100,9 +100,8 @@ fn judge_axes(shape: &[usize], size: usize, mode: BorderMode, origin: isize) -> 
 // * `out` - the lent output; only its length is judged.
 // * `second` - how many cells the second lent grid has.
 //
-// Returns 0, or the lowest number of a condition that holds: 1 (shape), 2 (a length), 3 (a level), 5 (size), 7 (origin),
-// 9 (constant) or 11 (the border cannot fill a pad of some axis). Writes nothing and refuses nothing itself.
-// The rows 5 3 / 4 9 with size 5 under Mirror and origin 0 give 11; with size 2 and a second grid of 3 cells they give 2.
+// Refuses: 1 (shape), 2 (length), 3 (level), 5 (kernel), 7 (origin), 9 (constant), 11 (reach). The rows 5 3 / 4 9 with
+// size 5 under Mirror and origin 0 give 11; with size 2 and a second grid of 3 cells they give 2.
 pub fn judge_filter(
     data: &[i64],
     shape: &[usize],
@@ -112,7 +111,8 @@ pub fn judge_filter(
     out: &[i64],
     second: usize,
 ) -> u8
-    ensures { λ r. ⌜ r ≡ refusalOf (filterJudged (now («data» .entry)) (callOf (now (shape .entry)) size 0 mode origin (now (out .entry))) second) ⌝ }
+    ensures { λ r. ⌜ r ≡ refusalOf (filterJudged (now («data» .entry))
+        (callOf (now (shape .entry)) size 0 mode origin (now (out .entry))) second) ⌝ }
 {
     let refusal = array::judge_grid(data, shape, &[out.len(), second]);
     if refusal != 0 {
@@ -121,7 +121,7 @@ pub fn judge_filter(
     judge_axes(shape, size, mode, origin)
 }
 
-// Worked rows of this crate's definitions: the refusals of both forms. Refuses nothing.
+// Worked rows of this crate's definitions: the refusals of both forms.
 pub fn rows()
     ensures { λ _. ⌜ MinMaxJudgeRows ⌝ }
 {}

@@ -1,7 +1,7 @@
 // The greatest of each window of a line, by MINLIST: Richard Harter, "The minimum on a sliding window algorithm"; what
-// a window holds is SciPy's page on maximum_filter1d. The ring of pairs is `min_max_ring`'s, an array of 65 with its start
-// and its count. All of it stays in the locals of one function, and the front is kept beside it: a ring that is passed
-// on is copied at each cell.
+// a window holds is SciPy's page on maximum_filter1d. The ring of pairs is `min_max_ring`'s, an array of 65 with its
+// start and its count. All of it stays in the locals of one function, and the front is kept beside it: a ring that is
+// passed on is copied at each cell.
 ghost use mathlib.Core.Path.{_≡_};
 ghost use lib.ListN.{length};
 ghost use Rattle.numbers.specs.Order.{atLeast};
@@ -102,8 +102,7 @@ pub fn maximum_windows(line: &[i64], len: usize, out: &mut [i64])
 // * `len` - the cells of a window, 2 to 65.
 // * `out` - a cell for each window, line.len() + 1 - len of them: cell i gets the greatest of line[i .. i + len].
 //
-// Where one of these does not hold, out stays as it was. Refuses nothing.
-// The line 4 4 2 7 1 1 with windows of 3 gives 4 7 7 7.
+// Where one of these does not hold, out stays as it was. The line 4 4 2 7 1 1 with windows of 3 gives 4 7 7 7.
 pub fn maximum_line(line: &[i64], len: usize, out: &mut [i64])
     ensures { λ _. ⌜ now (out .exit) ≡ sweptBy atLeast (now (line .entry)) len (now (out .entry)) ⌝ }
 {

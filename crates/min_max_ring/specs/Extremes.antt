@@ -1,9 +1,11 @@
--- The first of each window of a line, in an order given by its test: the least under ≤ (SciPy's page on minimum_filter1d), the greatest under ≥ (its page on maximum_filter1d).
+-- The first of each window of a line, in an order given by its test: the least under ≤ (SciPy's page on
+-- minimum_filter1d), the greatest under ≥ (its page on maximum_filter1d).
 --   orderBy greatest          the test of the order: ≥ where greatest is true, else ≤
 --   extremes le line len n      the first of line[i .. i + len], for i from 0 to n − 1
 --   serving n len m           whether the ring serves windows of len cells of a line of n cells, for m cells of output
 --   RingNeeds n len m            the same, as facts
---   sweptBy le line len out   what out holds after the line: the first of each window where the ring serves, else what it held
+--   sweptBy le line len out   what out holds after the line: the first of each window where the ring serves, else what
+--                             it held
 use Prim.Native.Nat.{ℕ, _+_, _-_, _≤_, _<_}
 use mathlib.Core.Path.{_≡_}
 use mathlib.Core.Bool.{Bool, true, false, _&&_, cond}

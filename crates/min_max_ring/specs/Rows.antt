@@ -40,9 +40,12 @@ pub record MinMaxRingRows : Type 0 where
   pub greatest-two : greatests 2 5 ≡ wholes (4 ∷ 4 ∷ 7 ∷ 7 ∷ 1 ∷ [])
   pub least-whole : leasts 6 1 ≡ wholes (1 ∷ [])
   pub greatest-whole : greatests 6 1 ≡ wholes (7 ∷ [])
-  -- served: windows of 2 and 65, a line of 1,088, a line one short of a window for no output; not windows of 1 and 66, a line of 1,089, a line two short
-  pub served : serving 2 2 1 ∷ serving 65 65 1 ∷ serving 1088 3 1086 ∷ serving 2 3 0 ∷ [] ≡ true ∷ true ∷ true ∷ true ∷ []
-  pub not-served : serving 6 1 6 ∷ serving 66 66 1 ∷ serving 1089 3 1087 ∷ serving 1 3 0 ∷ [] ≡ false ∷ false ∷ false ∷ false ∷ []
+  -- served: windows of 2 and 65, a line of 1,088, a line one short of a window for no output; not windows of 1 and 66,
+  -- a line of 1,089, a line two short
+  pub served : serving 2 2 1 ∷ serving 65 65 1 ∷ serving 1088 3 1086 ∷ serving 2 3 0 ∷ []
+      ≡ true ∷ true ∷ true ∷ true ∷ []
+  pub not-served : serving 6 1 6 ∷ serving 66 66 1 ∷ serving 1089 3 1087 ∷ serving 1 3 0 ∷ []
+      ≡ false ∷ false ∷ false ∷ false ∷ []
   -- an output for each window is filled, one of another length stays; so does any under windows of 1
   pub swept : sweptBy leZ padded 3 (wholes (9 ∷ 9 ∷ 9 ∷ 9 ∷ [])) ≡ wholes (2 ∷ 2 ∷ 1 ∷ 1 ∷ [])
   pub not-swept : sweptBy leZ padded 3 (wholes (9 ∷ 9 ∷ 9 ∷ [])) ≡ wholes (9 ∷ 9 ∷ 9 ∷ [])

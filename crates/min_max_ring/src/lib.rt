@@ -1,8 +1,8 @@
-// What the ring of MINLIST rests on: its pair, its places, and the lines that it serves. The two hot functions over it are in
-// `min_max_line` and keep the ring in their locals.
+// What the ring of MINLIST rests on: its pair, its places, and the lines that it serves. The two hot functions over it
+// are in `min_max_line` and keep the ring in their locals.
 //
-// MINLIST: Richard Harter, "The minimum on a sliding window algorithm". The ring holds levels of the window, each with the cell
-// at which it dies, from the front, the least of the window, to the back, the cell read last.
+// MINLIST: Richard Harter, "The minimum on a sliding window algorithm". The ring holds levels of the window, each with
+// the cell at which it dies, from the front, the least of the window, to the back, the cell read last.
 ghost use mathlib.Core.Path.{_≡_};
 ghost use Rattle.min_max_ring.specs.Extremes.{serving};
 ghost use Rattle.min_max_ring.specs.Ring.{ringPlace};
@@ -14,8 +14,8 @@ pub struct Pair {
     pub death: usize,
 }
 
-// The place of the ring that is k places from its array's start, at most once round the end: 64 is place 64, 65 is place 0.
-// Refuses nothing.
+// The place of the ring that is k places from its array's start, at most once round the end: 64 is place 64, 65 is
+// place 0.
 pub fn place(k: usize) -> usize
     ensures { λ r. ⌜ r ≡ ringPlace k ⌝ }
 {
@@ -31,7 +31,7 @@ pub fn place(k: usize) -> usize
 // * `len` - the cells of a window.
 // * `m` - the cells of the output.
 //
-// A line of 6 cells with windows of 3 has 4 windows: (6, 3, 4) is served, (6, 3, 6) is not. Refuses nothing.
+// A line of 6 cells with windows of 3 has 4 windows: (6, 3, 4) is served, (6, 3, 6) is not.
 pub fn serves(n: usize, len: usize, m: usize) -> bool
     ensures { λ r. ⌜ r ≡ serving n len m ⌝ }
 {
@@ -50,7 +50,7 @@ pub fn serves(n: usize, len: usize, m: usize) -> bool
     m == n + 1 - len
 }
 
-// Worked rows of this crate's definitions. Refuses nothing.
+// Worked rows of this crate's definitions.
 pub fn rows()
     ensures { λ _. ⌜ MinMaxRingRows ⌝ }
 {}

@@ -107,10 +107,12 @@ answer-at : (le : ℤ → ℤ → Bool) (ns : List ℕ) (border : Border ℤ) (c
 unfolding answerOf
 answer-at le ns border c cells e G k h =
     getD-tabulate (λ k. extreme le (pos 0) (map (laneLevel cells c k) (window c (pos (coordinate (c .shape) k (c .axis)))))) (length cells) k (pos 0) (omega arith)
-    ∙ (λ j. extreme le (pos 0) (map (extendedLane (G .shared j) (lengthOf (G .named j) (c .axis)) (λ i. levelAt (pos 0) (G .named j) cells (moved (c .axis) i (coordinate (G .named j) k)))) (window c (pos (coordinate (G .named j) k (c .axis))))))
+    ∙ (λ j. extreme le (pos 0) (map (extendedLane (G .shared j) (lengthOf (G .named j) (c .axis)) (λ i. levelAt (pos 0) (G .named j) cells (moved (c .axis) i (coordinate (G .named j) k))))
+    (window c (pos (coordinate (G .named j) k (c .axis))))))
 
 -- ---- the extended grid at a cell of the grid
-at-cell : (ns : List ℕ) (border : Border ℤ) (cells : List ℤ) (p : ℕ → ℕ) → Within ns p → (q : Point) → ((b : ℕ) → b < length ns → q b ≡ pos (p b)) → extendedGrid (pos 0) border ns cells q ≡ levelAt (pos 0) ns cells p
+at-cell : (ns : List ℕ) (border : Border ℤ) (cells : List ℤ) (p : ℕ → ℕ) → Within ns p → (q : Point) → ((b : ℕ) → b < length ns → q b ≡ pos (p b)) → extendedGrid (pos 0) border ns cells q
+    ≡ levelAt (pos 0) ns cells p
 unfolding extendedGrid
 at-cell ns (constant v) cells p W q h =
     ap (λ t. cond t (levelAt (pos 0) ns cells (λ b. natAbs (q b))) v) (all-intro ns q (λ b l. rw (h b l) (lt-ltb (p b) (lengthOf ns b) (W b l))))
@@ -217,6 +219,7 @@ module _ (le : ℤ → ℤ → Bool) (O : Total le) (ns : List ℕ) (border : Bo
       let gs = all-on-grid ns border cells (kept cells calls) (kept-passed cells calls) (subst (Every (λ c. c .shape ≡ ns)) ek (S .named)) (subst (Every (λ c. c .border ≡ border)) ek (S .shared)) in
       let once : (x : ℕ) → x < length ns → timesSwept x (kept cells calls) ≡ 1 = λ x h. ap (timesSwept x) (sym ek) ∙ S .once x h in
       let main = core (kept cells calls) cells e gs (λ x h. omega (arith, once x h)) (coordinate ns k) (coordinate-within ns k pn b) in
-      let v-is : levelAt (pos 0) ns (fill le cells (kept cells calls)) (coordinate ns k) ≡ getD (run le cells calls) k (pos 0) = (λ j. getD (sym (run-fill le cells calls) j) (place-coordinate ns k pn b j) (pos 0)) in
+      let v-is : levelAt (pos 0) ns (fill le cells (kept cells calls)) (coordinate ns k) ≡ getD (run le cells calls) k (pos 0) =
+      (λ j. getD (sym (run-fill le cells calls) j) (place-coordinate ns k pn b j) (pos 0)) in
       subst₂ (λ (cs : List Call) (v : ℤ). Extremum le (extendedGrid (pos 0) border ns cells) (InBox cs (cellAt ns k)) v) (sym ek) v-is
       (widen (λ q h. record { box = h; fixed = λ x m z. absurd (no-one (sym (once x m) ∙ z)) }) (λ q r. r .box) main)

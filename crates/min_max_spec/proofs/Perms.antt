@@ -56,7 +56,8 @@ kept-perm cells (List·Permᴰ·cons {a = a} {b = b} {l₁ = l₁} {l₂ = l₂}
     subst (λ (n : ℕ). List·Permᴰ (cond (eqb (numberOf cells a) 0) (a ∷ kept cells l₁) (kept cells l₁)) (cond (eqb n 0) (b ∷ kept cells l₂) (kept cells l₂))) (ap (numberOf cells) e)
     (keep-one (eqb (numberOf cells a) 0) e (kept-perm cells d))
 kept-perm cells (List·Permᴰ·swap {a = a} {b = b} {a′ = a′} {b′ = b′} {l = l} e₁ e₂) =
-    subst₂ (λ (m n : ℕ). List·Permᴰ (cond (eqb (numberOf cells a) 0) (a ∷ cond (eqb (numberOf cells b) 0) (b ∷ kept cells l) (kept cells l)) (cond (eqb (numberOf cells b) 0) (b ∷ kept cells l) (kept cells l)))
+    subst₂ (λ (m n : ℕ). List·Permᴰ (cond (eqb (numberOf cells a) 0) (a ∷ cond (eqb (numberOf cells b) 0) (b ∷ kept cells l) (kept cells l))
+    (cond (eqb (numberOf cells b) 0) (b ∷ kept cells l) (kept cells l)))
     (cond (eqb n 0) (a′ ∷ cond (eqb m 0) (b′ ∷ kept cells l) (kept cells l)) (cond (eqb m 0) (b′ ∷ kept cells l) (kept cells l))))
     (ap (numberOf cells) e₁) (ap (numberOf cells) e₂) (keep-two (eqb (numberOf cells a) 0) (eqb (numberOf cells b) 0) (kept cells l) e₁ e₂)
 kept-perm cells (List·Permᴰ·trans d₁ d₂) = List·Permᴰ·trans (kept-perm cells d₁) (kept-perm cells d₂)
@@ -86,7 +87,8 @@ module _ (le : ℤ → ℤ → Bool) (O : Total le) where
       (λ k h.
       let b : k < length cells = omega (arith, same-length le cells l) in
       let a = accepted-perm cells d in
-      box-unique le O ns border (extendedGrid (pos 0) border ns cells) (InBox (accepted le cells l) (cellAt ns k)) (InBox (accepted le cells l′) (cellAt ns k)) (getD (run le cells l) k (pos 0)) (getD (run le cells l′) k (pos 0))
+      box-unique le O ns border (extendedGrid (pos 0) border ns cells) (InBox (accepted le cells l) (cellAt ns k)) (InBox (accepted le cells l′) (cellAt ns k)) (getD (run le cells l) k (pos 0))
+      (getD (run le cells l′) k (pos 0))
       (λ q. every-perm (λ c. InWindow c (cellAt ns k (c .axis)) (q (c .axis))) a)
       (λ q. every-perm (λ c. InWindow c (cellAt ns k (c .axis)) (q (c .axis))) (Permᴰ·symm a))
       (box le O ns border cells l S k b) (box le O ns border cells l′ (sweeps-perm ns border cells d S) k b))

@@ -141,7 +141,8 @@ module _ (le : ℤ → ℤ → Bool) where
           E e z = (λ j. cond (sym (others ns a on q z e) j) (getD old (place-ext ns (moved a (natAbs z) (coordinate ns k)) (λ b. natAbs (moved a z q b)) (λ b h. point e z b h (eqb b a)) j) (pos 0)) v)
 
           go : (allInside ns q ≡ true) ⊎ (allInside ns q ≡ false)
-              → cond (allInside ns q) (levelAt (pos 0) ns new κ) v ≡ extreme le (pos 0) (map (λ z. cond (allInside ns (moved a z q)) (levelAt (pos 0) ns old (λ b. natAbs (moved a z q b))) v) (win (q a)))
+              → cond (allInside ns q) (levelAt (pos 0) ns new κ) v ≡ extreme le (pos 0) (map (λ z. cond (allInside ns (moved a z q)) (levelAt (pos 0) ns old (λ b. natAbs (moved a z q b))) v)
+              (win (q a)))
           go (inl e) = ap (λ t. cond t (levelAt (pos 0) ns new κ) v) e ∙ sw k (place-lt ns κ (within e)) ∙ (λ j. extreme le (pos 0) (map (λ z. E e z j) (win (W e j))))
           go (inr e) =
               ap (λ t. cond t (levelAt (pos 0) ns new κ) v) e

@@ -118,4 +118,5 @@ lands cells c P i h z w = go (alone c) (P .origin) (P .pads) (w .from) (w .to)
     go false o e f k =
         let s = or-false (badPad (c .border) (axisLength c) (leftPad (c .size) (c .origin))) (badPad (c .border) (axisLength c) (rightPad (c .size) (c .origin))) e in
         let a = axis-accepted (c .size) (c .origin) o in
-        by-pads (axisLength c) i h (pos (left c)) (pos (right c)) (c .origin) (leftPad (c .size) (c .origin)) (rightPad (c .size) (c .origin)) (a .left-pad) (a .right-pad) (c .border) z (s .0) (s .1) f k
+        by-pads (axisLength c) i h (pos (left c)) (pos (right c)) (c .origin) (leftPad (c .size) (c .origin)) (rightPad (c .size) (c .origin)) (a .left-pad) (a .right-pad) (c .border) z (s .0) (s .1)
+        f k

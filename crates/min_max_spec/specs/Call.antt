@@ -7,7 +7,8 @@
 --   firstIn, lastIn c i   the ends of the window of coordinate i
 --   InWindow c i z        coordinate z lies in the window of coordinate i, both ends included
 --   window c i            the same as a list, one coordinate after the other
---   windowJudged c, callJudged cells c   conditions 5, 7, 8, 9 and 11 of a window, and all conditions of a call on these levels
+--   windowJudged c, callJudged cells c   conditions 5, 7, 8, 9 and 11 of a window, and all conditions of a call on
+--                                        these levels
 --   numberOf cells c      the number that a call on these levels gets; 0: accepted
 --   gridNumber ns cells   the number that a grid gets by itself: 1, 2 and 3 judge what its owner answers for
 use Prim.Native.Nat.{ℕ, _-_, _/_}
@@ -48,7 +49,8 @@ abbrev pub axisLength : Call → ℕ
 axisLength c = lengthOf (c .shape) (c .axis)
 
 -- On an axis whose window length is 1 the window is the cell alone.
--- On any other axis the window of cell i is the coordinates from i − left − origin to i + right − origin, both included.
+-- On any other axis the window of cell i is the coordinates from i − left − origin to i + right − origin, both
+-- included.
 unfoldable pub firstIn : Call → ℤ → ℤ
 firstIn c i = cond (alone c) i (i -ℤ pos (left c) -ℤ c .origin)
 

@@ -34,18 +34,22 @@ cellAt shape k a = pos (coordinate shape k a)
 abbrev pub timesSwept : ℕ → List Call → ℕ
 timesSwept a calls = foldr (λ c n. cond (eqb (c .axis) a) (suc n) n) 0 calls
 
--- The grid is accepted; the accepted calls name the grid's own lengths, share one border and sweep each axis exactly once.
-pub record Sweeps (le : ℤ → ℤ → Bool) (shape : List ℕ) (border : Border ℤ) (cells : List ℤ) (calls : List Call) : Type 0 where
-  pub grid : gridNumber shape cells ≡ 0
-  pub named : Every (λ c. c .shape ≡ shape) (accepted le cells calls)
-  pub shared : Every (λ c. c .border ≡ border) (accepted le cells calls)
-  pub once : (a : ℕ) → a < length shape → timesSwept a (accepted le cells calls) ≡ 1
+-- The grid is accepted; the accepted calls name the grid's own lengths, share one border and sweep each axis exactly
+-- once.
+pub record Sweeps (le : ℤ → ℤ → Bool) (shape : List ℕ) (border : Border ℤ) (cells : List ℤ) (calls : List Call) : Type 0
+  where
+    pub grid : gridNumber shape cells ≡ 0
+    pub named : Every (λ c. c .shape ≡ shape) (accepted le cells calls)
+    pub shared : Every (λ c. c .border ≡ border) (accepted le cells calls)
+    pub once : (a : ℕ) → a < length shape → timesSwept a (accepted le cells calls) ≡ 1
 
--- A cell's box, all coordinates q that lie on every axis in that axis's window: each axis has one of the calls, and q lies in its window.
+-- A cell's box, all coordinates q that lie on every axis in that axis's window: each axis has one of the calls, and q
+-- lies in its window.
 abbrev pub InBox : List Call → Point → Point → Type 0
 InBox calls p q = Every (λ c. InWindow c (p (c .axis)) (q (c .axis))) calls
 
--- v is the least (or greatest) level of a part of the extended grid: it comes before every level of the part, and occurs in it.
+-- v is the least (or greatest) level of a part of the extended grid: it comes before every level of the part, and
+-- occurs in it.
 pub record Extremum (le : ℤ → ℤ → Bool) (level : Point → ℤ) (Part : Point → Type 0) (v : ℤ) : Type 0 where
   pub bound : (q : Point) → Part q → T (le v (level q))
   pub occurs : (q : Point) × Part q × (v ≡ level q)
@@ -53,11 +57,14 @@ pub record Extremum (le : ℤ → ℤ → Bool) (level : Point → ℤ) (Part : 
 pub record OrderFor (le : ℤ → ℤ → Bool) : Type 0 where
   -- A call gets the number, or the acceptance, that it would have got as the list's first.
   pub same-numbers : (cells : List ℤ) (calls : List Call) → numbers le cells calls ≡ map (numberOf cells) calls
-  -- After the list there are as many cells, each the least level of its box in the extension of the grid that the list starts with.
+  -- After the list there are as many cells, each the least level of its box in the extension of the grid that the list
+  -- starts with.
   pub same-length : (cells : List ℤ) (calls : List Call) → length (run le cells calls) ≡ length cells
-  pub box : (shape : List ℕ) (border : Border ℤ) (cells : List ℤ) (calls : List Call) → Sweeps le shape border cells calls
+  pub box : (shape : List ℕ) (border : Border ℤ) (cells : List ℤ) (calls : List Call)
+      → Sweeps le shape border cells calls
       → (k : ℕ) → k < length cells
-      → Extremum le (extendedGrid (pos 0) border shape cells) (InBox (accepted le cells calls) (cellAt shape k)) (getD (run le cells calls) k (pos 0))
+      → Extremum le (extendedGrid (pos 0) border shape cells) (InBox (accepted le cells calls) (cellAt shape k))
+      (getD (run le cells calls) k (pos 0))
   -- Two lists that differ only in order leave the same grid, and give each call the same number.
   pub same-grid : (shape : List ℕ) (border : Border ℤ) (cells : List ℤ) (calls calls′ : List Call) → Perm calls calls′
       → Sweeps le shape border cells calls → run le cells calls ≡ run le cells calls′

@@ -1,5 +1,6 @@
 -- A list of calls on a grid. le is the test of an order: ≤ for minimum calls, ≥ for maximum calls.
---   laneLevel cells c k z   the level at coordinate z of the extended lane along the call's axis through the cell at place k
+--   laneLevel cells c k z   the level at coordinate z of the extended lane along the call's axis through the cell at
+--                           place k
 --   answerOf le cells c     what an accepted call fills: for each cell the first level, in the order, of its window
 --   after le cells c        the levels after a call: what it filled, or as before where it was refused
 --   run le cells calls      the levels after the list
@@ -18,10 +19,13 @@ use Rattle.border.specs.Border.{extendedLane}
 use Rattle.min_max_spec.specs.Call.{Call, window, numberOf, axisLength}
 
 abbrev pub laneLevel : List ℤ → Call → ℕ → ℤ → ℤ
-laneLevel cells c k z = extendedLane (c .border) (axisLength c) (λ i. levelAt (pos 0) (c .shape) cells (moved (c .axis) i (coordinate (c .shape) k))) z
+laneLevel cells c k z = extendedLane (c .border) (axisLength c)
+    (λ i. levelAt (pos 0) (c .shape) cells (moved (c .axis) i (coordinate (c .shape) k))) z
 
 unfoldable pub answerOf : (ℤ → ℤ → Bool) → List ℤ → Call → List ℤ
-answerOf le cells c = tabulate (λ k. extreme le (pos 0) (map (laneLevel cells c k) (window c (pos (coordinate (c .shape) k (c .axis)))))) 0 (length cells)
+answerOf le cells c =
+    tabulate (λ k. extreme le (pos 0) (map (laneLevel cells c k) (window c (pos (coordinate (c .shape) k (c .axis))))))
+    0 (length cells)
 
 unfoldable pub after : (ℤ → ℤ → Bool) → List ℤ → Call → List ℤ
 after le cells c = cond (eqb (numberOf cells c) 0) (answerOf le cells c) cells
@@ -36,4 +40,5 @@ numbers le cells (c ∷ cs) = numberOf cells c ∷ numbers le (after le cells c)
 
 unfoldable pub accepted : (ℤ → ℤ → Bool) → List ℤ → List Call → List Call
 accepted le cells [] = []
-accepted le cells (c ∷ cs) = cond (eqb (numberOf cells c) 0) (c ∷ accepted le (after le cells c) cs) (accepted le (after le cells c) cs)
+accepted le cells (c ∷ cs) = cond (eqb (numberOf cells c) 0) (c ∷ accepted le (after le cells c) cs)
+    (accepted le (after le cells c) cs)

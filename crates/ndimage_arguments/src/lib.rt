@@ -313,7 +313,7 @@ pub fn fill_kernel(kernel: Kernel3d, levels: &mut [i64])
     }
 }
 
-// Worked rows about arguments. Refuses nothing.
+// Worked rows about arguments.
 pub fn rows()
     ensures { λ _. ⌜ NdimageArgumentsRows ⌝ }
 {}

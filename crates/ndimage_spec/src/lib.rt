@@ -32,7 +32,7 @@ pub enum Times {
 // numbers are kept, in slots one by one.
 pub struct Part(pub Kind, pub Times, pub usize, pub usize);
 
-// Worked rows about requests. Refuses nothing.
+// Worked rows about requests.
 pub fn rows()
     ensures { λ _. ⌜ NdimageSpecRows ⌝ }
 {}

@@ -72,7 +72,8 @@ joined-passes k a b = go (ltb (2 ^ k - 1) a) (ltb (2 ^ k - 1) b) refl refl
         below h = omega arith
 
 -- a number joined to those before, which is 2^k or more exactly where the member passes
-pub seen-joined : {A : Type 0} {t : A → Bool} (k : ℕ) {s : List A} {i n : ℕ} (m : ℕ) (d : A) → Seen t (2 ^ k - 1) s i n → i < length s → ltb (2 ^ k - 1) m ≡ t (getD s i d) → Seen t (2 ^ k - 1) s (i + 1) (bitOr n m)
+pub seen-joined : {A : Type 0} {t : A → Bool} (k : ℕ) {s : List A} {i n : ℕ} (m : ℕ) (d : A) → Seen t (2 ^ k - 1) s i n → i < length s → ltb (2 ^ k - 1) m
+    ≡ t (getD s i d) → Seen t (2 ^ k - 1) s (i + 1) (bitOr n m)
 seen-joined k {s} {i} {n} m d S h e = seen-more S d (bitOr n m) h (joined-passes k n m ∙ ap (λ b. ltb (2 ^ k - 1) n || b) e)
 
 -- the size of a number that was read, joined to those before: a number outside −(2^k − 1)..2^k − 1 was seen

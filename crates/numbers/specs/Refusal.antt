@@ -4,8 +4,10 @@
 --   leftIn r levels held            what number r leaves in a lent grid: the levels, or what it held before
 --   Answers js levels held r left   the number is the refusal, and the lent grid is what that number leaves
 --   ScratchAnswers zero js levels held scratch r left scratch′
---                                   the same of a call that is lent scratch grids besides, in the order of the list: an accepted
---                                   call leaves each all zero and as long as it was, a refused one leaves each as it was
+--                                   the same of a call that is lent scratch grids besides, in the order of the list: an
+--                                   accepted
+--                                   call leaves each all zero and as long as it was, a refused one leaves each as it
+--                                   was
 use Prim.Native.Nat.{ℕ}
 use mathlib.Core.Path.{_≡_}
 use mathlib.Core.Bool.{Bool, cond}

@@ -31,9 +31,11 @@ pub record NumbersRows : Type 0 where
   pub refused-keeps : leftIn 3 (wholes (1 ∷ 2 ∷ [])) (wholes (8 ∷ 9 ∷ [])) ≡ wholes (8 ∷ 9 ∷ [])
   pub accepted-fills : leftIn 0 (wholes (1 ∷ 2 ∷ [])) (wholes (8 ∷ 9 ∷ [])) ≡ wholes (1 ∷ 2 ∷ [])
   -- of two scratch grids an accepted call leaves zeros, each as long as it was, and a refused one what they held
-  pub scratch-zero : ScratchAnswers (pos 0) ((false, 3) ∷ []) (wholes (1 ∷ 2 ∷ [])) (wholes (8 ∷ 9 ∷ [])) (wholes (3 ∷ 4 ∷ []) ∷ wholes (5 ∷ []) ∷ [])
+  pub scratch-zero : ScratchAnswers (pos 0) ((false, 3) ∷ []) (wholes (1 ∷ 2 ∷ [])) (wholes (8 ∷ 9 ∷ []))
+      (wholes (3 ∷ 4 ∷ []) ∷ wholes (5 ∷ []) ∷ [])
       0 (wholes (1 ∷ 2 ∷ [])) (wholes (0 ∷ 0 ∷ []) ∷ wholes (0 ∷ []) ∷ [])
-  pub scratch-kept : ScratchAnswers (pos 0) ((true, 3) ∷ []) (wholes (1 ∷ 2 ∷ [])) (wholes (8 ∷ 9 ∷ [])) (wholes (3 ∷ 4 ∷ []) ∷ wholes (5 ∷ []) ∷ [])
+  pub scratch-kept : ScratchAnswers (pos 0) ((true, 3) ∷ []) (wholes (1 ∷ 2 ∷ [])) (wholes (8 ∷ 9 ∷ []))
+      (wholes (3 ∷ 4 ∷ []) ∷ wholes (5 ∷ []) ∷ [])
       3 (wholes (8 ∷ 9 ∷ [])) (wholes (3 ∷ 4 ∷ []) ∷ wholes (5 ∷ []) ∷ [])
   -- the least and the greatest, wherever they stand; the given level where there is none
   pub extreme-first : extreme leZ (pos 0) (minus 7 ∷ pos 3 ∷ pos 3 ∷ []) ≡ minus 7
@@ -46,18 +48,22 @@ pub record NumbersRows : Type 0 where
   pub some-member : anyOf (eqb 3) (1 ∷ 2 ∷ 3 ∷ []) ≡ true
   pub no-member : anyOf (eqb 4) (1 ∷ 2 ∷ 3 ∷ []) ≡ false
   -- a window that ends with its line, one that passes its end, and one of no cells past it
-  pub windows : windowOf (wholes (1 ∷ 2 ∷ 3 ∷ [])) 1 2 ∷ windowOf (wholes (1 ∷ 2 ∷ 3 ∷ [])) 2 2 ∷ windowOf (wholes (1 ∷ 2 ∷ 3 ∷ [])) 4 0 ∷ [] ≡ wholes (2 ∷ 3 ∷ []) ∷ [] ∷ [] ∷ []
+  pub windows : windowOf (wholes (1 ∷ 2 ∷ 3 ∷ [])) 1 2 ∷ windowOf (wholes (1 ∷ 2 ∷ 3 ∷ [])) 2 2
+      ∷ windowOf (wholes (1 ∷ 2 ∷ 3 ∷ [])) 4 0 ∷ [] ≡ wholes (2 ∷ 3 ∷ []) ∷ [] ∷ [] ∷ []
   -- the limits of document 01; a line is an axis and the pads of a window, a padded axis an axis and two pads
   pub limits : longestAxis ∷ mostCells ∷ longestWindow ∷ longestSide ∷ largestWeight ∷ longestPad ∷ mostPaddedCells ∷ []
       ≡ 1024 ∷ 8192 ∷ 65 ∷ 7 ∷ 65535 ∷ 64 ∷ 32768 ∷ []
-  pub limits-lines : longestLine ∷ longestPaddedAxis ∷ [] ≡ (longestAxis + (longestWindow - 1)) ∷ (longestPad + longestAxis + longestPad) ∷ []
+  pub limits-lines : longestLine ∷ longestPaddedAxis ∷ []
+      ≡ (longestAxis + (longestWindow - 1)) ∷ (longestPad + longestAxis + longestPad) ∷ []
   pub limits-levels : largestLevel ∷ largestBetween ∷ [] ≡ 2147483647 ∷ 274877906944 ∷ []
   -- both ends of a range are inside
   pub ends : map (outside 1 3) (0 ∷ 1 ∷ 3 ∷ 4 ∷ []) ≡ true ∷ false ∷ false ∷ true ∷ []
   pub sizes : map (over 2) (minus 3 ∷ minus 2 ∷ pos 2 ∷ pos 3 ∷ []) ≡ true ∷ false ∷ false ∷ true ∷ []
-  pub signed-ends : map (outsideZ (minus 2) (pos 1)) (minus 3 ∷ minus 2 ∷ pos 1 ∷ pos 2 ∷ []) ≡ true ∷ false ∷ false ∷ true ∷ []
+  pub signed-ends : map (outsideZ (minus 2) (pos 1)) (minus 3 ∷ minus 2 ∷ pos 1 ∷ pos 2 ∷ [])
+      ≡ true ∷ false ∷ false ∷ true ∷ []
   -- −2^63 − 1, −2^63, 2^63 − 1, 2^63
-  pub bits : map beyond (negsuc (2 ^ 63) ∷ minus (2 ^ 63) ∷ pos (2 ^ 63 - 1) ∷ pos (2 ^ 63) ∷ []) ≡ true ∷ false ∷ false ∷ true ∷ []
+  pub bits : map beyond (negsuc (2 ^ 63) ∷ minus (2 ^ 63) ∷ pos (2 ^ 63 - 1) ∷ pos (2 ^ 63) ∷ [])
+      ≡ true ∷ false ∷ false ∷ true ∷ []
   pub sum : sumOf (pos 5 ∷ minus 7 ∷ pos 1 ∷ []) ≡ minus 1
   -- the kit's quotient is cut toward zero
   pub cut : map (λ z. quotZ z (pos 2)) (pos 3 ∷ minus 3 ∷ minus 1 ∷ []) ≡ pos 1 ∷ minus 1 ∷ pos 0 ∷ []

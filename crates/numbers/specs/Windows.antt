@@ -1,5 +1,6 @@
 -- The window of a line.
---   windowOf s i len   the part of s from place i to i + len, i + len not included; the empty part where i + len passes the end of s
+--   windowOf s i len   the part of s from place i to i + len, i + len not included; the empty part where i + len passes
+--                      the end of s
 use Prim.Native.Nat.{ℕ, _+_}
 use mathlib.Core.Bool.{cond}
 use mathlib.Core.List.{List, []}

@@ -65,7 +65,7 @@ pub const LONGEST_PADDED_AXIS: usize = 1152;
 
 pub const MOST_PADDED_CELLS: usize = 32768;
 
-// The size of z, its sign left out. Refuses nothing: of -2^63, which has no negation, it is 2^63.
+// The size of z, its sign left out. Of -2^63, which has no negation, it is 2^63.
 pub fn magnitude(z: i64) -> u64
     ensures { λ r. ⌜ r ≡ natAbs z ⌝ }
 {
@@ -75,7 +75,7 @@ pub fn magnitude(z: i64) -> u64
     z as u64
 }
 
-// Worked rows of this crate's definitions. Refuses nothing.
+// Worked rows of this crate's definitions.
 pub fn rows()
     ensures { λ _. ⌜ NumbersRows ⌝ }
 {}

@@ -50,7 +50,8 @@ passed mode ns pads count cells out z =
       small = ltb-false 32768 (paddedCount ns pads count) (r .0);
       lent = eqb-true out (paddedCount ns pads count) (not-false (eqb out (paddedCount ns pads count)) (r .1));
       reach = λ a h. ap (badPadReachOn mode ns pads count) (sym (axis-at (length ns) a h))
-          ∙ every-at (λ x. badPadReachOn mode ns pads count x ≡ false) (tabulate (λ k. k) 0 (length ns)) 0 (any-none (badPadReachOn mode ns pads count) (tabulate (λ k. k) 0 (length ns)) (J .1 .1 .1 .0)) a
+          ∙ every-at (λ x. badPadReachOn mode ns pads count x ≡ false) (tabulate (λ k. k) 0 (length ns)) 0
+          (any-none (badPadReachOn mode ns pads count) (tabulate (λ k. k) 0 (length ns)) (J .1 .1 .1 .0)) a
           (in-axes a h);
     }
   where

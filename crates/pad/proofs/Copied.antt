@@ -89,7 +89,13 @@ module _ (ns lefts ps : List ℕ) (F : Framed ns lefts ps) where
           go false x t y u z = refl
           go true x true y true z = refl
           go true x false y false z = refl
-          go true x true y false z = absurd (omega (arith, ltb-true (sourceOf ns lefts ps j) (row * rowLength ns) y, ltb-false (sourceOf ns lefts ps j) ((row + 1) * rowLength ns) z, add-mul row 1 (rowLength ns)))
+          go true x true y false z = absurd (omega (
+            arith,
+            ltb-true (sourceOf ns lefts ps j) (row * rowLength ns) y,
+            ltb-false (sourceOf ns lefts ps j) ((row + 1) * rowLength ns) z,
+            add-mul row 1
+                (rowLength ns),
+          ))
           go true x false y true z = absurd (true≢false (sym (within (sourceOf ns lefts ps j - row * rowLength ns) (omega (arith, low)) (omega (arith, low, high))) ∙ q))
             where
               low : row * rowLength ns ≤ sourceOf ns lefts ps j
@@ -132,7 +138,8 @@ module _ (ns lefts ps : List ℕ) (F : Framed ns lefts ps) where
   rows-in {row} h = omega (arith, rows-whole, mul-le-mul h (le-refl (rowLength ns)), add-mul row 1 (rowLength ns))
 
   -- every row
-  pub rows-all : {cells out₀ out : List ℤ} {row : ℕ} → length out₀ ≡ cellCount ps → cellCount ns / rowLength ns ≤ row → RowsStored ns lefts ps cells out₀ out row → out ≡ middleSet ns lefts ps cells out₀
+  pub rows-all : {cells out₀ out : List ℤ} {row : ℕ} → length out₀ ≡ cellCount ps → cellCount ns / rowLength ns ≤ row → RowsStored ns lefts ps cells out₀ out row → out
+      ≡ middleSet ns lefts ps cells out₀
   unfolding middleSet
   rows-all {cells} {out₀} {out} {row} n h S =
       stored-table (pos 0) (sourceCell ns lefts ps cells) (inRows ns lefts ps row) (S .stored)

@@ -25,7 +25,8 @@ unfolding placeOf
 place-step [] p q i s h e = absurd (not-suc-le-zero s)
 place-step (n ∷ []) p q i s h e = omega (arith, e 0 refl)
 place-step (n ∷ m ∷ ns) p q i s h e =
-    (λ j. h zero (suc-le-suc (suc-le-suc zero-le)) j * cellCount (m ∷ ns) + place-step (m ∷ ns) (λ a. p (suc a)) (λ a. q (suc a)) i (suc-le-suc zero-le) (λ a l. h (suc a) (suc-le-suc l)) (λ a l. e (suc a) (ap suc l)) j)
+    (λ j. h zero (suc-le-suc (suc-le-suc zero-le)) j * cellCount (m ∷ ns) + place-step (m ∷ ns) (λ a. p (suc a)) (λ a. q (suc a)) i (suc-le-suc zero-le) (λ a l. h (suc a) (suc-le-suc l))
+    (λ a l. e (suc a) (ap suc l)) j)
     ∙ group (q 0 * cellCount (m ∷ ns)) (placeOf (m ∷ ns) (λ a. q (suc a))) i
   where
     group : (x y i : ℕ) → x + (y + i) ≡ x + y + i

@@ -100,7 +100,8 @@ module _ (ns lefts ps : List ℕ) (F : Framed ns lefts ps) (row : ℕ) {t : RowS
     next-past b = record {
       place = λ g.
           ap (λ x. x + (getD ps 1 0 - getD ns 1 0 + 1) * getD ps 2 0) here
-          ∙ step-over (getD lefts 0 0 + row / getD ns 1 0) (row % getD ns 1 0) (getD lefts 1 0) (getD ps 1 0) (getD ps 2 0) (getD lefts 2 0) (getD ns 1 0) last (axis-room ns lefts ps F 1 (omega arith))
+          ∙ step-over (getD lefts 0 0 + row / getD ns 1 0) (row % getD ns 1 0) (getD lefts 1 0) (getD ps 1 0) (getD ps 2 0) (getD lefts 2 0) (getD ns 1 0) last
+          (axis-room ns lefts ps F 1 (omega arith))
           ∙ (λ j. (x j * getD ps 1 0 + y j) * getD ps 2 0 + getD lefts 2 0)
           ∙ row-three lefts (row + 1) ns ps e F g;
       offset = λ u. sym (d .1);

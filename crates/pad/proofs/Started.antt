@@ -34,7 +34,8 @@ all-last t a zero = last (t a) ∙ ap t (sym (add-zero a))
     last : (u : Bool) → u && true ≡ u
     last true = refl
     last false = refl
-all-last t a (suc n) = ap (λ u. t a && u) (all-last t (suc a) n) ∙ group (t a) (allFrom t (suc a) n) (t (suc a + n)) ∙ ap (λ (x : ℕ). (t a && allFrom t (suc a) n) && t x) (suc-add a n ∙ sym (add-suc a n))
+all-last t a (suc n) = ap (λ u. t a && u) (all-last t (suc a) n) ∙ group (t a) (allFrom t (suc a) n) (t (suc a + n))
+    ∙ ap (λ (x : ℕ). (t a && allFrom t (suc a) n) && t x) (suc-add a n ∙ sym (add-suc a n))
   where
     group : (x y z : Bool) → x && (y && z) ≡ (x && y) && z
     group true y z = refl

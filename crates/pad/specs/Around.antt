@@ -1,4 +1,5 @@
--- A padded grid of shape ps around its middle, where a grid of shape ns stands, lefts cells from the start on each axis.
+-- A padded grid of shape ps around its middle, where a grid of shape ns stands, lefts cells from the start on each
+-- axis.
 --   gapSet level from to g           g with the level at each place from from on, up to to
 --   aroundSet level ns lefts ps g    g, such a grid, with the level at every place that is not in the middle
 use Prim.Native.Nat.{ℕ}

@@ -1,5 +1,6 @@
 -- Where the rows of a grid start in the padded one, one after the other.
---   RowStarts ns lefts ps row t   t is where that row starts, if there is one: the place of its first cell, and on three axes its number on its plane
+--   RowStarts ns lefts ps row t   t is where that row starts, if there is one: the place of its first cell, and on
+--                                 three axes its number on its plane
 use Prim.Native.Nat.{ℕ, _*_, _%_, _<_}
 use mathlib.Core.Path.{_≡_}
 use mathlib.Core.List.{List}

@@ -1,4 +1,5 @@
-// A padded grid set to a constant around its middle: the gaps between the rows of the grid, and what stands before the first and after the last.
+// A padded grid set to a constant around its middle: the gaps between the rows of the grid, and what stands before the
+// first and after the last.
 ghost use mathlib.Core.Path.{_≡_};
 ghost use Prim.Native.Nat.{_≤_};
 ghost use lib.ListN.{length};
@@ -27,7 +28,7 @@ fn fill_gap(level: i64, from: usize, to: usize, out: &mut [i64])
 // * `lefts`, `padded` - the pad before each axis, and its padded length.
 // * `out` - the padded grid.
 //
-// Supposes `Framed`, and refuses nothing. Of 9 1 2 9 with 2 cells from 1 on, and the level 7: 7 1 2 7.
+// Supposes `Framed`. Of 9 1 2 9 with 2 cells from 1 on, and the level 7: 7 1 2 7.
 pub(crate) fn fill_around(
     level: i64,
     cells: usize,
@@ -36,8 +37,10 @@ pub(crate) fn fill_around(
     padded: &[usize],
     out: &mut [i64],
 )
-    requires { ⌜ Framed (now shape) (now lefts) (now padded) × (cells ≡ cellCount (now shape)) × (length (now out) ≡ cellCount (now padded)) ⌝ }
-    ensures { λ _. ⌜ now (out .exit) ≡ aroundSet level (now (shape .entry)) (now (lefts .entry)) (now (padded .entry)) (now (out .entry)) ⌝ }
+    requires { ⌜ Framed (now shape) (now lefts) (now padded) × (cells ≡ cellCount (now shape)) × (length (now out)
+        ≡ cellCount (now padded)) ⌝ }
+    ensures { λ _. ⌜ now (out .exit) ≡ aroundSet level (now (shape .entry)) (now (lefts .entry)) (now (padded .entry))
+        (now (out .entry)) ⌝ }
 {
     let last = shape.len() - 1;
     let n = shape[last];

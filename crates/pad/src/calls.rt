@@ -32,8 +32,10 @@ fn start(
     padded: &[usize],
     out: &mut [i64],
 )
-    requires { ⌜ Framed (now shape) (now lefts) (now padded) × (cells ≡ cellCount (now shape)) × (length (now out) ≡ cellCount (now padded)) ⌝ }
-    ensures { λ _. ⌜ now (out .exit) ≡ cond whole (aroundSet c (now (shape .entry)) (now (lefts .entry)) (now (padded .entry)) (now (out .entry))) (now (out .entry)) ⌝ }
+    requires { ⌜ Framed (now shape) (now lefts) (now padded) × (cells ≡ cellCount (now shape)) × (length (now out)
+        ≡ cellCount (now padded)) ⌝ }
+    ensures { λ _. ⌜ now (out .exit) ≡ cond whole (aroundSet c (now (shape .entry)) (now (lefts .entry))
+        (now (padded .entry)) (now (out .entry))) (now (out .entry)) ⌝ }
 {
     if !whole {
         return;
@@ -52,8 +54,11 @@ fn lay_level(
     whole: bool,
     out: &mut [i64],
 )
-    requires { ⌜ Framed (now shape) (now lefts) (now padded) × (length (now «data») ≡ cellCount (now shape)) × (length (now out) ≡ cellCount (now padded)) ⌝ }
-    ensures { λ _. ⌜ now (out .exit) ≡ cond whole (laid (Constant c) (now (shape .entry)) (now (lefts .entry)) (now (padded .entry)) (now («data» .entry))) (middleSet (now (shape .entry)) (now (lefts .entry)) (now (padded .entry)) (now («data» .entry)) (now (out .entry))) ⌝ }
+    requires { ⌜ Framed (now shape) (now lefts) (now padded) × (length (now «data»)
+        ≡ cellCount (now shape)) × (length (now out) ≡ cellCount (now padded)) ⌝ }
+    ensures { λ _. ⌜ now (out .exit) ≡ cond whole (laid (Constant c) (now (shape .entry)) (now (lefts .entry))
+        (now (padded .entry)) (now («data» .entry))) (middleSet (now (shape .entry)) (now (lefts .entry))
+        (now (padded .entry)) (now («data» .entry)) (now (out .entry))) ⌝ }
 {
     start(whole, c, data.len(), shape, lefts, padded, out);
     copy_middle(data, shape, lefts, padded, out);
@@ -68,8 +73,10 @@ fn lay_cells(
     along: CellBorder,
     out: &mut [i64],
 )
-    requires { ⌜ Filling along (now shape) (now lefts) (now padded) × (anyOf badLevel (now «data») ≡ false) × (length (now «data») ≡ cellCount (now shape)) × (length (now out) ≡ cellCount (now padded)) ⌝ }
-    ensures { λ _. ⌜ now (out .exit) ≡ laid (modeAlong along) (now (shape .entry)) (now (lefts .entry)) (now (padded .entry)) (now («data» .entry)) ⌝ }
+    requires { ⌜ Filling along (now shape) (now lefts) (now padded) × (anyOf badLevel (now «data»)
+        ≡ false) × (length (now «data») ≡ cellCount (now shape)) × (length (now out) ≡ cellCount (now padded)) ⌝ }
+    ensures { λ _. ⌜ now (out .exit) ≡ laid (modeAlong along) (now (shape .entry)) (now (lefts .entry))
+        (now (padded .entry)) (now («data» .entry)) ⌝ }
 {
     copy_middle(data, shape, lefts, padded, out);
     pad_copy::copy_axes(along, shape, lefts, padded, out);
@@ -84,8 +91,10 @@ fn lay_statistic(
     statistic: Statistic,
     out: &mut [i64],
 )
-    requires { ⌜ Framed (now shape) (now lefts) (now padded) × (anyOf badLevel (now «data») ≡ false) × (length (now «data») ≡ cellCount (now shape)) × (length (now out) ≡ cellCount (now padded)) ⌝ }
-    ensures { λ _. ⌜ now (out .exit) ≡ laid (modeTaking statistic) (now (shape .entry)) (now (lefts .entry)) (now (padded .entry)) (now («data» .entry)) ⌝ }
+    requires { ⌜ Framed (now shape) (now lefts) (now padded) × (anyOf badLevel (now «data»)
+        ≡ false) × (length (now «data») ≡ cellCount (now shape)) × (length (now out) ≡ cellCount (now padded)) ⌝ }
+    ensures { λ _. ⌜ now (out .exit) ≡ laid (modeTaking statistic) (now (shape .entry)) (now (lefts .entry))
+        (now (padded .entry)) (now («data» .entry)) ⌝ }
 {
     copy_middle(data, shape, lefts, padded, out);
     crate::rims::fill_levels(statistic, shape, lefts, padded, out);
@@ -104,8 +113,12 @@ fn lay_in(
     padded: &mut [usize],
     out: &mut [i64],
 )
-    requires { ⌜ (refusalOf (padJudged mode (now shape) pads count (now «data») (length (now out))) ≡ 0) × (length (now lefts) ≡ length (now shape)) × (length (now padded) ≡ length (now shape)) ⌝ }
-    ensures { λ _. ⌜ now (out .exit) ≡ cond whole (paddedGrid mode (now (shape .entry)) (leftsOf (now (shape .entry)) pads count) (rightsOf (now (shape .entry)) pads count) (now («data» .entry))) (paddedOver mode (now (shape .entry)) (leftsOf (now (shape .entry)) pads count) (rightsOf (now (shape .entry)) pads count) (now («data» .entry)) (now (out .entry))) ⌝ }
+    requires { ⌜ (refusalOf (padJudged mode (now shape) pads count (now «data») (length (now out)))
+        ≡ 0) × (length (now lefts) ≡ length (now shape)) × (length (now padded) ≡ length (now shape)) ⌝ }
+    ensures { λ _. ⌜ now (out .exit) ≡ cond whole (paddedGrid mode (now (shape .entry))
+        (leftsOf (now (shape .entry)) pads count) (rightsOf (now (shape .entry)) pads count) (now («data» .entry)))
+        (paddedOver mode (now (shape .entry)) (leftsOf (now (shape .entry)) pads count)
+        (rightsOf (now (shape .entry)) pads count) (now («data» .entry)) (now (out .entry))) ⌝ }
 {
     pad_spec::set_frame(shape, pads, count, lefts, padded);
     let filler = pad_spec::filler_of(mode);
@@ -127,7 +140,10 @@ fn lay(
     out: &mut [i64],
 )
     requires { ⌜ refusalOf (padJudged mode (now shape) pads count (now «data») (length (now out))) ≡ 0 ⌝ }
-    ensures { λ _. ⌜ now (out .exit) ≡ cond whole (paddedGrid mode (now (shape .entry)) (leftsOf (now (shape .entry)) pads count) (rightsOf (now (shape .entry)) pads count) (now («data» .entry))) (paddedOver mode (now (shape .entry)) (leftsOf (now (shape .entry)) pads count) (rightsOf (now (shape .entry)) pads count) (now («data» .entry)) (now (out .entry))) ⌝ }
+    ensures { λ _. ⌜ now (out .exit) ≡ cond whole (paddedGrid mode (now (shape .entry))
+        (leftsOf (now (shape .entry)) pads count) (rightsOf (now (shape .entry)) pads count) (now («data» .entry)))
+        (paddedOver mode (now (shape .entry)) (leftsOf (now (shape .entry)) pads count)
+        (rightsOf (now (shape .entry)) pads count) (now («data» .entry)) (now (out .entry))) ⌝ }
 {
     let axes = shape.len();
     let mut lefts = [0; 3];
@@ -155,7 +171,8 @@ fn lay(
 // * `mode` - the padding mode.
 // * `out` - the lent output, as many cells as the padded grid.
 //
-// Refuses: 1, 2, 3, 9, 10, 11, 12. Of 1 2 with pads of 1, lent 8 8 8 8: Constant leaves 8 1 2 8, Edge 1 1 2 2.
+// Refuses: 1 (shape), 2 (length), 3 (level), 9 (constant), 10 (pads), 11 (reach). Of 1 2 with pads of 1, lent 8 8 8 8:
+// Constant leaves 8 1 2 8, Edge 1 1 2 2.
 pub fn pad_to(
     data: &[i64],
     shape: &[usize],
@@ -164,7 +181,10 @@ pub fn pad_to(
     mode: PadMode,
     out: &mut [i64],
 ) -> u8
-    ensures { λ r. ⌜ Answers (padJudged mode (now (shape .entry)) pads count (now («data» .entry)) (length (now (out .entry)))) (paddedOver mode (now (shape .entry)) (leftsOf (now (shape .entry)) pads count) (rightsOf (now (shape .entry)) pads count) (now («data» .entry)) (now (out .entry))) (now (out .entry)) r (now (out .exit)) ⌝ }
+    ensures { λ r. ⌜ Answers (padJudged mode (now (shape .entry)) pads count (now («data» .entry))
+        (length (now (out .entry)))) (paddedOver mode (now (shape .entry)) (leftsOf (now (shape .entry)) pads count)
+        (rightsOf (now (shape .entry)) pads count) (now («data» .entry)) (now (out .entry))) (now (out .entry)) r
+        (now (out .exit)) ⌝ }
 {
     let refusal = pad_judge::judge(data, shape, pads, count, mode, out.len());
     if refusal != 0 {
@@ -183,8 +203,8 @@ pub fn pad_to(
 // * `mode` - the padding mode.
 // * `out` - the lent output, as many cells as the padded grid.
 //
-// Refuses: 1, 2, 3, 9, 10, 11, 12.
-// Of 1 2 3 with pads of 2: Edge gives 1 1 1 2 3 3 3, Reflect 3 2 1 2 3 2 1, Constant(7) 7 7 1 2 3 7 7.
+// Refuses: 1 (shape), 2 (length), 3 (level), 9 (constant), 10 (pads), 11 (reach). Of 1 2 3 with pads of 2: Edge gives 1
+// 1 1 2 3 3 3, Reflect 3 2 1 2 3 2 1, Constant(7) 7 7 1 2 3 7 7.
 pub fn pad(
     data: &[i64],
     shape: &[usize],
@@ -193,7 +213,9 @@ pub fn pad(
     mode: PadMode,
     out: &mut [i64],
 ) -> u8
-    ensures { λ r. ⌜ Answers (padJudged mode (now (shape .entry)) pads count (now («data» .entry)) (length (now (out .entry)))) (paddedGrid mode (now (shape .entry)) (leftsOf (now (shape .entry)) pads count) (rightsOf (now (shape .entry)) pads count) (now («data» .entry))) (now (out .entry)) r (now (out .exit)) ⌝ }
+    ensures { λ r. ⌜ Answers (padJudged mode (now (shape .entry)) pads count (now («data» .entry))
+        (length (now (out .entry)))) (paddedGrid mode (now (shape .entry)) (leftsOf (now (shape .entry)) pads count)
+        (rightsOf (now (shape .entry)) pads count) (now («data» .entry))) (now (out .entry)) r (now (out .exit)) ⌝ }
 {
     let refusal = pad_judge::judge(data, shape, pads, count, mode, out.len());
     if refusal != 0 {

@@ -10,7 +10,7 @@ mod rims;
 pub use calls::pad;
 pub use calls::pad_to;
 
-// Worked rows of this crate's definitions. Refuses nothing.
+// Worked rows of this crate's definitions.
 pub fn rows()
     ensures { λ _. ⌜ PadRows ⌝ }
 {}

@@ -9,7 +9,8 @@ ghost use Rattle.pad.specs.RowStarts.{RowStarts};
 
 // Stores n cells of data, those from place `from` on, from place `at` of out on.
 fn copy_row(data: &[i64], from: usize, n: usize, at: usize, out: &mut [i64])
-    requires { ⌜ (from + n ≤ length (now «data»)) × (at + n ≤ length (now out)) × (length (now out) ≤ mostPaddedCells) ⌝ }
+    requires { ⌜ (from + n ≤ length (now «data»)) × (at + n ≤ length (now out))
+        × (length (now out) ≤ mostPaddedCells) ⌝ }
     ensures { λ _. ⌜ now (out .exit) ≡ rowSet (now («data» .entry)) from n at (now (out .entry)) ⌝ }
 {
     let mut j = 0;
@@ -21,7 +22,8 @@ fn copy_row(data: &[i64], from: usize, n: usize, at: usize, out: &mut [i64])
     }
 }
 
-// Where a row of the grid starts in the padded one: the place of its first cell, and on three axes how many rows of its plane stand before it.
+// Where a row of the grid starts in the padded one: the place of its first cell, and on three axes how many rows of its
+// plane stand before it.
 pub struct RowStart {
     pub place: usize,
     pub offset: usize,
@@ -32,7 +34,7 @@ pub struct RowStart {
 // * `shape` - the length of each axis of the grid.
 // * `lefts`, `padded` - the pad before each axis, and its padded length.
 //
-// Supposes `Framed`, and refuses nothing. Of rows with pads of 1 on both sides, in rows of 5: place 6.
+// Supposes `Framed`. Of rows with pads of 1 on both sides, in rows of 5: place 6.
 pub(crate) fn first_row(shape: &[usize], lefts: &[usize], padded: &[usize]) -> RowStart
     requires { ⌜ Framed (now shape) (now lefts) (now padded) ⌝ }
     ensures { λ r. ⌜ RowStarts (now (shape .entry)) (now (lefts .entry)) (now (padded .entry)) 0 r ⌝ }
@@ -55,13 +57,14 @@ pub(crate) fn first_row(shape: &[usize], lefts: &[usize], padded: &[usize]) -> R
     }
 }
 
-// Where the next row starts, without a division: a padded row on, and at the end of a plane over the pads of the second axis too.
+// Where the next row starts, without a division: a padded row on, and at the end of a plane over the pads of the second
+// axis too.
 //
 // * `shape` - the length of each axis of the grid.
 // * `lefts`, `padded` - the pad before each axis, and its padded length.
 // * `row`, `start` - the number of a row of the grid, and where it starts.
 //
-// Supposes `Framed`, and refuses nothing. Of rows with pads of 1 on both sides, in rows of 5, row 0 starts at place 6, row 1 at 11.
+// Supposes `Framed`. Of rows with pads of 1 on both sides, in rows of 5, row 0 starts at place 6, row 1 at 11.
 pub(crate) fn next_row(
     shape: &[usize],
     lefts: &[usize],
@@ -69,7 +72,8 @@ pub(crate) fn next_row(
     row: usize,
     start: RowStart,
 ) -> RowStart
-    requires { ⌜ Framed (now shape) (now lefts) (now padded) × RowStarts (now shape) (now lefts) (now padded) row start × (row * rowLength (now shape) < cellCount (now shape)) ⌝ }
+    requires { ⌜ Framed (now shape) (now lefts) (now padded) × RowStarts (now shape) (now lefts) (now padded) row start
+        × (row * rowLength (now shape) < cellCount (now shape)) ⌝ }
     ensures { λ r. ⌜ RowStarts (now (shape .entry)) (now (lefts .entry)) (now (padded .entry)) (row + 1) r ⌝ }
 {
     if shape.len() < 3 {
@@ -98,7 +102,7 @@ pub(crate) fn next_row(
 // * `lefts`, `padded` - the pad before each axis, and its padded length.
 // * `out` - the padded grid.
 //
-// Supposes `Framed`, and refuses nothing. Of 1 2 with a pad of 1 before them, in 9 9 9 8: 9 1 2 8.
+// Supposes `Framed`. Of 1 2 with a pad of 1 before them, in 9 9 9 8: 9 1 2 8.
 pub(crate) fn copy_middle(
     data: &[i64],
     shape: &[usize],
@@ -106,8 +110,10 @@ pub(crate) fn copy_middle(
     padded: &[usize],
     out: &mut [i64],
 )
-    requires { ⌜ Framed (now shape) (now lefts) (now padded) × (length (now «data») ≡ cellCount (now shape)) × (length (now out) ≡ cellCount (now padded)) ⌝ }
-    ensures { λ _. ⌜ now (out .exit) ≡ middleSet (now (shape .entry)) (now (lefts .entry)) (now (padded .entry)) (now («data» .entry)) (now (out .entry)) ⌝ }
+    requires { ⌜ Framed (now shape) (now lefts) (now padded) × (length (now «data»)
+        ≡ cellCount (now shape)) × (length (now out) ≡ cellCount (now padded)) ⌝ }
+    ensures { λ _. ⌜ now (out .exit) ≡ middleSet (now (shape .entry)) (now (lefts .entry)) (now (padded .entry))
+        (now («data» .entry)) (now (out .entry)) ⌝ }
 {
     let last = shape.len() - 1;
     let n = shape[last];

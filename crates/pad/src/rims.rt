@@ -18,8 +18,10 @@ fn fill_in(
     line: &mut [i64],
     out: &mut [i64],
 )
-    requires { ⌜ Framed (now shape) (now lefts) (now padded) × (length (now line) ≡ longestPaddedAxis) × (length (now out) ≡ cellCount (now padded)) ⌝ }
-    ensures { λ _. ⌜ Fills (modeTaking statistic) (now (shape .entry)) (now (lefts .entry)) (now (padded .entry)) 0 (length (now (shape .entry))) (now (out .entry)) (now (out .exit)) ⌝ }
+    requires { ⌜ Framed (now shape) (now lefts) (now padded) × (length (now line)
+        ≡ longestPaddedAxis) × (length (now out) ≡ cellCount (now padded)) ⌝ }
+    ensures { λ _. ⌜ Fills (modeTaking statistic) (now (shape .entry)) (now (lefts .entry)) (now (padded .entry)) 0
+        (length (now (shape .entry))) (now (out .entry)) (now (out .exit)) ⌝ }
 {
     let mut axis = 0;
     while axis < shape.len() {
@@ -37,7 +39,8 @@ fn fill_by_line(
     out: &mut [i64],
 )
     requires { ⌜ Framed (now shape) (now lefts) (now padded) × (length (now out) ≡ cellCount (now padded)) ⌝ }
-    ensures { λ _. ⌜ Fills (modeTaking statistic) (now (shape .entry)) (now (lefts .entry)) (now (padded .entry)) 0 (length (now (shape .entry))) (now (out .entry)) (now (out .exit)) ⌝ }
+    ensures { λ _. ⌜ Fills (modeTaking statistic) (now (shape .entry)) (now (lefts .entry)) (now (padded .entry)) 0
+        (length (now (shape .entry))) (now (out .entry)) (now (out .exit)) ⌝ }
 {
     let mut line = [0; numbers::LONGEST_PADDED_AXIS];
     fill_in(statistic, shape, lefts, padded, &mut line, out);
@@ -51,7 +54,7 @@ fn fill_by_line(
 // * `lefts`, `padded` - the pad before each axis, and its padded length.
 // * `out` - the padded grid.
 //
-// Supposes `Framed`, and refuses nothing. Of 9 1 2 8 with 1 2 in the middle, by Statistic::Minimum: 1 1 2 1.
+// Supposes `Framed`. Of 9 1 2 8 with 1 2 in the middle, by Statistic::Minimum: 1 1 2 1.
 pub(crate) fn fill_levels(
     statistic: Statistic,
     shape: &[usize],
@@ -60,7 +63,8 @@ pub(crate) fn fill_levels(
     out: &mut [i64],
 )
     requires { ⌜ Framed (now shape) (now lefts) (now padded) × (length (now out) ≡ cellCount (now padded)) ⌝ }
-    ensures { λ _. ⌜ Fills (modeTaking statistic) (now (shape .entry)) (now (lefts .entry)) (now (padded .entry)) 0 (length (now (shape .entry))) (now (out .entry)) (now (out .exit)) ⌝ }
+    ensures { λ _. ⌜ Fills (modeTaking statistic) (now (shape .entry)) (now (lefts .entry)) (now (padded .entry)) 0
+        (length (now (shape .entry))) (now (out .entry)) (now (out .exit)) ⌝ }
 {
     if shape.len() == 1 {
         let mut none = [0; 0];

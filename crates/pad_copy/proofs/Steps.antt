@@ -49,7 +49,12 @@ module _ {m : CellBorder} {left n a from up down : ℕ} (S : StepsOf m left n a 
 
     pub step-ahead : from + up * j < left + n
     step-ahead =
-        omega (arith, ap (λ x. x * j) (S .on), one-way m from (readFrom m left n (a + j)) j (left + n) (ap (λ x. from + x * j) (sym (S .on)) ∙ step-at ∙ ap (λ x. readFrom m left n (a + j) + x * j) (S .back)) start (step-in .1))
+        omega (
+          arith,
+          ap (λ x. x * j) (S .on),
+          one-way m from (readFrom m left n (a + j)) j (left + n)
+              (ap (λ x. from + x * j) (sym (S .on)) ∙ step-at ∙ ap (λ x. readFrom m left n (a + j) + x * j) (S .back)) start (step-in .1),
+        )
       where
         start : from < left + n
         start = omega (arith, S .first, read-middle R (rims a (omega arith) (omega arith)) .1)

@@ -1,5 +1,6 @@
 -- What a coordinate of a rim reads, and by which steps its rim goes on.
---   StepsOf m left n a from up down        from is the coordinate that coordinate a of a rim reads, up and down are the steps of its border
+--   StepsOf m left n a from up down        from is the coordinate that coordinate a of a rim reads, up and down are the
+--                                          steps of its border
 use Prim.Native.Nat.{ℕ}
 use mathlib.Core.Path.{_≡_}
 use Rattle.border.specs.declared.CellBorder.{CellBorder}

@@ -1,5 +1,5 @@
-// One coordinate of an axis copied onto another. Of an axis of p cells that stand s places apart, the cells with one coordinate stand in runs of s
-// neighbouring cells, one in each block of p * s cells: they are copied run by run.
+// One coordinate of an axis copied onto another. Of an axis of p cells that stand s places apart, the cells with one
+// coordinate stand in runs of s neighbouring cells, one in each block of p * s cells: they are copied run by run.
 ghost use mathlib.Core.Path.{_≡_};
 ghost use mathlib.Core.Logic.{_⊎_};
 ghost use Prim.Native.Nat.{_+_, _*_, _≤_, _<_};
@@ -10,7 +10,8 @@ ghost use Rattle.pad_spec.specs.Runs.{coordinateSet};
 
 // Copies `count` cells, those from place `from` on, to the places from `at` on; the two runs have no place in common.
 fn copy_run(from: usize, at: usize, count: usize, out: &mut [i64])
-    requires { ⌜ (from + count ≤ length (now out)) × (at + count ≤ length (now out)) × ((from + count ≤ at) ⊎ (at + count ≤ from)) ⌝ }
+    requires { ⌜ (from + count ≤ length (now out)) × (at + count ≤ length (now out))
+        × ((from + count ≤ at) ⊎ (at + count ≤ from)) ⌝ }
     ensures { λ _. ⌜ now (out .exit) ≡ rowSet (now (out .entry)) from count at (now (out .entry)) ⌝ }
 {
     let mut j = 0;
@@ -24,7 +25,8 @@ fn copy_run(from: usize, at: usize, count: usize, out: &mut [i64])
 
 // Copies coordinate `from` of an axis onto coordinate `at`, run by run in each of the blocks of p * s cells.
 fn copy_runs(from: usize, at: usize, p: usize, s: usize, blocks: usize, out: &mut [i64])
-    requires { ⌜ (from < p) × (at < p) × (from ≡ at → ⊥) × (0 < s) × (length (now out) ≡ blocks * (p * s)) × (length (now out) ≤ mostPaddedCells) ⌝ }
+    requires { ⌜ (from < p) × (at < p) × (from ≡ at → ⊥) × (0 < s) × (length (now out)
+        ≡ blocks * (p * s)) × (length (now out) ≤ mostPaddedCells) ⌝ }
     ensures { λ _. ⌜ now (out .exit) ≡ coordinateSet p s from at (now (out .entry)) ⌝ }
 {
     let mut block = 0;
@@ -37,7 +39,8 @@ fn copy_runs(from: usize, at: usize, p: usize, s: usize, blocks: usize, out: &mu
 
 // The same where the cells of the axis stand side by side: a run is one cell.
 fn copy_cells(from: usize, at: usize, p: usize, blocks: usize, out: &mut [i64])
-    requires { ⌜ (from < p) × (at < p) × (from ≡ at → ⊥) × (length (now out) ≡ blocks * p) × (length (now out) ≤ mostPaddedCells) ⌝ }
+    requires { ⌜ (from < p) × (at < p) × (from ≡ at → ⊥) × (length (now out)
+        ≡ blocks * p) × (length (now out) ≤ mostPaddedCells) ⌝ }
     ensures { λ _. ⌜ now (out .exit) ≡ coordinateSet p 1 from at (now (out .entry)) ⌝ }
 {
     let mut block = 0;
@@ -56,7 +59,7 @@ fn copy_cells(from: usize, at: usize, p: usize, blocks: usize, out: &mut [i64])
 // * `blocks` - how many blocks of p * s cells the grid is.
 // * `out` - the grid.
 //
-// Supposes what it is handed, and refuses nothing. Of 1 2 3 4 5 6 7 8 in two blocks of p = 2 and s = 2, 1 onto 0: 3 4 3 4 7 8 7 8.
+// Supposes what it is handed. Of 1 2 3 4 5 6 7 8 in two blocks of p = 2 and s = 2, 1 onto 0: 3 4 3 4 7 8 7 8.
 pub(crate) fn copy_coordinate(
     from: usize,
     at: usize,
@@ -65,7 +68,8 @@ pub(crate) fn copy_coordinate(
     blocks: usize,
     out: &mut [i64],
 )
-    requires { ⌜ (from < p) × (at < p) × (from ≡ at → ⊥) × (0 < s) × (length (now out) ≡ blocks * (p * s)) × (length (now out) ≤ mostPaddedCells) ⌝ }
+    requires { ⌜ (from < p) × (at < p) × (from ≡ at → ⊥) × (0 < s) × (length (now out)
+        ≡ blocks * (p * s)) × (length (now out) ≤ mostPaddedCells) ⌝ }
     ensures { λ _. ⌜ now (out .exit) ≡ coordinateSet p s from at (now (out .entry)) ⌝ }
 {
     if s == 1 {

@@ -8,7 +8,7 @@ mod side;
 
 pub use runs::copy_axes;
 
-// Worked rows of this crate's definitions. Refuses nothing.
+// Worked rows of this crate's definitions.
 pub fn rows()
     ensures { λ _. ⌜ PadCopyRows ⌝ }
 {}

@@ -1,5 +1,5 @@
-// Both rims of the lanes of an axis, copied from the lanes' own cells, which never change: coordinate by coordinate, and where the cells of a lane stand side by side,
-// lane by lane, unless the rims are short.
+// Both rims of the lanes of an axis, copied from the lanes' own cells, which never change: coordinate by coordinate,
+// and where the cells of a lane stand side by side, lane by lane, unless the rims are short.
 ghost use mathlib.Core.Bool.{true};
 ghost use mathlib.Core.Path.{_≡_};
 ghost use Prim.Native.Nat.{ℕ, _+_, _≤_, _<_};
@@ -38,7 +38,8 @@ fn copy_rim(
     count: usize,
     out: &mut [i64],
 )
-    requires { ⌜ Runs mode p s blocks left n (length (now out)) × ((k : ℕ) → a ≤ k → k < a + count → InRim left n p k) ⌝ }
+    requires { ⌜ Runs mode p s blocks left n (length (now out))
+        × ((k : ℕ) → a ≤ k → k < a + count → InRim left n p k) ⌝ }
     ensures { λ _. ⌜ now (out .exit) ≡ rimSet mode p s left n a count (now (out .entry)) ⌝ }
 {
     if lane_by_lane(s, blocks, count) {
@@ -62,7 +63,8 @@ fn copy_rim(
 // * `left`, `n` - where the lanes' own cells start, and how many they are.
 // * `out` - the grid.
 //
-// Supposes `Runs`, and refuses nothing. Of 9 9 1 2 3 4 9 9, a block of p = 4 and s = 2 with 2 own cells from 1 on, under Wrap: 3 4 1 2 3 4 1 2.
+// Supposes `Runs`. Of 9 9 1 2 3 4 9 9, a block of p = 4 and s = 2 with 2 own cells from 1 on, under Wrap: 3 4 1 2 3 4 1
+// 2.
 pub(crate) fn copy_rims(
     mode: CellBorder,
     p: usize,

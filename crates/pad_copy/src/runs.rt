@@ -67,8 +67,10 @@ fn copy_axis(
     axis: usize,
     out: &mut [i64],
 )
-    requires { ⌜ Filling mode (now shape) (now lefts) (now padded) × (axis < length (now shape)) × (length (now out) ≡ cellCount (now padded)) ⌝ }
-    ensures { λ _. ⌜ Fills (modeAlong mode) (now (shape .entry)) (now (lefts .entry)) (now (padded .entry)) axis (suc axis) (now (out .entry)) (now (out .exit)) ⌝ }
+    requires { ⌜ Filling mode (now shape) (now lefts) (now padded) × (axis < length (now shape)) × (length (now out)
+        ≡ cellCount (now padded)) ⌝ }
+    ensures { λ _. ⌜ Fills (modeAlong mode) (now (shape .entry)) (now (lefts .entry)) (now (padded .entry)) axis
+        (suc axis) (now (out .entry)) (now (out .exit)) ⌝ }
 {
     let p = array::len_of(padded, axis);
     let n = array::len_of(shape, axis);
@@ -86,7 +88,7 @@ fn copy_axis(
 // * `lefts`, `padded` - the pad before each axis, and its padded length.
 // * `out` - the padded grid.
 //
-// Supposes `Filling`, and refuses nothing. Of 9 1 2 8 with 1 2 in the middle, under Wrap: 2 1 2 1.
+// Supposes `Filling`. Of 9 1 2 8 with 1 2 in the middle, under Wrap: 2 1 2 1.
 pub fn copy_axes(
     mode: CellBorder,
     shape: &[usize],
@@ -95,7 +97,8 @@ pub fn copy_axes(
     out: &mut [i64],
 )
     requires { ⌜ Filling mode (now shape) (now lefts) (now padded) × (length (now out) ≡ cellCount (now padded)) ⌝ }
-    ensures { λ _. ⌜ Fills (modeAlong mode) (now (shape .entry)) (now (lefts .entry)) (now (padded .entry)) 0 (length (now (shape .entry))) (now (out .entry)) (now (out .exit)) ⌝ }
+    ensures { λ _. ⌜ Fills (modeAlong mode) (now (shape .entry)) (now (lefts .entry)) (now (padded .entry)) 0
+        (length (now (shape .entry))) (now (out .entry)) (now (out .exit)) ⌝ }
 {
     let mut axis = 0;
     while axis < shape.len() {

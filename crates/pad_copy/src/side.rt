@@ -1,5 +1,5 @@
-// What a rim reads of its lane, and a rim of every lane of neighbouring cells copied lane by lane: from one cell of a rim to the next the cell that is read moves by
-// one step.
+// What a rim reads of its lane, and a rim of every lane of neighbouring cells copied lane by lane: from one cell of a
+// rim to the next the cell that is read moves by one step.
 ghost use mathlib.Core.Path.{_≡_};
 ghost use Prim.Native.Nat.{ℕ, _+_, _≤_, _<_};
 ghost use lib.ListN.{length};
@@ -16,7 +16,7 @@ use pad_line::copy_steps;
 // * `p` - the cells of the lane.
 // * `k` - a coordinate in a rim.
 //
-// Supposes what it is handed, and refuses nothing. Of 7 cells with 3 own ones from 2 on, 0 under Wrap reads 3.
+// Supposes what it is handed. Of 7 cells with 3 own ones from 2 on, 0 under Wrap reads 3.
 pub(crate) fn read_from(mode: CellBorder, left: usize, n: usize, p: usize, k: usize) -> usize
     requires { ⌜ (left + n ≤ p) × (p ≤ longestPaddedAxis) × InRim left n p k ⌝ }
     ensures { λ r. ⌜ r ≡ readFrom mode left n k ⌝ }
@@ -27,7 +27,8 @@ pub(crate) fn read_from(mode: CellBorder, left: usize, n: usize, p: usize, k: us
     left + border::cell_after(mode, n, k + 1 - (left + n))
 }
 
-// Fills `count` cells of each lane, those from `a` on, by the steps of a mode. It is called with constants for these, of which the compiler makes a loop for each mode.
+// Fills `count` cells of each lane, those from `a` on, by the steps of a mode. It is called with constants for these,
+// of which the compiler makes a loop for each mode.
 fn copy_lanes(
     mode: CellBorder,
     up: usize,
@@ -41,7 +42,8 @@ fn copy_lanes(
     count: usize,
     out: &mut [i64],
 )
-    requires { ⌜ Runs mode p 1 blocks left n (length (now out)) × ((k : ℕ) → a ≤ k → k < a + count → InRim left n p k) × (0 < count) × StepsOf mode left n a from up down ⌝ }
+    requires { ⌜ Runs mode p 1 blocks left n (length (now out)) × ((k : ℕ) → a ≤ k → k < a + count → InRim left n p k)
+        × (0 < count) × StepsOf mode left n a from up down ⌝ }
     ensures { λ _. ⌜ now (out .exit) ≡ rimSet mode p 1 left n a count (now (out .entry)) ⌝ }
 {
     let mut lane = 0;
@@ -60,7 +62,7 @@ fn copy_lanes(
 // * `a`, `count` - the first cell of a lane that is filled, and how many are.
 // * `out` - the grid.
 //
-// Supposes `Runs`, and refuses nothing. Of 9 1 2 3 9 with 3 own cells from 1 on, 1 cell from 4 on under Wrap: 9 1 2 3 1.
+// Supposes `Runs`. Of 9 1 2 3 9 with 3 own cells from 1 on, 1 cell from 4 on under Wrap: 9 1 2 3 1.
 pub(crate) fn copy_side(
     mode: CellBorder,
     p: usize,
@@ -71,7 +73,8 @@ pub(crate) fn copy_side(
     count: usize,
     out: &mut [i64],
 )
-    requires { ⌜ Runs mode p 1 blocks left n (length (now out)) × ((k : ℕ) → a ≤ k → k < a + count → InRim left n p k) ⌝ }
+    requires { ⌜ Runs mode p 1 blocks left n (length (now out))
+        × ((k : ℕ) → a ≤ k → k < a + count → InRim left n p k) ⌝ }
     ensures { λ _. ⌜ now (out .exit) ≡ rimSet mode p 1 left n a count (now (out .entry)) ⌝ }
 {
     if count == 0 {

@@ -1,4 +1,5 @@
-// Condition 10 of `pad` and `pad_to`: how many pairs of pads there are, how long they are, and how many cells the padded grid has.
+// Condition 10 of `pad` and `pad_to`: how many pairs of pads there are, how long they are, and how many cells the
+// padded grid has.
 ghost use mathlib.Core.Path.{_≡_};
 ghost use mathlib.Core.Bool.{false};
 ghost use Prim.Native.Nat.{_*_, _≤_, _<_};
@@ -56,8 +57,10 @@ fn over_pads(pads: [Pair; 3], count: usize) -> bool
 
 // The padded length of an axis whose pads are at most 64; a missing axis has length 1.
 fn padded_len(shape: &[usize], pads: [Pair; 3], count: usize, axis: usize) -> usize
-    requires { ⌜ (lengthOf (now shape) axis ≤ longestAxis) × (axis < length (now shape) → overPad (pairOf pads count axis) ≡ false) ⌝ }
-    ensures { λ r. ⌜ r ≡ lengthOf (paddedShape (now (shape .entry)) (leftsOf (now (shape .entry)) pads count) (rightsOf (now (shape .entry)) pads count)) axis ⌝ }
+    requires { ⌜ (lengthOf (now shape) axis ≤ longestAxis)
+        × (axis < length (now shape) → overPad (pairOf pads count axis) ≡ false) ⌝ }
+    ensures { λ r. ⌜ r ≡ lengthOf (paddedShape (now (shape .entry)) (leftsOf (now (shape .entry)) pads count)
+        (rightsOf (now (shape .entry)) pads count)) axis ⌝ }
 {
     if shape.len() <= axis {
         return 1;
@@ -76,7 +79,8 @@ fn count_of_three(a: usize, b: usize, c: usize) -> usize
 
 // The number of padded cells of an accepted shape whose pads are at most 64.
 fn padded_cells(shape: &[usize], pads: [Pair; 3], count: usize) -> usize
-    requires { ⌜ (badShape (now shape) ≡ false) × (badCount (now shape) count ≡ false) × (anyOf overPad (take count pads) ≡ false) ⌝ }
+    requires { ⌜ (badShape (now shape) ≡ false) × (badCount (now shape) count
+        ≡ false) × (anyOf overPad (take count pads) ≡ false) ⌝ }
     ensures { λ r. ⌜ r ≡ paddedCount (now (shape .entry)) pads count ⌝ }
 {
     let a = padded_len(shape, pads, count, 0);
@@ -85,13 +89,14 @@ fn padded_cells(shape: &[usize], pads: [Pair; 3], count: usize) -> usize
     count_of_three(a, b, c)
 }
 
-// Condition 10 of an accepted shape: a bad count, a pad over 64, over 32,768 padded cells, or an output of another length.
+// Condition 10 of an accepted shape: a bad count, a pad over 64, over 32,768 padded cells, or an output of another
+// length.
 //
 // * `shape` - the length of each axis; condition 1 accepts it.
 // * `pads`, `count` - the pairs of pads, and how many of them count.
 // * `out` - the length of the lent output.
 //
-// Refuses nothing. Of two cells with a pad of 1 on both sides it is false where the output has 4 cells, else true.
+// Of two cells with a pad of 1 on both sides it is false where the output has 4 cells, else true.
 pub(crate) fn bad_pads(shape: &[usize], pads: [Pair; 3], count: usize, out: usize) -> bool
     requires { ⌜ badShape (now shape) ≡ false ⌝ }
     ensures { λ r. ⌜ r ≡ badPads (now (shape .entry)) pads count out ⌝ }

@@ -61,8 +61,8 @@ fn bad_reach(mode: border::PadMode, shape: &[usize], pads: [Pair; 3], count: usi
 // * `mode` - the padding mode.
 // * `out` - the length of the lent output.
 //
-// Refuses: 1, 2, 3, 9, 10, 11. 12 never occurs: no sum of accepted levels leaves 64 bits.
-// Three cells with a pad of 3 under Reflect give 11.
+// Refuses: 1 (shape), 2 (length), 3 (level), 9 (constant), 10 (pads), 11 (reach). Three cells with a pad of 3 under
+// Reflect give 11.
 pub fn judge(
     data: &[i64],
     shape: &[usize],

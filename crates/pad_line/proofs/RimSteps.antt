@@ -23,7 +23,8 @@ use Rattle.pad_line.proofs.Reach.{cell-before-in, cell-after-in}
 use Rattle.pad_line.proofs.Rims.{Filled, levelAt, level-before, level-after, filled-none, filled-middle, filled-all}
 
 -- ---- j places on, in the same rim
-pub before-steps : (m : CellBorder) (left n a j : ℕ) → a + j < left → badAlong m n left ≡ false → left + cellBefore m n (left - a) + stepUp m * j ≡ left + cellBefore m n (left - (a + j)) + stepDown m * j
+pub before-steps : (m : CellBorder) (left n a j : ℕ) → a + j < left → badAlong m n left ≡ false → left + cellBefore m n (left - a) + stepUp m * j
+    ≡ left + cellBefore m n (left - (a + j)) + stepDown m * j
 before-steps Nearest left n a j h b = omega arith
 before-steps Mirror left n a j h b = omega arith
 before-steps Reflect left n a j h b = omega arith
@@ -57,7 +58,8 @@ after-first Reflect n = omega arith
 after-first Wrap n = omega arith
 
 -- ---- a lane that stands in the middle of a line, with room for both rims
-pub rimmed : (m : CellBorder) {left n right len : ℕ} → (0 < n) × (left + n + right ≤ len) × (badAlong m n left ≡ false) × (badAlong m n right ≡ false) → RimNeeds m (stepUp m) (stepDown m) left n right len
+pub rimmed : (m : CellBorder) {left n right len : ℕ} → (0 < n) × (left + n + right ≤ len) × (badAlong m n left ≡ false) × (badAlong m n right
+    ≡ false) → RimNeeds m (stepUp m) (stepDown m) left n right len
 rimmed m h = record { some = h .0; room = h .1; fills-left = h .2; fills-right = h .3; on = refl; back = refl }
 
 module _ {m : CellBorder} {up down left n right len : ℕ} (R : RimNeeds m up down left n right len) where
@@ -80,7 +82,12 @@ module _ {m : CellBorder} {up down left n right len : ℕ} (R : RimNeeds m up do
     before-ahead : from + up * j < left + n
     before-ahead =
         let e = cell-before-in m n left left (R .some) (omega arith) (omega arith) (R .fills-left) refl in
-        omega (arith, ap (λ x. x * j) (R .on), one-way m from (left + cellBefore m n (left - j)) j (left + n) (ap (λ x. from + x * j) (sym (R .on)) ∙ before-place ∙ ap (λ x. left + cellBefore m n (left - j) + x * j) (R .back)) (omega (arith, first, e)) (omega (arith, before-in)))
+        omega (
+          arith,
+          ap (λ x. x * j) (R .on),
+          one-way m from (left + cellBefore m n (left - j)) j (left + n)
+              (ap (λ x. from + x * j) (sym (R .on)) ∙ before-place ∙ ap (λ x. left + cellBefore m n (left - j) + x * j) (R .back)) (omega (arith, first, e)) (omega (arith, before-in)),
+        )
 
   pub before-stepped : {from : ℕ} → from ≡ left + cellBefore m n left → StepNeeds up down from 0 left len
   before-stepped first = record {
@@ -106,7 +113,12 @@ module _ {m : CellBorder} {up down left n right len : ℕ} (R : RimNeeds m up do
     after-ahead : from + up * j < left + n
     after-ahead =
         let e = cell-after-in m n right 1 (R .some) (omega arith) (omega arith) (R .fills-right) refl in
-        omega (arith, ap (λ x. x * j) (R .on), one-way m from (left + cellAfter m n (left + n + j + 1 - (left + n))) j (left + n) (ap (λ x. from + x * j) (sym (R .on)) ∙ after-place ∙ ap (λ x. left + cellAfter m n (left + n + j + 1 - (left + n)) + x * j) (R .back)) (omega (arith, first, e)) (omega (arith, after-in)))
+        omega (
+          arith,
+          ap (λ x. x * j) (R .on),
+          one-way m from (left + cellAfter m n (left + n + j + 1 - (left + n))) j (left + n)
+              (ap (λ x. from + x * j) (sym (R .on)) ∙ after-place ∙ ap (λ x. left + cellAfter m n (left + n + j + 1 - (left + n)) + x * j) (R .back)) (omega (arith, first, e)) (omega (arith, after-in)),
+        )
 
   pub after-stepped : {from len′ : ℕ} → len′ ≡ len → from ≡ left + cellAfter m n 1 → StepNeeds up down from (left + n) right len′
   after-stepped long first = record {
@@ -135,12 +147,14 @@ module _ {m : CellBorder} {up down left n right len : ℕ} (R : RimNeeds m up do
         miss k q false e = sym (le-ltb k 0 (omega arith))
         miss k q true e = absurd (true≢false (sym (row-yes 0 left k (omega arith) (omega (arith, ltb-true k left e))) ∙ q))
 
-    pub after-filled : {from : ℕ} (l₁ : List A) {l₂ : List A} → length l₁ ≡ len → from ≡ left + cellAfter m n 1 → Filled d (along m) left n l₁ l₁ (left + n) → l₂ ≡ stepSet d up down from (left + n) right l₁
+    pub after-filled : {from : ℕ} (l₁ : List A) {l₂ : List A} → length l₁ ≡ len → from ≡ left + cellAfter m n 1 → Filled d (along m) left n l₁ l₁ (left + n) → l₂
+        ≡ stepSet d up down from (left + n) right l₁
         → Filled d (along m) left n l₁ l₂ (left + n + right)
     after-filled {from} l₁ {l₂} long first F e = record {
       stored =
           stored-over d (λ k. ltb k (left + n)) (onRow (left + n) right) (λ k. ltb k (left + n + right)) (steppedCell d up down from (left + n) l₁) (levelAt d (along m) left n l₁) (F .stored)
-          (set-stored d up down from (left + n) right l₁ l₂ e) (λ k b q. hit k (row-in (left + n) right k q .0) (row-in (left + n) right k q .1)) (λ k b q. miss k q (ltb k (left + n)) refl (ltb k (left + n + right)) refl);
+          (set-stored d up down from (left + n) right l₁ l₂ e) (λ k b q. hit k (row-in (left + n) right k q .0) (row-in (left + n) right k q .1))
+          (λ k b q. miss k q (ltb k (left + n)) refl (ltb k (left + n + right)) refl);
     }
       where
         hit : (k : ℕ) → left + n ≤ k → k < left + n + right → (ltb k (left + n + right) ≡ true) × (steppedCell d up down from (left + n) l₁ k ≡ levelAt d (along m) left n l₁ k)
@@ -161,4 +175,5 @@ module _ {m : CellBorder} {up down left n right len : ℕ} (R : RimNeeds m up do
         → l₂ ≡ stepSet d up down from′ (left + n) right l₁ → l₂ ≡ padMiddle d (along m) left n right l₀
     rims-filled l₀ l₁ long first e first′ e′ =
         let E = before-filled l₀ long first e in
-        filled-all E refl (omega (arith, long, R .room)) right (omega (arith, long, R .room)) refl (after-filled l₁ (E .stored .kept ∙ long) first′ (filled-middle E refl (omega (arith, long, R .room))) e′)
+        filled-all E refl (omega (arith, long, R .room)) right (omega (arith, long, R .room)) refl
+        (after-filled l₁ (E .stored .kept ∙ long) first′ (filled-middle E refl (omega (arith, long, R .room))) e′)

@@ -82,7 +82,8 @@ module _ {A : Type 0} (d : A) {b : Border A} {n s l left right : ℕ} {g held : 
   pub served-window : (i len : ℕ) → i + len ≤ left + n + right → windowOf (paddedLane d b n s l left right g held) i len ≡ windowOf (paddedLine d b left right (lane d n s l g)) i len
   served-window i len h =
       ap (λ (x : List A). windowOf x i len) served-line
-      ∙ window-append (paddedLine d b left right (lane d n s l g)) (drop (left + n + right) held) i len (omega (arith, length-padded d left (lane d n s l g) b right, length-laneAt d g (laneBase n s l) s n))
+      ∙ window-append (paddedLine d b left right (lane d n s l g)) (drop (left + n + right) held) i len
+      (omega (arith, length-padded d left (lane d n s l g) b right, length-laneAt d g (laneBase n s l) s n))
 
   -- ---- where the lane starts, as `first_place` answers it
   module _ {base : ℕ} (e : base ≡ cond (laneInside n s l (length g)) (laneBase n s l) (length g)) where

@@ -1,5 +1,6 @@
 -- What filling both rims of a lane by steps supposes.
---   RimNeeds m up down left n right len   the n cells from place left on of a line of len places have room for both rims, the border m fills them, and up and down are its steps
+--   RimNeeds m up down left n right len   the n cells from place left on of a line of len places have room for both
+--                                         rims, the border m fills them, and up and down are its steps
 use Prim.Native.Nat.{ℕ, _+_, _≤_, _<_}
 use mathlib.Core.Path.{_≡_}
 use mathlib.Core.Bool.{false}

@@ -1,8 +1,10 @@
 -- From one place of a rim to the next, the cell that a border reads is the same one, the next one, or the one before.
 --   stepUp m                               how far on it is
 --   stepDown m                             how far back it is
---   StepNeeds up down from at count len      in a list of len places: count places are read by such steps, the first at from, and none of them is stored, from at on
---   stepSet d up down from at count g      g with the cells so read stored from place at on; d stands for what is past the end
+--   StepNeeds up down from at count len      in a list of len places: count places are read by such steps, the first at
+--                                            from, and none of them is stored, from at on
+--   stepSet d up down from at count g      g with the cells so read stored from place at on; d stands for what is past
+--                                          the end
 use Prim.Native.Nat.{ℕ, _+_, _-_, _*_, _≤_, _<_}
 use mathlib.Core.Bool.{_&&_, cond}
 use mathlib.Core.List.{List}
@@ -32,4 +34,5 @@ pub record StepNeeds (up down from at count len : ℕ) : Type 0 where
 
 unfoldable pub stepSet : {A : Type 0} → A → ℕ → ℕ → ℕ → ℕ → ℕ → List A → List A
 stepSet d up down from at count g =
-    tabulate (λ k. cond (leb at k && ltb k (at + count)) (getD g (from + up * (k - at) - down * (k - at)) d) (getD g k d)) 0 (length g)
+    tabulate (λ k. cond (leb at k && ltb k (at + count)) (getD g (from + up * (k - at) - down * (k - at)) d)
+    (getD g k d)) 0 (length g)

@@ -31,8 +31,8 @@ fn extend_constant(c: i64, left: usize, n: usize, right: usize, line: &mut [i64]
     }
 }
 
-// Extends the n cells of the line from place left on by cells among them: each rim is copied by the steps of the border. It is called with constants for these, of which
-// the compiler makes a loop for each border.
+// Extends the n cells of the line from place left on by cells among them: each rim is copied by the steps of the
+// border. It is called with constants for these, of which the compiler makes a loop for each border.
 fn extend_along(
     mode: CellBorder,
     up: usize,
@@ -53,7 +53,8 @@ fn extend_along(
 
 // Extends the n cells of the line from place left on by the border.
 pub(crate) fn extend(mode: BorderMode, left: usize, n: usize, right: usize, line: &mut [i64])
-    requires { ⌜ (0 < n) × (left + n + right ≤ length (now line)) × (badPad (borderOf mode) n left ≡ false) × (badPad (borderOf mode) n right ≡ false) ⌝ }
+    requires { ⌜ (0 < n) × (left + n + right ≤ length (now line)) × (badPad (borderOf mode) n left
+        ≡ false) × (badPad (borderOf mode) n right ≡ false) ⌝ }
     ensures { λ _. ⌜ now (line .exit) ≡ padMiddle (pos 0) (borderOf mode) left n right (now (line .entry)) ⌝ }
 {
     match mode {

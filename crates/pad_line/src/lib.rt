@@ -27,8 +27,8 @@ pub use steps::copy_steps_f64;
 // * `left`, `right` - how many places are padded before and after the lane.
 // * `room` - how long the lent line is.
 //
-// False for a grid of over 32,768 cells. Refuses nothing.
-// Lane 1 of three cells, 1 apart, of a grid of 6 with pads 2 and 2 fits a line of 7 and not one of 6; lane 2 fits none.
+// False for a grid of over 32,768 cells. Lane 1 of three cells, 1 apart, of a grid of 6 with pads 2 and 2 fits a line
+// of 7 and not one of 6; lane 2 fits none.
 pub fn lane_fits(
     count: usize,
     stride: usize,
@@ -69,7 +69,8 @@ pub fn pad_from(
     line: &mut [i64],
 )
     requires { ⌜ PadNeeds (borderOf mode) n stride base left right (now grid) (now line) ⌝ }
-    ensures { λ _. ⌜ now (line .exit) ≡ paddedLine (pos 0) (borderOf mode) left right (laneAt (pos 0) (now (grid .entry)) base stride n) ++ drop (left + n + right) (now (line .entry)) ⌝ }
+    ensures { λ _. ⌜ now (line .exit) ≡ paddedLine (pos 0) (borderOf mode) left right
+        (laneAt (pos 0) (now (grid .entry)) base stride n) ++ drop (left + n + right) (now (line .entry)) ⌝ }
 {
     let e = left + n;
     lane_cells::read_from(grid, base, stride, &mut line[left..e]);
@@ -98,7 +99,8 @@ pub fn pad_lane(
     right: usize,
     line: &mut [i64],
 )
-    ensures { λ _. ⌜ now (line .exit) ≡ paddedLane (pos 0) (borderOf mode) n stride lane left right (now (grid .entry)) (now (line .entry)) ⌝ }
+    ensures { λ _. ⌜ now (line .exit) ≡ paddedLane (pos 0) (borderOf mode) n stride lane left right (now (grid .entry))
+        (now (line .entry)) ⌝ }
 {
     if border::bad_pad(mode, n, left) {
         return;
@@ -113,7 +115,7 @@ pub fn pad_lane(
     pad_from(grid, base, stride, n, mode, left, right, line);
 }
 
-// Worked rows of this crate's definitions: padded lines, cells copied by steps. Refuses nothing.
+// Worked rows of this crate's definitions: padded lines, cells copied by steps.
 pub fn rows()
     ensures { λ _. ⌜ PadLineRows ⌝ }
 {}

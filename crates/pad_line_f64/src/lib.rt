@@ -24,14 +24,15 @@ pub fn pad_from_f64(
     line: &mut [f64],
 )
     requires { ⌜ PadNeeds (borderOfF64 mode) n stride base left right (now grid) (now line) ⌝ }
-    ensures { λ _. ⌜ now (line .exit) ≡ paddedLine nan (borderOfF64 mode) left right (laneAt nan (now (grid .entry)) base stride n) ++ drop (left + n + right) (now (line .entry)) ⌝ }
+    ensures { λ _. ⌜ now (line .exit) ≡ paddedLine nan (borderOfF64 mode) left right
+        (laneAt nan (now (grid .entry)) base stride n) ++ drop (left + n + right) (now (line .entry)) ⌝ }
 {
     let e = left + n;
     lane_cells::read_from_f64(grid, base, stride, &mut line[left..e]);
     extension::extend_f64(mode, left, n, right, line);
 }
 
-// Worked rows on floats of `pad_line`'s definitions: T1 on any three floats, condition 11, a window. Refuses nothing.
+// Worked rows on floats of `pad_line`'s definitions: T1 on any three floats, condition 11, a window.
 pub fn rows()
     ensures { λ _. ⌜ PadLineF64Rows ⌝ }
 {}

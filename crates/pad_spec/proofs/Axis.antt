@@ -59,7 +59,8 @@ module _ (mode : PadMode) (ns lefts ps : List ℕ) (cells : List ℤ) (F : Frame
     moved-within j u a l = go (eqb a d) refl
       where
         go : (t : Bool) → eqb a d ≡ t → moved d j (coordinate ps k) a < lengthOf ps a
-        go true q = let e : a ≡ d = eqb-true a d q in subst (λ (x : ℕ). moved d j (coordinate ps k) x < lengthOf ps x) (sym e) (subst (λ (x : ℕ). x < lengthOf ps d) (sym (moved-at d j (coordinate ps k))) u)
+        go true q = let e : a ≡ d = eqb-true a d q in subst (λ (x : ℕ). moved d j (coordinate ps k) x < lengthOf ps x) (sym e)
+            (subst (λ (x : ℕ). x < lengthOf ps d) (sym (moved-at d j (coordinate ps k))) u)
         go false q = subst (λ (x : ℕ). x < lengthOf ps a) (sym (moved-off d a j (coordinate ps k) (eqb-false a d q))) (coordinate-within ps k (F .full) b a l)
 
     pub lane-place : (j : ℕ) → laneBase (lengthOf ps d) (strideOf ps d) (laneOf (lengthOf ps d) (strideOf ps d) k) + j * strideOf ps d ≡ placeOf ps (moved d j (coordinate ps k))
@@ -83,7 +84,8 @@ module _ (mode : PadMode) (ns lefts ps : List ℕ) (cells : List ℤ) (F : Frame
           let w : j < lengthOf ps d = omega (arith, F .room d h) in
           let q = moved d j (coordinate ps k) in
           ap (λ x. getD out x (pos 0)) (lane-place j)
-          ∙ S (placeOf ps q) (place-lt ps q (moved-within j w)) (middle-ext ns lefts d less (coordinate ps (placeOf ps q)) q (same-coordinates j w) ∙ middle-moved mode ns lefts cells d i h u (coordinate ps k) m)
+          ∙ S (placeOf ps q) (place-lt ps q (moved-within j w)) (middle-ext ns lefts d less (coordinate ps (placeOf ps q)) q (same-coordinates j w)
+          ∙ middle-moved mode ns lefts cells d i h u (coordinate ps k) m)
           ∙ level-ext mode ns lefts cells (length ns) (whole ns) (coordinate ps (placeOf ps q)) q (same-coordinates j w)
         where
           whole : (l : List ℕ) → length l ≤ length l

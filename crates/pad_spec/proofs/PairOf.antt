@@ -131,7 +131,8 @@ module _ (ns : List ℕ) (pads : List Pair) (count a : ℕ) where
       ∙ (λ j. getD-tabulate (λ k. pairOf pads count k .left) (length ns) a 0 h j + lengthOf ns a + getD-tabulate (λ k. pairOf pads count k .right) (length ns) a 0 h j)
 
   pub padded-missing : length ns ≤ a → 1 ≡ lengthOf (paddedShape ns (leftsOf ns pads count) (rightsOf ns pads count)) a
-  padded-missing h = sym (List·getD-eq-default (paddedShape ns (leftsOf ns pads count) (rightsOf ns pads count)) 1 (omega (arith, length-tabulate (λ k. getD (leftsOf ns pads count) k 0 + lengthOf ns k + getD (rightsOf ns pads count) k 0) 0 (length ns))))
+  padded-missing h = sym (List·getD-eq-default (paddedShape ns (leftsOf ns pads count) (rightsOf ns pads count)) 1
+      (omega (arith, length-tabulate (λ k. getD (leftsOf ns pads count) k 0 + lengthOf ns k + getD (rightsOf ns pads count) k 0) 0 (length ns))))
 
 -- ---- the padded count, from three padded lengths
 module _ (ns : List ℕ) (pads : List Pair) (count : ℕ) (shape : badShape ns ≡ false) (three : length pads ≡ 3) (c : badCount ns count ≡ false) (o : anyOf overPad (take count pads) ≡ false) where

@@ -92,7 +92,13 @@ module _ {A : Type 0} {d : A} {b : Border A} {p s l left n : ℕ} {g₀ g : List
 
   -- they hold what belongs there already
   pub filled-own : left + n ≤ p → k ≡ left → Filled d b p s l left n g₀ g (left + n)
-  filled-own room z = record { stored = record { kept = F .stored .kept; cells = λ j h. F .stored .cells j h ∙ at-cell j (eqb (laneOf p s j) l) refl (ltb (j / s % p) k) refl (ltb (j / s % p) (left + n)) refl } }
+  filled-own room z = record {
+    stored = record {
+      kept = F .stored .kept;
+      cells = λ j h. F .stored .cells j h
+          ∙ at-cell j (eqb (laneOf p s j) l) refl (ltb (j / s % p) k) refl (ltb (j / s % p) (left + n)) refl;
+    };
+  }
     where
       own-cell : (j : ℕ) → laneOf p s j ≡ l → left ≤ j / s % p → j / s % p < left + n → getD g₀ j d ≡ rimAt d b p s l left n g₀ j
       own-cell j q lo hi =

@@ -76,7 +76,8 @@ module _ (p s l left n : ℕ) (g : List ℤ) {at : ℕ} (e : s ≡ 1) (b : at �
       omega arith
 
   pub own-beside : take (at + left + n - (at + left)) (drop (at + left) g) ≡ ownOf (pos 0) p s l left n g
-  own-beside = ext-getD (pos 0) (take (at + left + n - (at + left)) (drop (at + left) g)) (ownOf (pos 0) p s l left n g) (long ∙ sym (length-own (pos 0) p s l left n g room)) (λ i c. cells i (omega (arith, long)))
+  own-beside = ext-getD (pos 0) (take (at + left + n - (at + left)) (drop (at + left) g)) (ownOf (pos 0) p s l left n g) (long ∙ sym (length-own (pos 0) p s l left n g room))
+      (λ i c. cells i (omega (arith, long)))
     where
       long : length (take (at + left + n - (at + left)) (drop (at + left) g)) ≡ n
       long = simp (length-take, length-drop) (omega (arith, beside-whole))

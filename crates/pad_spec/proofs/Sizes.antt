@@ -92,9 +92,14 @@ no-bad-sums mode ns pads count cells s l c =
     ps = paddedShape ns (leftsOf ns pads count) (rightsOf ns pads count)
 
     short : (d k : ℕ) → length (ownCells mode ns (leftsOf ns pads count) cells d (coordinate ps k)) ≤ 1024
-    short d k = omega (arith, length-tabulate (λ i. levelTo mode ns (leftsOf ns pads count) cells d (moved d (getD (leftsOf ns pads count) d 0 + i) (coordinate ps k))) 0 (lengthOf ns d), shape-accepted ns s .short d)
+    short d k = omega (
+      arith,
+      length-tabulate (λ i. levelTo mode ns (leftsOf ns pads count) cells d (moved d (getD (leftsOf ns pads count) d 0 + i) (coordinate ps k))) 0 (lengthOf ns d),
+      shape-accepted ns s .short d,
+    )
 
     at : (d k : ℕ) → middleFrom ns (leftsOf ns pads count) (suc d) (coordinate ps k) && badSum mode (ownCells mode ns (leftsOf ns pads count) cells d (coordinate ps k)) ≡ false
     at d k =
-        ap (λ t. middleFrom ns (leftsOf ns pads count) (suc d) (coordinate ps k) && t) (sum-fits mode (ownCells mode ns (leftsOf ns pads count) cells d (coordinate ps k)) (short d k) (size-own mode ns (leftsOf ns pads count) cells c (levels-sized cells l) d (coordinate ps k)))
+        ap (λ t. middleFrom ns (leftsOf ns pads count) (suc d) (coordinate ps k) && t) (sum-fits mode (ownCells mode ns (leftsOf ns pads count) cells d (coordinate ps k)) (short d k)
+        (size-own mode ns (leftsOf ns pads count) cells c (levels-sized cells l) d (coordinate ps k)))
         ∙ and-false (middleFrom ns (leftsOf ns pads count) (suc d) (coordinate ps k))

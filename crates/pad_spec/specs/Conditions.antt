@@ -3,11 +3,14 @@
 --   badCount ns count             10: pad pairs neither 1 nor the axis count
 --   overPad p                     10: a pad over 64
 --   paddedCount ns pads count     the number of cells of the padded grid
---   badPads ns pads count out     10: a bad count, a pad over 64 among the pairs that count, over 32,768 padded cells, or an output of another length
+--   badPads ns pads count out     10: a bad count, a pad over 64 among the pairs that count, over 32,768 padded cells,
+--                                 or an output of another length
 --   badPadReachOn mode ns pads count a   11 of axis a
 --   badPadReach mode ns pads count   11: on some axis a pad over n − 1 under Reflect, over n under Symmetric and Wrap
---   badSum mode s                 a sum outside signed 64 bits: under Mean of the cells of s, under Median of an even number the two middle levels'
---   badPadSums mode ns pads count cells    12: such a sum of a lane that is summed, one whose coordinates on all later axes are in the middle
+--   badSum mode s                 a sum outside signed 64 bits: under Mean of the cells of s, under Median of an even
+--                                 number the two middle levels'
+--   badPadSums mode ns pads count cells    12: such a sum of a lane that is summed, one whose coordinates on all later
+--                                          axes are in the middle
 --   padsJudged mode ns pads count cells out   conditions 9 to 12, in rising order; out is the output's length
 --   padJudged mode ns pads count cells out    what both calls refuse, in rising order
 use Prim.Native.Nat.{ℕ, suc, _-_, _/_, _%_}
@@ -46,11 +49,13 @@ paddedCount ns pads count = cellCount (paddedShape ns (leftsOf ns pads count) (r
 
 unfoldable pub badPads : List ℕ → List Pair → ℕ → ℕ → Bool
 badPads ns pads count out =
-    badCount ns count || (anyOf overPad (take count pads) || (ltb mostPaddedCells (paddedCount ns pads count) || not (eqb out (paddedCount ns pads count))))
+    badCount ns count || (anyOf overPad (take count pads)
+    || (ltb mostPaddedCells (paddedCount ns pads count) || not (eqb out (paddedCount ns pads count))))
 
 -- the cells of a lane do not tell which pads its border fills
 abbrev pub badPadReachOn : PadMode → List ℕ → List Pair → ℕ → ℕ → Bool
-badPadReachOn mode ns pads count a = badPad (rimOf mode []) (lengthOf ns a) (pairOf pads count a .left) || badPad (rimOf mode []) (lengthOf ns a) (pairOf pads count a .right)
+badPadReachOn mode ns pads count a = badPad (rimOf mode []) (lengthOf ns a) (pairOf pads count a .left)
+    || badPad (rimOf mode []) (lengthOf ns a) (pairOf pads count a .right)
 
 unfoldable pub badPadReach : PadMode → List ℕ → List Pair → ℕ → Bool
 badPadReach mode ns pads count = anyOf (badPadReachOn mode ns pads count) (tabulate (λ a. a) 0 (length ns))
@@ -70,13 +75,15 @@ unfoldable pub badPadSums : PadMode → List ℕ → List Pair → ℕ → List 
 badPadSums mode ns pads count cells =
     let lefts = leftsOf ns pads count in
     let ps = paddedShape ns lefts (rightsOf ns pads count) in
-    anyOf (λ d. anyOf (λ k. middleFrom ns lefts (suc d) (coordinate ps k) && badSum mode (ownCells mode ns lefts cells d (coordinate ps k)))
+    anyOf (λ d. anyOf (λ k. middleFrom ns lefts (suc d) (coordinate ps k)
+    && badSum mode (ownCells mode ns lefts cells d (coordinate ps k)))
     (tabulate (λ k. k) 0 (cellCount ps)))
     (tabulate (λ a. a) 0 (length ns))
 
 abbrev pub padsJudged : PadMode → List ℕ → List Pair → ℕ → List ℤ → ℕ → Judged
 padsJudged mode ns pads count cells out =
-    (badConstant mode, 9) ∷ (badPads ns pads count out, 10) ∷ (badPadReach mode ns pads count, 11) ∷ (badPadSums mode ns pads count cells, 12) ∷ []
+    (badConstant mode, 9) ∷ (badPads ns pads count out, 10) ∷ (badPadReach mode ns pads count, 11)
+    ∷ (badPadSums mode ns pads count cells, 12) ∷ []
 
 abbrev pub padJudged : PadMode → List ℕ → List Pair → ℕ → List ℤ → ℕ → Judged
 padJudged mode ns pads count cells out = gridJudged ns cells [] ++ padsJudged mode ns pads count cells out

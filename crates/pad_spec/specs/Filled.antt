@@ -1,6 +1,8 @@
 -- A padded grid while its axes are filled, in rising order.
---   Filled mode ns lefts ps cells d out   every place of out that is in the middle on each axis from d on holds the level that belongs there
---   Fills mode ns lefts ps d e held out   whatever grid was laid in the middle: where held is filled from d on, out is from e on
+--   Filled mode ns lefts ps cells d out   every place of out that is in the middle on each axis from d on holds the
+--                                         level that belongs there
+--   Fills mode ns lefts ps d e held out   whatever grid was laid in the middle: where held is filled from d on, out is
+--                                         from e on
 use Prim.Native.Nat.{ℕ, _<_}
 use mathlib.Core.Path.{_≡_}
 use mathlib.Core.Bool.{true, false}
@@ -17,7 +19,9 @@ use Rattle.pad_spec.specs.Pads.{middleFrom}
 pub record Filled (mode : PadMode) (ns lefts ps : List ℕ) (cells : List ℤ) (d : ℕ) (out : List ℤ) : Type 0 where
   pub levels : anyOf badLevel cells ≡ false
   pub count : length out ≡ cellCount ps
-  pub finals : (k : ℕ) → k < cellCount ps → middleFrom ns lefts d (coordinate ps k) ≡ true → getD out k (pos 0) ≡ levelTo mode ns lefts cells (length ns) (coordinate ps k)
+  pub finals : (k : ℕ) → k < cellCount ps → middleFrom ns lefts d (coordinate ps k) ≡ true → getD out k (pos 0)
+      ≡ levelTo mode ns lefts cells (length ns) (coordinate ps k)
 
 abbrev pub Fills : PadMode → List ℕ → List ℕ → List ℕ → ℕ → ℕ → List ℤ → List ℤ → Type 0
-Fills mode ns lefts ps d e held out = (cells : List ℤ) → Filled mode ns lefts ps cells d held → Filled mode ns lefts ps cells e out
+Fills mode ns lefts ps d e held out = (cells : List ℤ) → Filled mode ns lefts ps cells d held
+    → Filled mode ns lefts ps cells e out

@@ -1,4 +1,5 @@
--- A grid of shape ns inside a padded grid of shape ps, lefts cells from its start on each axis; its own cells stand in the middle.
+-- A grid of shape ns inside a padded grid of shape ps, lefts cells from its start on each axis; its own cells stand in
+-- the middle.
 --   Framed ns lefts ps              the grid has room in the padded one
 --   Filling m ns lefts ps           and cells of a lane along m fill both rims of every axis
 --   targetOf ns lefts ps k          the place in the padded grid of the cell at place k
@@ -41,8 +42,10 @@ abbrev pub rowLength : List ℕ → ℕ
 rowLength ns = lengthOf ns (length ns - 1)
 
 unfoldable pub rowSet : List ℤ → ℕ → ℕ → ℕ → List ℤ → List ℤ
-rowSet cells from n at held = tabulate (λ k. cond (leb at k && ltb k (at + n)) (getD cells (from + (k - at)) (pos 0)) (getD held k (pos 0))) 0 (length held)
+rowSet cells from n at held = tabulate (λ k. cond (leb at k && ltb k (at + n)) (getD cells (from + (k - at)) (pos 0))
+    (getD held k (pos 0))) 0 (length held)
 
 unfoldable pub middleSet : List ℕ → List ℕ → List ℕ → List ℤ → List ℤ → List ℤ
 middleSet ns lefts ps cells held =
-    tabulate (λ k. cond (middleFrom ns lefts 0 (coordinate ps k)) (levelAt (pos 0) ns cells (λ a. coordinate ps k a - getD lefts a 0)) (getD held k (pos 0))) 0 (length held)
+    tabulate (λ k. cond (middleFrom ns lefts 0 (coordinate ps k))
+    (levelAt (pos 0) ns cells (λ a. coordinate ps k a - getD lefts a 0)) (getD held k (pos 0))) 0 (length held)

@@ -1,9 +1,11 @@
--- The pads of a grid: pairs and a count. One pair serves all axes, or there is one for each axis; what stands past the count is not looked at.
+-- The pads of a grid: pairs and a count. One pair serves all axes, or there is one for each axis; what stands past the
+-- count is not looked at.
 --   pairOf pads count a          the pair that serves axis a
 --   leftsOf ns pads count        the pad before each axis of a grid of shape ns
 --   rightsOf ns pads count       the pad after each axis
 --   paddedShape ns lefts rights  the shape of the padded grid
---   inMiddle ns lefts q a        whether coordinates q of the padded grid are in the middle on axis a: where the grid itself stands
+--   inMiddle ns lefts q a        whether coordinates q of the padded grid are in the middle on axis a: where the grid
+--                                itself stands
 --   allFrom t a n                whether the test t holds of a, a + 1, .., n of them
 --   middleFrom ns lefts d q      whether they are on every axis from d on
 use Prim.Native.Nat.{ℕ, zero, suc, _+_, _-_}

@@ -1,6 +1,7 @@
--- Runs of a grid. Of an axis of p cells that stand s places apart, the cells with one coordinate stand in runs of s neighbouring cells, one in each
--- block of p times s cells.
---   Runs m p s blocks left n len     a grid of len cells is that many blocks, and m fills both rims of a lane whose own n cells stand from left on
+-- Runs of a grid. Of an axis of p cells that stand s places apart, the cells with one coordinate stand in runs of s
+-- neighbouring cells, one in each block of p times s cells.
+--   Runs m p s blocks left n len     a grid of len cells is that many blocks, and m fills both rims of a lane whose own
+--                                    n cells stand from left on
 --   InRim left n p k                 coordinate k of the axis is in a rim
 --   readFrom m left n k              the coordinate that a coordinate k in a rim reads
 --   coordinateSet p s from at g      g with each cell of coordinate at as the cell of coordinate from in its lane
@@ -41,14 +42,17 @@ readFrom m left n k = cond (ltb k left) (left + cellBefore m n (left - k)) (left
 
 unfoldable pub coordinateSet : ℕ → ℕ → ℕ → ℕ → List ℤ → List ℤ
 coordinateSet p s from at g =
-    tabulate (λ k. cond (eqb (k / s % p) at) (getD g (laneBase p s (laneOf p s k) + from * s) (pos 0)) (getD g k (pos 0))) 0 (length g)
+    tabulate (λ k. cond (eqb (k / s % p) at) (getD g (laneBase p s (laneOf p s k) + from * s) (pos 0))
+    (getD g k (pos 0))) 0 (length g)
 
 abbrev pub extendedAt : CellBorder → ℕ → ℕ → ℕ → ℕ → List ℤ → ℕ → ℤ
-extendedAt m p s left n g k = paddedAt (pos 0) (along m) left (take n (drop left (lane (pos 0) p s (laneOf p s k) g))) (k / s % p)
+extendedAt m p s left n g k = paddedAt (pos 0) (along m) left (take n (drop left (lane (pos 0) p s (laneOf p s k) g)))
+    (k / s % p)
 
 unfoldable pub rimSet : CellBorder → ℕ → ℕ → ℕ → ℕ → ℕ → ℕ → List ℤ → List ℤ
 rimSet m p s left n a count g =
-    tabulate (λ k. cond (leb a (k / s % p) && ltb (k / s % p) (a + count)) (extendedAt m p s left n g k) (getD g k (pos 0))) 0 (length g)
+    tabulate (λ k. cond (leb a (k / s % p) && ltb (k / s % p) (a + count)) (extendedAt m p s left n g k)
+    (getD g k (pos 0))) 0 (length g)
 
 unfoldable pub axisSet : CellBorder → ℕ → ℕ → ℕ → ℕ → List ℤ → List ℤ
 axisSet m p s left n g = tabulate (extendedAt m p s left n g) 0 (length g)

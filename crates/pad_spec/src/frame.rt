@@ -14,7 +14,7 @@ use crate::pairs::Pair;
 // * `pads`, `count` - the pairs of pads, and how many of them count: one for all axes, or one for each.
 // * `lefts`, `padded` - what is set, as long as the shape.
 //
-// Supposes what it is handed, and refuses nothing. Of 2 3 with the pairs 1 1 and 2 0 that both count: lefts 1 2, padded 4 5.
+// Supposes what it is handed. Of 2 3 with the pairs 1 1 and 2 0 that both count: lefts 1 2, padded 4 5.
 pub fn set_frame(
     shape: &[usize],
     pads: [Pair; 3],
@@ -22,8 +22,12 @@ pub fn set_frame(
     lefts: &mut [usize],
     padded: &mut [usize],
 )
-    requires { ⌜ (badShape (now shape) ≡ false) × (badCount (now shape) count ≡ false) × (anyOf overPad (take count pads) ≡ false) × (length (now lefts) ≡ length (now shape)) × (length (now padded) ≡ length (now shape)) ⌝ }
-    ensures { λ _. ⌜ (now (lefts .exit) ≡ leftsOf (now (shape .entry)) pads count) × (now (padded .exit) ≡ paddedShape (now (shape .entry)) (leftsOf (now (shape .entry)) pads count) (rightsOf (now (shape .entry)) pads count)) ⌝ }
+    requires { ⌜ (badShape (now shape) ≡ false) × (badCount (now shape) count
+        ≡ false) × (anyOf overPad (take count pads) ≡ false) × (length (now lefts)
+        ≡ length (now shape)) × (length (now padded) ≡ length (now shape)) ⌝ }
+    ensures { λ _. ⌜ (now (lefts .exit) ≡ leftsOf (now (shape .entry)) pads count) × (now (padded .exit)
+        ≡ paddedShape (now (shape .entry)) (leftsOf (now (shape .entry)) pads count)
+        (rightsOf (now (shape .entry)) pads count)) ⌝ }
 {
     let mut a = 0;
     while a < shape.len() {

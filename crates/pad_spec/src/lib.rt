@@ -13,7 +13,7 @@ pub use rim::Statistic;
 pub use rim::bad_pad;
 pub use rim::filler_of;
 
-// Worked rows of this crate's definitions: the rims of a lane, padded grids and refusals, what the workers leave. Refuses nothing.
+// Worked rows of this crate's definitions: the rims of a lane, padded grids and refusals, what the workers leave.
 pub fn rows()
     ensures { λ _. ⌜ PadSpecRows ⌝ }
 {}

@@ -13,7 +13,7 @@ pub struct Pair {
 // * `pads`, `count` - the pairs, and how many of them count.
 // * `axis` - the number of the axis.
 //
-// Refuses nothing. Of the pairs 1 2, 3 4 and 5 6 axis 1 has 1 2 where one counts, and 3 4 where two do.
+// Of the pairs 1 2, 3 4 and 5 6 axis 1 has 1 2 where one counts, and 3 4 where two do.
 pub fn pair_of(pads: [Pair; 3], count: usize, axis: usize) -> Pair
     ensures { λ r. ⌜ r ≡ pairOf pads count axis ⌝ }
 {

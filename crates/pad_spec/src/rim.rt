@@ -29,8 +29,8 @@ pub enum Filler {
 //
 // * `mode` - the padding mode.
 //
-// Refuses nothing. PadMode::Constant(7) gives Filler::Level(7), PadMode::Symmetric Filler::Cells(CellBorder::Reflect),
-// PadMode::Mean Filler::Statistic(Statistic::Mean).
+// PadMode::Constant(7) gives Filler::Level(7), PadMode::Symmetric Filler::Cells(CellBorder::Reflect), PadMode::Mean
+// Filler::Statistic(Statistic::Mean).
 pub fn filler_of(mode: PadMode) -> Filler
     ensures { λ r. ⌜ r ≡ fillerOf mode ⌝ }
 {
@@ -53,7 +53,6 @@ pub fn filler_of(mode: PadMode) -> Filler
 // * `n` - how many cells the lane has.
 // * `pad` - how many places are padded on one side.
 //
-// Refuses nothing.
 // Of three cells Reflect fills a pad of 2 and not of 3, Symmetric and Wrap fill 3 and not 4, the others any.
 pub fn bad_pad(mode: PadMode, n: usize, pad: usize) -> bool
     ensures { λ r. ⌜ r ≡ badPad (rimOf mode []) n pad ⌝ }

@@ -126,7 +126,8 @@ module _ (which : Statistic) {ns lefts ps : List ℕ} (F : Framed ns lefts ps) (
 
     module _ {l : ℕ} {out : List ℤ} (R : Reached cells l out) where
       -- what is reached with one lane more, at places of other lanes
-      earlier : (k : ℕ) → eqb (laneOf N s k) l ≡ false → inMiddle ns lefts (coordinate ps k) d || ltb (laneOf N s k) (l + 1) ≡ true → inMiddle ns lefts (coordinate ps k) d || ltb (laneOf N s k) l ≡ true
+      earlier : (k : ℕ) → eqb (laneOf N s k) l ≡ false → inMiddle ns lefts (coordinate ps k) d || ltb (laneOf N s k) (l + 1) ≡ true → inMiddle ns lefts (coordinate ps k) d || ltb (laneOf N s k) l
+          ≡ true
       earlier k e t = ap (λ u. inMiddle ns lefts (coordinate ps k) d || u) (sym (ltb-more (laneOf N s k) l ∙ ap (λ u. u || ltb (laneOf N s k) l) e)) ∙ t
 
       pub reached-skipped : middleFrom ns lefts (suc d) (coordinate ps (laneBase (lengthOf ps d) (strideOf ps d) l)) ≡ false → Reached cells (l + 1) out
@@ -157,7 +158,12 @@ module _ (which : Statistic) {ns lefts ps : List ℕ} (F : Framed ns lefts ps) (
       pub reached-filled : {out′ : List ℤ} → l < cellCount ps / lengthOf ps d → out′ ≡ filledLane which (lengthOf ps d) (strideOf ps d) l (getD lefts d 0) (lengthOf ns d) out
           → middleFrom ns lefts (suc d) (coordinate ps (laneBase (lengthOf ps d) (strideOf ps d) l)) ≡ true → Reached cells (l + 1) out′
       unfolding filledLane withLane
-      reached-filled {out′} b₀ e o = record { levels = R .levels; count = ap length e′ ∙ length-tabulate _ 0 (length out) ∙ R .count; finals = λ k b m t. read k b ∙ at k b m t (eqb (laneOf N s k) l) refl }
+      reached-filled {out′} b₀ e o = record {
+        levels = R .levels;
+        count = ap length e′ ∙ length-tabulate _ 0 (length out) ∙ R .count;
+        finals = λ k b m t. read k b
+            ∙ at k b m t (eqb (laneOf N s k) l) refl;
+      }
         where
           left : ℕ
           left = getD lefts d 0
@@ -198,7 +204,12 @@ module _ (which : Statistic) {ns lefts ps : List ℕ} (F : Framed ns lefts ps) (
 -- an axis without pads has no rim
 pub axis-full : {mode : PadMode} {ns lefts ps : List ℕ} {out : List ℤ} (F : Framed ns lefts ps) (d : ℕ) → d < length ns → lengthOf ps d ≡ lengthOf ns d
     → (cells : List ℤ) → Filled mode ns lefts ps cells d out → Filled mode ns lefts ps cells (suc d) out
-axis-full {ns = ns} {lefts} {ps} F d h e cells A = record { levels = A .levels; count = A .count; finals = λ k b m. A .finals k b (middle-both ns lefts d h (coordinate ps k) ∙ (λ j. within k b j && m j)) }
+axis-full {ns = ns} {lefts} {ps} F d h e cells A = record {
+  levels = A .levels;
+  count = A .count;
+  finals = λ k b m. A .finals k b
+      (middle-both ns lefts d h (coordinate ps k) ∙ (λ j. within k b j && m j));
+}
   where
     within : (k : ℕ) → k < cellCount ps → inMiddle ns lefts (coordinate ps k) d ≡ true
     within k b =

@@ -28,8 +28,13 @@ fn fill_lane(
     line: &mut [i64],
     out: &mut [i64],
 )
-    requires { ⌜ Framed (now shape) (now lefts) (now padded) × (axis < length (now shape)) × ((s ≡ 1 → ⊥) → length (now line) ≡ longestPaddedAxis) × (length (now out) ≡ cellCount (now padded)) × (p ≡ lengthOf (now padded) axis) × (s ≡ strideOf (now padded) axis) × (lane < cellCount (now padded) / p) ⌝ }
-    ensures { λ _. ⌜ now (out .exit) ≡ cond (middleFrom (now (shape .entry)) (now (lefts .entry)) (suc axis) (coordinate (now (padded .entry)) (laneBase p s lane))) (filledLane statistic p s lane (getD (now (lefts .entry)) axis 0) (lengthOf (now (shape .entry)) axis) (now (out .entry))) (now (out .entry)) ⌝ }
+    requires { ⌜ Framed (now shape) (now lefts) (now padded) × (axis < length (now shape))
+        × ((s ≡ 1 → ⊥) → length (now line) ≡ longestPaddedAxis) × (length (now out) ≡ cellCount (now padded)) × (p
+        ≡ lengthOf (now padded) axis) × (s ≡ strideOf (now padded) axis) × (lane < cellCount (now padded) / p) ⌝ }
+    ensures { λ _. ⌜ now (out .exit) ≡ cond (middleFrom (now (shape .entry)) (now (lefts .entry)) (suc axis)
+        (coordinate (now (padded .entry)) (laneBase p s lane)))
+        (filledLane statistic p s lane (getD (now (lefts .entry)) axis 0) (lengthOf (now (shape .entry)) axis)
+        (now (out .entry))) (now (out .entry)) ⌝ }
 {
     let first = lanes::first_place(out.len(), p, s, lane);
     if !middle_from(shape, lefts, padded, axis + 1, first) {
@@ -57,7 +62,7 @@ fn fill_lane(
 // * `line` - a buffer of 1,152 cells, where the cells of a lane stand apart; else of any length.
 // * `out` - the padded grid.
 //
-// Supposes `Framed`, and refuses nothing. Of 9 1 2 8 with 1 2 in the middle, axis 0 by Statistic::Maximum: 2 1 2 2.
+// Supposes `Framed`. Of 9 1 2 8 with 1 2 in the middle, axis 0 by Statistic::Maximum: 2 1 2 2.
 pub fn fill_axis(
     statistic: Statistic,
     shape: &[usize],
@@ -67,8 +72,11 @@ pub fn fill_axis(
     line: &mut [i64],
     out: &mut [i64],
 )
-    requires { ⌜ Framed (now shape) (now lefts) (now padded) × (axis < length (now shape)) × ((strideOf (now padded) axis ≡ 1 → ⊥) → length (now line) ≡ longestPaddedAxis) × (length (now out) ≡ cellCount (now padded)) ⌝ }
-    ensures { λ _. ⌜ Fills (modeTaking statistic) (now (shape .entry)) (now (lefts .entry)) (now (padded .entry)) axis (suc axis) (now (out .entry)) (now (out .exit)) ⌝ }
+    requires { ⌜ Framed (now shape) (now lefts) (now padded) × (axis < length (now shape))
+        × ((strideOf (now padded) axis ≡ 1 → ⊥) → length (now line) ≡ longestPaddedAxis) × (length (now out)
+        ≡ cellCount (now padded)) ⌝ }
+    ensures { λ _. ⌜ Fills (modeTaking statistic) (now (shape .entry)) (now (lefts .entry)) (now (padded .entry)) axis
+        (suc axis) (now (out .entry)) (now (out .exit)) ⌝ }
 {
     let p = array::len_of(padded, axis);
     if p == array::len_of(shape, axis) {

@@ -31,14 +31,16 @@ fn level_by(
     line: &mut [i64],
 ) -> i64
     requires { ⌜ (laneInside (length (now line)) s l (length (now grid)) ≡ true) × (left + n ≤ length (now line)) ⌝ }
-    ensures { λ r. ⌜ r ≡ statisticOf statistic (take n (drop left (lane (pos 0) (length (now (line .entry))) s l (now (grid .entry))))) ⌝ }
+    ensures { λ r. ⌜ r ≡ statisticOf statistic (take n
+        (drop left (lane (pos 0) (length (now (line .entry))) s l (now (grid .entry))))) ⌝ }
 {
     lane_cells::read_lane(grid, s, l, line);
     let e = left + n;
     level_of(statistic, &line[left..e])
 }
 
-// The level of the own cells of a lane of a grid. Where its cells stand side by side, the own ones are a part of the grid, and nothing is read into the line.
+// The level of the own cells of a lane of a grid. Where its cells stand side by side, the own ones are a part of the
+// grid, and nothing is read into the line.
 //
 // * `statistic` - which level.
 // * `base` - the place of the lane's first cell.
@@ -47,7 +49,7 @@ fn level_by(
 // * `left`, `n` - the place in the lane where its own cells start, and how many they are.
 // * `line` - a buffer no shorter than the lane, where its cells stand apart; else of any length.
 //
-// Refuses nothing. Of the cells 9 1 2 3 9, a lane of 5 cells with 3 of its own from place 1 on, the maximum is 3.
+// Of the cells 9 1 2 3 9, a lane of 5 cells with 3 of its own from place 1 on, the maximum is 3.
 pub(crate) fn level_in(
     statistic: Statistic,
     base: usize,
@@ -59,7 +61,8 @@ pub(crate) fn level_in(
     grid: &[i64],
     line: &mut [i64],
 ) -> i64
-    requires { ⌜ (laneInside p s l (length (now grid)) ≡ true) × (base ≡ laneBase p s l) × (left + n ≤ p) × ((s ≡ 1 → ⊥) → p ≤ length (now line)) ⌝ }
+    requires { ⌜ (laneInside p s l (length (now grid)) ≡ true) × (base
+        ≡ laneBase p s l) × (left + n ≤ p) × ((s ≡ 1 → ⊥) → p ≤ length (now line)) ⌝ }
     ensures { λ r. ⌜ r ≡ statisticOf statistic (take n (drop left (lane (pos 0) p s l (now (grid .entry))))) ⌝ }
 {
     if s == 1 {

@@ -1,4 +1,5 @@
-// Whether a place of a padded grid is in the middle, where the cells of the grid stand, on an axis and on every later one.
+// Whether a place of a padded grid is in the middle, where the cells of the grid stand, on an axis and on every later
+// one.
 ghost use mathlib.Core.Path.{_≡_};
 ghost use Prim.Native.Nat.{_≤_, _<_};
 ghost use lib.ListN.{length};
@@ -8,8 +9,10 @@ ghost use Rattle.pad_spec.specs.Frame.{Framed};
 
 // Whether a place of the padded grid is in the middle on an axis.
 fn on_middle(shape: &[usize], lefts: &[usize], padded: &[usize], axis: usize, place: usize) -> bool
-    requires { ⌜ Framed (now shape) (now lefts) (now padded) × (place < cellCount (now padded)) × (axis < length (now shape)) ⌝ }
-    ensures { λ r. ⌜ r ≡ inMiddle (now (shape .entry)) (now (lefts .entry)) (coordinate (now (padded .entry)) place) axis ⌝ }
+    requires { ⌜ Framed (now shape) (now lefts) (now padded) × (place < cellCount (now padded))
+        × (axis < length (now shape)) ⌝ }
+    ensures { λ r. ⌜ r ≡ inMiddle (now (shape .entry)) (now (lefts .entry)) (coordinate (now (padded .entry)) place)
+        axis ⌝ }
 {
     let q = place / lanes::stride_of(padded, axis) % array::len_of(padded, axis);
     let left = lefts[axis];
@@ -26,7 +29,7 @@ fn on_middle(shape: &[usize], lefts: &[usize], padded: &[usize], axis: usize, pl
 // * `from` - the first axis that is looked at.
 // * `place` - a place of the padded grid.
 //
-// Supposes `Framed`, and refuses nothing. Of 2 3 in 4 by 5 from row 1 and column 2 on, place 4 from axis 1 on: true.
+// Supposes `Framed`. Of 2 3 in 4 by 5 from row 1 and column 2 on, place 4 from axis 1 on: true.
 pub(crate) fn middle_from(
     shape: &[usize],
     lefts: &[usize],
@@ -34,8 +37,10 @@ pub(crate) fn middle_from(
     from: usize,
     place: usize,
 ) -> bool
-    requires { ⌜ Framed (now shape) (now lefts) (now padded) × (place < cellCount (now padded)) × (from ≤ length (now shape)) ⌝ }
-    ensures { λ r. ⌜ r ≡ middleFrom (now (shape .entry)) (now (lefts .entry)) from (coordinate (now (padded .entry)) place) ⌝ }
+    requires { ⌜ Framed (now shape) (now lefts) (now padded) × (place < cellCount (now padded))
+        × (from ≤ length (now shape)) ⌝ }
+    ensures { λ r. ⌜ r ≡ middleFrom (now (shape .entry)) (now (lefts .entry)) from
+        (coordinate (now (padded .entry)) place) ⌝ }
 {
     let mut a = from;
     while a < shape.len() {

@@ -27,7 +27,9 @@ fn fill_level(
     out: &mut [i64],
 )
     requires { ⌜ (laneInside p s l (length (now out)) ≡ true) × (base ≡ laneBase p s l) × (left + n ≤ p) ⌝ }
-    ensures { λ _. ⌜ now (out .exit) ≡ withLane (pos 0) p s l (paddedLine (pos 0) (constant c) left (p - (left + n)) (take n (drop left (lane (pos 0) p s l (now (out .entry)))))) (now (out .entry)) ⌝ }
+    ensures { λ _. ⌜ now (out .exit) ≡ withLane (pos 0) p s l
+        (paddedLine (pos 0) (constant c) left (p - (left + n))
+        (take n (drop left (lane (pos 0) p s l (now (out .entry)))))) (now (out .entry)) ⌝ }
 {
     let mut k = 0;
     while k < left {

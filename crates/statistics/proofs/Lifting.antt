@@ -71,7 +71,8 @@ module _ (l : List ℤ) {sum : ℕ} (N : NearSum l sum) (b : length l ≤ 1024) 
   served = sym (unserved-short l b (none-outside l (N .near)))
 
   lowered-is : toZ w64 sum -ℤ toZ w64 (length l * 1073741824) ≡ sumOf l
-  lowered-is = rw (toZ-pos w64 sum (omega (arith, N .small)), toZ-pos w64 (length l * 1073741824) (omega arith)) (ap (λ x. x -ℤ pos (length l * 2 ^ 30)) (N .is) ∙ +ℤ-negℤ-cancel (sumOf l) (pos (length l * 2 ^ 30)))
+  lowered-is = rw (toZ-pos w64 sum (omega (arith, N .small)), toZ-pos w64 (length l * 1073741824) (omega arith))
+      (ap (λ x. x -ℤ pos (length l * 2 ^ 30)) (N .is) ∙ +ℤ-negℤ-cancel (sumOf l) (pos (length l * 2 ^ 30)))
 
   pub lowered-fits : SFits w64 (toZ w64 sum -ℤ toZ w64 (length l * 1073741824))
   lowered-fits = subst⁻¹ (SFits w64) lowered-is (fits-size (size-sum 2147483647 l (served-sized l served)) (omega arith))

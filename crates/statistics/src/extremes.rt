@@ -34,7 +34,7 @@ fn least_from(line: &[i64], from: usize, first: i64) -> i64
 //
 // * `line` - the levels, any number of them.
 //
-// Refuses nothing: of no level it is 0. Of 4 2 7 1 it is 1.
+// Of no level it is 0. Of 4 2 7 1 it is 1.
 pub fn minimum(line: &[i64]) -> i64
     ensures { λ r. ⌜ r ≡ minimumOf (now (line .entry)) ⌝ }
 {
@@ -86,7 +86,7 @@ fn greatest_from(line: &[i64], from: usize, first: i64) -> i64
 //
 // * `line` - the levels, any number of them.
 //
-// Refuses nothing: of no level it is 0. Of 4 2 7 1 it is 7.
+// Of no level it is 0. Of 4 2 7 1 it is 7.
 pub fn maximum(line: &[i64]) -> i64
     ensures { λ r. ⌜ r ≡ maximumOf (now (line .entry)) ⌝ }
 {

@@ -11,7 +11,7 @@ pub use extremes::minimum;
 pub use means::mean;
 pub use medians::median;
 
-// Worked rows of this crate's definitions. Refuses nothing.
+// Worked rows of this crate's definitions.
 pub fn rows()
     ensures { λ _. ⌜ StatisticsRows ⌝ }
 {}

@@ -14,7 +14,7 @@ const MOST_CELLS: usize = 1024;
 //
 // * `line` - the levels, any number of them.
 //
-// Refuses nothing. Of 2147483648 alone it is true, of 2147483647 false.
+// Of 2147483648 alone it is true, of 2147483647 false.
 pub(crate) fn not_served(line: &[i64]) -> bool
     ensures { λ r. ⌜ r ≡ unserved (now (line .entry)) ⌝ }
 {
@@ -63,7 +63,8 @@ fn lift_all(line: &[i64]) -> Lifts
     Lifts { bits, sum }
 }
 
-// The sum of the levels, 0 of a line that is not served. Most lines have no level of 2^30 or more in size: there the lifted sum less what was added is the sum.
+// The sum of the levels, 0 of a line that is not served. Most lines have no level of 2^30 or more in size: there the
+// lifted sum less what was added is the sum.
 fn total(line: &[i64]) -> i64
     requires { ⌜ length (now line) ≤ 1024 ⌝ }
     ensures { λ r. ⌜ r ≡ answered sumOf (now (line .entry)) ⌝ }
@@ -84,7 +85,7 @@ fn total(line: &[i64]) -> i64
 //
 // * `line` - up to 1,024 levels in -(2^31 - 1)..2^31 - 1.
 //
-// Refuses nothing: of any other line, and of no level, it is 0. Of -1 -2 it is -1.
+// Of any other line, and of no level, it is 0. Of -1 -2 it is -1.
 pub fn mean(line: &[i64]) -> i64
     ensures { λ r. ⌜ r ≡ answered meanOf (now (line .entry)) ⌝ }
 {

@@ -7,7 +7,7 @@ ghost use Rattle.statistics_spec.specs.Statistics.{medianOf, answered};
 //
 // * `line` - up to 1,024 levels in -(2^31 - 1)..2^31 - 1.
 //
-// Refuses nothing: of any other line, and of no level, it is 0. Of 1 2 4 9 it is 3, of -1 -2 it is -1.
+// Of any other line, and of no level, it is 0. Of 1 2 4 9 it is 3, of -1 -2 it is -1.
 pub fn median(line: &[i64]) -> i64
     ensures { λ r. ⌜ r ≡ answered medianOf (now (line .entry)) ⌝ }
 {

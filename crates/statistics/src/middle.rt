@@ -1,4 +1,5 @@
-// The middle level of a line that is served, found without sorting: by counts over a copy of the line at 32 bits, of which the machine compares four levels at a time.
+// The middle level of a line that is served, found without sorting: by counts over a copy of the line at 32 bits, of
+// which the machine compares four levels at a time.
 ghost use mathlib.Core.Path.{_≡_};
 ghost use mathlib.Core.Bool.{false, cond};
 ghost use Prim.Native.Nat.{_+_, _≤_, _<_};
@@ -62,8 +63,9 @@ fn above(low: i64, offset: usize) -> i32
 }
 
 // The level at place k of the sorted line, found without sorting: the least one with more than k levels at or below it.
-// It is bisected between the least level of the line and the greatest, by `from` and `to`, offsets from the least. Where k levels are at most the one that is
-// tried, it is the least above that: on levels that differ much this comes after about as many turns as halve the line, not the range of its levels.
+// It is bisected between the least level of the line and the greatest, by `from` and `to`, offsets from the least.
+// Where k levels are at most the one that is tried, it is the least above that: on levels that differ much this comes
+// after about as many turns as halve the line, not the range of its levels.
 fn level_of_rank(levels: &[i32], low: i64, high: i64, k: usize) -> i32
     requires { ⌜ unserved (now levels) ≡ false ⌝ }
     requires { ⌜ low ≡ minimumOf (now levels) ⌝ }
@@ -114,7 +116,8 @@ fn least_above(levels: &[i32], z: i32, top: i32) -> i32
     least
 }
 
-// The level at place k + 1 of the sorted line, from the one at place k: that one again where more than k + 1 levels are at most it, else the least above it.
+// The level at place k + 1 of the sorted line, from the one at place k: that one again where more than k + 1 levels are
+// at most it, else the least above it.
 fn level_after(levels: &[i32], lower: i32, high: i64, k: usize) -> i32
     requires { ⌜ unserved (now levels) ≡ false ⌝ }
     requires { ⌜ k + 1 < length (now levels) ⌝ }

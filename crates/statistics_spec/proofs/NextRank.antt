@@ -29,7 +29,8 @@ use Rattle.statistics_spec.proofs.Rank.{passed, rank-reached, rank-pass
 module _ {A : Type 0} (le : A → A → Bool) (O : Total le) where
   -- ---- the first above z: at or before each member above z, and one of these or the top
   above-bound : (z top : A) (l : List A) → Every (λ x. T (not (le x z)) → T (le (leastAbove le z top l) x)) l
-  above-bound z top l = every-mem _ l (λ x m n. subst (λ y. T (le (leastAbove le z top l) y)) (passed (le x z) top x n) (extreme-bound le O top (past le z top x) (top ∷ map (past le z top) l) (List·Memᴰ·tail (Memᴰ·map (past le z top) m))))
+  above-bound z top l = every-mem _ l (λ x m n. subst (λ y. T (le (leastAbove le z top l) y)) (passed (le x z) top x n)
+      (extreme-bound le O top (past le z top x) (top ∷ map (past le z top) l) (List·Memᴰ·tail (Memᴰ·map (past le z top) m))))
 
   above-every : (P : A → Type 0) (z top : A) (l : List A) → P top → Every (λ x. T (not (le x z)) → P x) l → P (leastAbove le z top l)
   above-every P z top l p h =
@@ -118,7 +119,8 @@ module _ {A : Type 0} (le : A → A → Bool) (O : Total le) where
       reached = rank-reached le O z d l k (omega arith) (subst (λ w. T (le w z)) e (O .itself z))
 
       pub next-again : k + 1 < atMost le z l → z ≡ next
-      next-again h = O .same z next (subst (λ w. T (le w next)) (sym e) (ranked-within k (omega arith) next (omega (arith, rank-reached le O next d l (k + 1) b (O .itself next))))) (ranked-within (k + 1) b z h)
+      next-again h = O .same z next (subst (λ w. T (le w next)) (sym e) (ranked-within k (omega arith) next (omega (arith, rank-reached le O next d l (k + 1) b (O .itself next)))))
+          (ranked-within (k + 1) b z h)
 
       pub next-above : (top : A) → T (le next top) → atMost le z l ≤ k + 1 → leastAbove le z top l ≡ next
       next-above top t h = first-above (k + 1) b z (omega (arith, reached)) top t

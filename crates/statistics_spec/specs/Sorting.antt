@@ -1,4 +1,5 @@
--- A list in rising order, how many of its members are at most a given one, and the first above it. le is the test of the order; on whole levels it is the kit's leZ.
+-- A list in rising order, how many of its members are at most a given one, and the first above it. le is the test of
+-- the order; on whole levels it is the kit's leZ.
 --   inserted le x s         x put into s, before the first member that it is at most
 --   sorted le l             the members of l in rising order: each put into the sorted rest
 --   atMost le z l           how many members of l are at most z

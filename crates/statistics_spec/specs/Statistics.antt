@@ -1,11 +1,12 @@
--- The statistics that padding fills a lane with, from NumPy's page on `pad` (its modes maximum, minimum, mean and median).
--- Where NumPy rounds a mean or a median to the nearest whole number, ties to even, the Rust cuts toward zero, and the Rust decides.
--- The empty line, of which neither says anything, gives 0 throughout.
+-- The statistics that padding fills a lane with, from NumPy's page on `pad` (its modes maximum, minimum, mean and
+-- median). Where NumPy rounds a mean or a median to the nearest whole number, ties to even, the Rust cuts toward zero,
+-- and the Rust decides. The empty line, of which neither says anything, gives 0 throughout.
 --   minimumOf l       the least level
 --   maximumOf l       the greatest level
 --   meanOf l          the sum of the levels over their number, cut toward zero
 --   ranked l k        the level at place k of the sorted line
---   medianOf l        the middle level of the sorted line; of an even number the two middle levels' sum over 2, cut toward zero
+--   medianOf l        the middle level of the sorted line; of an even number the two middle levels' sum over 2, cut
+--                     toward zero
 --   outsideLevels z   a level outside −(2^31 − 1)..2^31 − 1
 --   unserved l        a line that mean and median do not serve: over 1,024 cells, or with such a level
 --   answered f l      what they answer: f of a line that they serve, 0 of any other

@@ -1,6 +1,6 @@
--- The symmetry class of a kernel w, in the words of document 01, over the element and the test t of a mirrored pair. The test
--- takes the right weight and then the left; in classOf it is first told whether the left weight's sign is turned. d stands past
--- the end of w and is never reached.
+-- The symmetry class of a kernel w, in the words of document 01, over the element and the test t of a mirrored pair.
+-- The test takes the right weight and then the left; in classOf it is first told whether the left weight's sign is
+-- turned. d stands past the end of w and is never reached.
 --   someDiffers t d w h k   whether a pair of w at a distance of 1 to k from place h differs
 --   pairDiffers t d w       whether a mirrored pair of w differs; the middle weight is never looked at
 --   classOf t d w           the class of w: Symmetric is tested before AntiSymmetric
@@ -10,7 +10,8 @@
 --   epsilon                 2^−52
 --   absF x                  the absolute value
 --   exceeds x               whether |x| exceeds 2^−52
---   differF turned a b      floats: whether the rounded difference, or, with the sign turned, the rounded sum exceeds 2^−52
+--   differF turned a b      floats: whether the rounded difference, or, with the sign turned, the rounded sum exceeds
+--                           2^−52
 --   classF w                the class of float weights
 use Prim.Native.Nat.{ℕ, zero, suc, _+_, _-_, _/_, _%_}
 use mathlib.Core.Bool.{Bool, true, false, not, _||_, cond}

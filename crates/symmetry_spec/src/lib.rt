@@ -1,5 +1,5 @@
-// The symmetry class of a kernel: whether its weights mirror each other around the middle one. Here are the definitions and their laws;
-// `symmetry` has the code.
+// The symmetry class of a kernel: whether its weights mirror each other around the middle one. Here are the definitions
+// and their laws; `symmetry` has the code.
 ghost use Rattle.symmetry_spec.specs.Rows.{SymmetrySpecRows};
 
 pub enum SymmetryState {

@@ -48,8 +48,11 @@ module _ (z : ℤ) (l m : List ℕ) (n r : ℕ) (h : 20 ≤ length l) (p : n ≡
   pub written-below : z ≡ negsuc (mag z) → m ≡ decimalText n ++ drop (placesOf 18 n) (after l)
       → (r + 1 ≡ writtenCount (signedText z) l) × (putMid 1 (length (minused l) - 1) (minused l) m ≡ writtenIn (signedText z) l)
   written-below e f =
-      rw (e, le-ltb (length l) 20 h)
-      (q', joined l m (decimalText n) (placesOf 18 n) h f ∙ ap (λ k. 45 ∷ (decimalText k ++ drop (suc (placesOf 18 k)) l)) size ∙ ap (λ k. 45 ∷ (decimalText (suc (mag z)) ++ drop (suc k) l)) (sym (digits-length 10 (placesOf 18 (suc (mag z))) (suc (mag z)))))
+      rw (e, le-ltb (length l) 20 h) (
+        q',
+        joined l m (decimalText n) (placesOf 18 n) h f ∙ ap (λ k. 45 ∷ (decimalText k ++ drop (suc (placesOf 18 k)) l)) size
+            ∙ ap (λ k. 45 ∷ (decimalText (suc (mag z)) ++ drop (suc k) l)) (sym (digits-length 10 (placesOf 18 (suc (mag z))) (suc (mag z)))),
+      )
     where
       size : n ≡ suc (mag z)
       size = p ∙ ap natAbs e

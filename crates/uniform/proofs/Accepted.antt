@@ -111,7 +111,8 @@ module _ {b : Border ℤ} {size : ℕ} {ns : List ℕ} {cells out second : List 
     levels = B .range;
     window = F .window;
     level = F .level;
-    reach = or-false (badReach b size (pos 0) (lengthOf ns a)) (halfOver size (lengthOf ns a)) (every-at (λ n. badGridReach b size n ≡ false) ns 1 (any-none (badGridReach b size) ns (F .reach)) a h) .0;
+    reach = or-false (badReach b size (pos 0) (lengthOf ns a)) (halfOver size (lengthOf ns a)) (every-at (λ n. badGridReach b size n ≡ false) ns 1 (any-none (badGridReach b size) ns (F .reach)) a h)
+        .0;
   }
 
   pub between-pass : {g new : List ℤ} (a : ℕ) → Between ns g → new ≡ uniform1d b size ns a g → Between ns new

@@ -1,6 +1,7 @@
 -- The means of the windows as a line filter, and what the workers suppose of a call that was accepted.
 --   meansBy size p n         the means of the windows of size cells of the padded line p, cells 0 to n − 1
---   MeanAxisNeeds size b cells   the window has at most 65 cells, and the cells and the border's constant are levels that condition 3 accepts
+--   MeanAxisNeeds size b cells   the window has at most 65 cells, and the cells and the border's constant are levels
+--                                that condition 3 accepts
 use Prim.Native.Nat.{ℕ, _≤_}
 use mathlib.Core.Path.{_≡_}
 use mathlib.Core.Bool.{false}

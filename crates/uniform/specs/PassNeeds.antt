@@ -1,5 +1,6 @@
 -- What the worker supposes of a pass of a call that was accepted.
---   PassNeeds b size ns a cells out   the window is accepted along axis a, the grid and the border's constant are accepted, and the output is as long
+--   PassNeeds b size ns a cells out   the window is accepted along axis a, the grid and the border's constant are
+--                                     accepted, and the output is as long
 use Prim.Native.Nat.{ℕ, _<_}
 use mathlib.Core.Path.{_≡_}
 use mathlib.Core.Bool.{false}

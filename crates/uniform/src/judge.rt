@@ -89,9 +89,8 @@ fn judge_axes(shape: &[usize], size: usize, mode: BorderMode) -> u8
 // * `mode` - the border.
 // * `out` - how many cells the lent output has.
 //
-// Returns 0, or the lowest number of a condition that holds: 1 (shape), 2 (a length), 3 (a level), 5 (size), 8 (axis), 9 (constant) or
-// 11 (the border cannot fill a pad). 12 never occurs: no sum of accepted levels leaves 64 bits. Writes nothing and refuses nothing itself.
-// Three cells under Mirror with size 5 give 0, with size 7 11.
+// Refuses: 1 (shape), 2 (length), 3 (level), 5 (kernel), 8 (axis), 9 (constant), 11 (reach). Three cells under Mirror
+// with size 5 give 0, with size 7 11.
 pub fn judge_uniform1d(
     data: &[i64],
     shape: &[usize],
@@ -100,7 +99,8 @@ pub fn judge_uniform1d(
     mode: BorderMode,
     out: usize,
 ) -> u8
-    ensures { λ r. ⌜ r ≡ refusalOf (uniform1dJudged (borderOf mode) size (now (shape .entry)) axis (now («data» .entry)) out) ⌝ }
+    ensures { λ r. ⌜ r ≡ refusalOf (uniform1dJudged (borderOf mode) size (now (shape .entry)) axis (now («data» .entry))
+        out) ⌝ }
 {
     let refusal = array::judge_grid(data, shape, &[out]);
     if refusal != 0 {
@@ -115,9 +115,8 @@ pub fn judge_uniform1d(
 // * `size` - the length of the window on every axis.
 // * `second` - how many cells the second lent grid has.
 //
-// Returns 0, or the lowest number of a condition that holds: 1 (shape), 2 (a length), 3 (a level), 5 (size), 9 (constant) or 11 (the border cannot
-// fill a pad of some axis, or under every border half the size is over the length of some axis). 12 never occurs. Writes nothing and refuses nothing
-// itself. One cell under Nearest with size 3 gives 0, with size 5 11.
+// Refuses: 1 (shape), 2 (length), 3 (level), 5 (kernel), 9 (constant), 11 (reach). One cell under Nearest with size 3
+// gives 0, with size 5 11.
 pub fn judge_uniform(
     data: &[i64],
     shape: &[usize],
@@ -126,7 +125,8 @@ pub fn judge_uniform(
     out: usize,
     second: usize,
 ) -> u8
-    ensures { λ r. ⌜ r ≡ refusalOf (uniformJudged (borderOf mode) size (now (shape .entry)) (now («data» .entry)) out second) ⌝ }
+    ensures { λ r. ⌜ r ≡ refusalOf (uniformJudged (borderOf mode) size (now (shape .entry)) (now («data» .entry)) out
+        second) ⌝ }
 {
     let refusal = array::judge_grid(data, shape, &[out, second]);
     if refusal != 0 {

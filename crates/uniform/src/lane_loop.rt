@@ -25,8 +25,12 @@ fn average_lane(
     line: &mut [i64],
     out: &mut [i64],
 )
-    requires { ⌜ LineNeeds (borderOf mode) n stride base left right (now «data») (now line) × MeanAxisNeeds (left + right + 1) (borderOf mode) (now «data») × (0 < stride) × (base ≡ laneBase n stride lane) × (base + n * stride < length (now out) + stride) ⌝ }
-    ensures { λ _. ⌜ now (out .exit) ≡ withLane (pos 0) n stride lane (filteredLane (pos 0) (meansBy (left + right + 1)) (borderOf mode) left right (laneAt (pos 0) (now («data» .entry)) base stride n)) (now (out .entry)) ⌝ }
+    requires { ⌜ LineNeeds (borderOf mode) n stride base left right (now «data») (now line)
+        × MeanAxisNeeds (left + right + 1) (borderOf mode) (now «data») × (0 < stride) × (base
+        ≡ laneBase n stride lane) × (base + n * stride < length (now out) + stride) ⌝ }
+    ensures { λ _. ⌜ now (out .exit) ≡ withLane (pos 0) n stride lane
+        (filteredLane (pos 0) (meansBy (left + right + 1)) (borderOf mode) left right
+        (laneAt (pos 0) (now («data» .entry)) base stride n)) (now (out .entry)) ⌝ }
 {
     pad_line::pad_from(data, base, stride, n, mode, left, right, line);
     let total = left + n + right;
@@ -44,8 +48,11 @@ fn average_lanes(
     line: &mut [i64],
     out: &mut [i64],
 )
-    requires { ⌜ AxisNeeds (borderOf mode) (now shape) axis left right (now «data») (now out) × MeanAxisNeeds (left + right + 1) (borderOf mode) (now «data») × (length (now line) ≡ longestLine) ⌝ }
-    ensures { λ _. ⌜ now (out .exit) ≡ alongAxis (pos 0) (filteredLane (pos 0) (meansBy (left + right + 1)) (borderOf mode) left right) (now (shape .entry)) axis (now («data» .entry)) ⌝ }
+    requires { ⌜ AxisNeeds (borderOf mode) (now shape) axis left right (now «data») (now out)
+        × MeanAxisNeeds (left + right + 1) (borderOf mode) (now «data») × (length (now line) ≡ longestLine) ⌝ }
+    ensures { λ _. ⌜ now (out .exit) ≡ alongAxis (pos 0)
+        (filteredLane (pos 0) (meansBy (left + right + 1)) (borderOf mode) left right) (now (shape .entry)) axis
+        (now («data» .entry)) ⌝ }
 {
     let along = lanes::lanes_of(shape, axis);
     let n = along.len;
@@ -85,8 +92,11 @@ pub(crate) fn uniform_axis(
     right: usize,
     out: &mut [i64],
 )
-    requires { ⌜ AxisNeeds (borderOf mode) (now shape) axis left right (now «data») (now out) × MeanAxisNeeds (left + right + 1) (borderOf mode) (now «data») ⌝ }
-    ensures { λ _. ⌜ now (out .exit) ≡ alongAxis (pos 0) (filteredLane (pos 0) (meansBy (left + right + 1)) (borderOf mode) left right) (now (shape .entry)) axis (now («data» .entry)) ⌝ }
+    requires { ⌜ AxisNeeds (borderOf mode) (now shape) axis left right (now «data») (now out)
+        × MeanAxisNeeds (left + right + 1) (borderOf mode) (now «data») ⌝ }
+    ensures { λ _. ⌜ now (out .exit) ≡ alongAxis (pos 0)
+        (filteredLane (pos 0) (meansBy (left + right + 1)) (borderOf mode) left right) (now (shape .entry)) axis
+        (now («data» .entry)) ⌝ }
 {
     let mut line = [0; numbers::LONGEST_LINE];
     average_lanes(mode, data, shape, axis, left, right, &mut line, out);

@@ -1,5 +1,5 @@
-// Uniform filters along one axis and along every axis (src/filters/uniform.rs; SciPy's uniform_filter1d and uniform_filter): the mean of each window, cut
-// toward zero.
+// Uniform filters along one axis and along every axis (src/filters/uniform.rs; SciPy's uniform_filter1d and
+// uniform_filter): the mean of each window, cut toward zero.
 ghost use Rattle.uniform.specs.Rows.{UniformRows};
 ghost use mathlib.Core.Path.{_≡_};
 ghost use mathlib.Core.List.{[], _∷_};
@@ -21,7 +21,8 @@ pub use judge::judge_uniform1d;
 // Fills out with the means along the axis.
 fn pass(data: &[i64], shape: &[usize], size: usize, axis: usize, mode: BorderMode, out: &mut [i64])
     requires { ⌜ PassNeeds (borderOf mode) size (now shape) axis (now «data») (now out) ⌝ }
-    ensures { λ _. ⌜ now (out .exit) ≡ uniform1d (borderOf mode) size (now (shape .entry)) axis (now («data» .entry)) ⌝ }
+    ensures { λ _. ⌜ now (out .exit) ≡ uniform1d (borderOf mode) size (now (shape .entry)) axis
+        (now («data» .entry)) ⌝ }
 {
     let left = size / 2;
     let right = size - left - 1;
@@ -37,7 +38,8 @@ fn passes(
     second: &mut [i64],
     out: &mut [i64],
 )
-    requires { ⌜ refusalOf (uniformJudged (borderOf mode) size (now shape) (now «data») (length (now out)) (length (now second))) ≡ 0 ⌝ }
+    requires { ⌜ refusalOf (uniformJudged (borderOf mode) size (now shape) (now «data») (length (now out))
+        (length (now second))) ≡ 0 ⌝ }
     ensures { λ _. ⌜ now (out .exit) ≡ uniformOf (borderOf mode) size (now (shape .entry)) (now («data» .entry)) ⌝ }
 {
     let axes = shape.len();
@@ -64,9 +66,8 @@ fn passes(
 // * `mode` - the border.
 // * `out` - as long as data; kept as it was where the call is refused.
 //
-// Returns 0, or the lowest number of a condition that holds: 1 (shape), 2 (a length), 3 (a level), 5 (size), 8 (axis), 9 (constant), 11 (the border
-// cannot fill a pad) or 12 (a sum outside 64 bits, which never occurs).
-// -1 -2 -4 with size 3 along axis 0 under Constant(0) gives -1 -2 -2.
+// Refuses: 1 (shape), 2 (length), 3 (level), 5 (kernel), 8 (axis), 9 (constant), 11 (reach). -1 -2 -4 with size 3 along
+// axis 0 under Constant(0) gives -1 -2 -2.
 pub fn uniform_filter1d(
     data: &[i64],
     shape: &[usize],
@@ -75,8 +76,10 @@ pub fn uniform_filter1d(
     mode: BorderMode,
     out: &mut [i64],
 ) -> u8
-    ensures { λ r. ⌜ Answers (uniform1dJudged (borderOf mode) size (now (shape .entry)) axis (now («data» .entry)) (length (now (out .entry))))
-        (uniform1d (borderOf mode) size (now (shape .entry)) axis (now («data» .entry))) (now (out .entry)) r (now (out .exit)) ⌝ }
+    ensures { λ r. ⌜ Answers (uniform1dJudged (borderOf mode) size (now (shape .entry)) axis (now («data» .entry))
+        (length (now (out .entry))))
+        (uniform1d (borderOf mode) size (now (shape .entry)) axis (now («data» .entry))) (now (out .entry)) r
+        (now (out .exit)) ⌝ }
 {
     let refusal = judge::judge_uniform1d(data, shape, size, axis, mode, out.len());
     if refusal != 0 {
@@ -86,7 +89,8 @@ pub fn uniform_filter1d(
     numbers::ACCEPTED
 }
 
-// Fills each cell of out with the means along every axis, in rising order, each pass cut toward zero; SciPy's uniform_filter.
+// Fills each cell of out with the means along every axis, in rising order, each pass cut toward zero; SciPy's
+// uniform_filter.
 //
 // * `data` - the cells of the grid, in row-major order.
 // * `shape` - the length of each axis.
@@ -95,10 +99,8 @@ pub fn uniform_filter1d(
 // * `second` - a second grid as long as data, for what a pass leaves to the next; an accepted call leaves zeros in it.
 // * `out` - as long as data.
 //
-// Returns 0, or the lowest number of a condition that holds: 1 (shape), 2 (a length), 3 (a level), 5 (size), 9 (constant), 11 (the border cannot fill
-// a pad of some axis, or under every border half the size is over the length of some axis) or 12 (a sum outside 64 bits, which never occurs).
-// A refused call leaves both lent grids as they were.
-// The rows 1 2 / 3 -6 with size 2 under Nearest give 1 1 / 2 0.
+// Refuses: 1 (shape), 2 (length), 3 (level), 5 (kernel), 9 (constant), 11 (reach). A refused call leaves both lent
+// grids as they were. The rows 1 2 / 3 -6 with size 2 under Nearest give 1 1 / 2 0.
 pub fn uniform_filter(
     data: &[i64],
     shape: &[usize],
@@ -107,8 +109,10 @@ pub fn uniform_filter(
     second: &mut [i64],
     out: &mut [i64],
 ) -> u8
-    ensures { λ r. ⌜ ScratchAnswers (pos 0) (uniformJudged (borderOf mode) size (now (shape .entry)) (now («data» .entry)) (length (now (out .entry))) (length (now (second .entry))))
-        (uniformOf (borderOf mode) size (now (shape .entry)) (now («data» .entry))) (now (out .entry)) (now (second .entry) ∷ []) r (now (out .exit)) (now (second .exit) ∷ []) ⌝ }
+    ensures { λ r. ⌜ ScratchAnswers (pos 0) (uniformJudged (borderOf mode) size (now (shape .entry))
+        (now («data» .entry)) (length (now (out .entry))) (length (now (second .entry))))
+        (uniformOf (borderOf mode) size (now (shape .entry)) (now («data» .entry))) (now (out .entry))
+        (now (second .entry) ∷ []) r (now (out .exit)) (now (second .exit) ∷ []) ⌝ }
 {
     let refusal = judge::judge_uniform(data, shape, size, mode, out.len(), second.len());
     if refusal != 0 {
@@ -119,7 +123,7 @@ pub fn uniform_filter(
     numbers::ACCEPTED
 }
 
-// Worked rows of this crate's definitions: the lanes of an axis, the calls. Refuses nothing.
+// Worked rows of this crate's definitions: the lanes of an axis, the calls.
 pub fn rows()
     ensures { λ _. ⌜ UniformRows ⌝ }
 {}

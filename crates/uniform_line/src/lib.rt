@@ -1,5 +1,5 @@
-// The means of the windows of a line, by a running sum: the cell that enters is added, the cell that leaves is taken away, so that a cell costs the same
-// however long the window is. They are written straight to the cells of a lane.
+// The means of the windows of a line, by a running sum: the cell that enters is added, the cell that leaves is taken
+// away, so that a cell costs the same however long the window is. They are written straight to the cells of a lane.
 ghost use mathlib.Core.Path.{_≡_};
 ghost use mathlib.Core.Bool.{false};
 ghost use Prim.Native.Nat.{_+_, _*_, _≤_, _<_};
@@ -27,8 +27,8 @@ fn cut_narrow(total: i64, size: usize) -> i64
     ((total as i32) / (size as i32)) as i64
 }
 
-// The same of any sum. A 64-bit division is compiled to a test whether both numbers are small and not below 0, which sums that change sign make hard to foresee; the
-// tests here have one answer for most lines.
+// The same of any sum. A 64-bit division is compiled to a test whether both numbers are small and not below 0, which
+// sums that change sign make hard to foresee; the tests here have one answer for most lines.
 fn cut_mean(total: i64, size: usize) -> i64
     requires { ⌜ (0 < size) × (size ≤ 65) ⌝ }
     ensures { λ r. ⌜ r ≡ cut total size ⌝ }
@@ -42,7 +42,8 @@ fn cut_mean(total: i64, size: usize) -> i64
     cut_narrow(total, size)
 }
 
-// Sets the cells of a lane of out, the one that starts at place base, to the means of their windows of the padded line, cut toward zero.
+// Sets the cells of a lane of out, the one that starts at place base, to the means of their windows of the padded line,
+// cut toward zero.
 pub fn uniform_lane(
     line: &[i64],
     size: usize,
@@ -52,8 +53,10 @@ pub fn uniform_lane(
     base: usize,
     out: &mut [i64],
 )
-    requires { ⌜ MeanLineNeeds (now line) size n × (0 < n) × (0 < stride) × (base ≡ laneBase n stride lane) × (base + n * stride < length (now out) + stride) ⌝ }
-    ensures { λ _. ⌜ now (out .exit) ≡ withLane (pos 0) n stride lane (means (now (line .entry)) size n) (now (out .entry)) ⌝ }
+    requires { ⌜ MeanLineNeeds (now line) size n × (0 < n) × (0 < stride) × (base
+        ≡ laneBase n stride lane) × (base + n * stride < length (now out) + stride) ⌝ }
+    ensures { λ _. ⌜ now (out .exit) ≡ withLane (pos 0) n stride lane (means (now (line .entry)) size n)
+        (now (out .entry)) ⌝ }
 {
     let before = size - 1;
     let mut sum = sum_of(window(line, 0, before));

@@ -45,7 +45,8 @@ module _ (b : Border ℤ) (size : ℕ) (ns : List ℕ) (c : SizedBorder level b)
   kept : (a : ℕ) (cells : List ℤ) → Sized level cells → Sized level (uniform1d b size ns a cells)
   kept a cells h =
       every-along (pos 0) (λ x. Size x level) (λ x. Size x level) (λ s. means (paddedFor b size s) size (length s)) (size-zero level) (size-zero level)
-      (λ s k. every-table (λ x. Size x level) (λ i. cut (windowSum (paddedFor b size s) size i) size) 0 (length s) (λ i. size-quot size (sum-size level (paddedFor b size s) (padded s k) size i))) ns a cells h
+      (λ s k. every-table (λ x. Size x level) (λ i. cut (windowSum (paddedFor b size s) size i) size) 0 (length s) (λ i. size-quot size (sum-size level (paddedFor b size s) (padded s k) size i))) ns a
+      cells h
 
   module _ (few : size ≤ 65) where
     within : (a : ℕ) (cells : List ℤ) → Sized level cells → badUniformSums b size ns a cells ≡ false
@@ -58,7 +59,8 @@ module _ (b : Border ℤ) (size : ℕ) (ns : List ℕ) (c : SizedBorder level b)
     within-from : (a n : ℕ) (cells : List ℤ) → Sized level cells → badUniformSumsFrom b size ns a n cells ≡ false
     within-from a zero cells h = refl
     within-from a (suc n) cells h =
-        or-no (badUniformSums b size ns a cells) (badUniformSumsFrom b size ns (suc a) n (uniform1d b size ns a cells)) (within a cells h) (within-from (suc a) n (uniform1d b size ns a cells) (kept a cells h))
+        or-no (badUniformSums b size ns a cells) (badUniformSumsFrom b size ns (suc a) n (uniform1d b size ns a cells)) (within a cells h)
+        (within-from (suc a) n (uniform1d b size ns a cells) (kept a cells h))
 
 -- ---- of a call whose conditions 3, 5 and 9 do not hold
 module _ (b : Border ℤ) (size : ℕ) (ns : List ℕ) (cells : List ℤ) (l : anyOf badLevel cells ≡ false) (c : badConstantBy badLevel b ≡ false) where

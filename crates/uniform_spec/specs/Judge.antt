@@ -1,11 +1,14 @@
--- The conditions of `uniform_filter1d` and `uniform_filter`, as document 01 words them. There is no origin, so 7 does not occur.
+-- The conditions of `uniform_filter1d` and `uniform_filter`, as document 01 words them. There is no origin, so 7 does
+-- not occur.
 --   halfOver size n                  11, of the grid form alone: floor(size/2) over n
---   badGridReach b size n            11 of a lane of n cells in the grid form: the border cannot fill a pad, or halfOver
+--   badGridReach b size n            11 of a lane of n cells in the grid form: the border cannot fill a pad, or
+--                                    halfOver
 --   badUniformSums b size ns a cells        12 of a pass along axis a: the sum of a window outside signed 64 bits
 --   badUniformSumsFrom b size ns a n cells  12 of the n passes from axis a on, each on what the one before it left
 --   uniformAlongJudged b size ns a          conditions 5, 8, 9 and 11 of a window along axis a
 --   uniformAxesJudged b size ns             conditions 5, 9 and 11 (of any axis) of a window along every axis
---   uniform1dJudged b size ns a cells out        what uniform_filter1d refuses, in rising order; out is the output's length
+--   uniform1dJudged b size ns a cells out        what uniform_filter1d refuses, in rising order; out is the output's
+--                                                length
 --   uniformJudged b size ns cells out second     what uniform_filter refuses; second is the second grid's length
 use Prim.Native.Nat.{ℕ, zero, suc, _/_}
 use mathlib.Core.Bool.{Bool, false, _||_}
@@ -34,17 +37,22 @@ badUniformSums b size ns a cells = anyOf beyond (windowSums b size ns a cells)
 
 abbrev pub badUniformSumsFrom : Border ℤ → ℕ → List ℕ → ℕ → ℕ → List ℤ → Bool
 badUniformSumsFrom b size ns a zero cells = false
-badUniformSumsFrom b size ns a (suc n) cells = badUniformSums b size ns a cells || badUniformSumsFrom b size ns (suc a) n (uniform1d b size ns a cells)
+badUniformSumsFrom b size ns a (suc n) cells = badUniformSums b size ns a cells
+    || badUniformSumsFrom b size ns (suc a) n (uniform1d b size ns a cells)
 
 abbrev pub uniformAlongJudged : Border ℤ → ℕ → List ℕ → ℕ → Judged
-uniformAlongJudged b size ns a = (badSize size, 5) ∷ (badAxis ns a, 8) ∷ (badConstantBy badLevel b, 9) ∷ (badReach b size (pos 0) (lengthOf ns a), 11) ∷ []
+uniformAlongJudged b size ns a = (badSize size, 5) ∷ (badAxis ns a, 8) ∷ (badConstantBy badLevel b, 9)
+    ∷ (badReach b size (pos 0) (lengthOf ns a), 11) ∷ []
 
 abbrev pub uniformAxesJudged : Border ℤ → ℕ → List ℕ → Judged
-uniformAxesJudged b size ns = (badSize size, 5) ∷ (badConstantBy badLevel b, 9) ∷ (anyOf (badGridReach b size) ns, 11) ∷ []
+uniformAxesJudged b size ns = (badSize size, 5) ∷ (badConstantBy badLevel b, 9) ∷ (anyOf (badGridReach b size) ns, 11)
+    ∷ []
 
 abbrev pub uniform1dJudged : Border ℤ → ℕ → List ℕ → ℕ → List ℤ → ℕ → Judged
-uniform1dJudged b size ns a cells out = gridJudged ns cells (out ∷ []) ++ uniformAlongJudged b size ns a ++ ((badUniformSums b size ns a cells, 12) ∷ [])
+uniform1dJudged b size ns a cells out = gridJudged ns cells (out ∷ []) ++ uniformAlongJudged b size ns a
+    ++ ((badUniformSums b size ns a cells, 12) ∷ [])
 
 abbrev pub uniformJudged : Border ℤ → ℕ → List ℕ → List ℤ → ℕ → ℕ → Judged
 uniformJudged b size ns cells out second =
-    gridJudged ns cells (out ∷ second ∷ []) ++ uniformAxesJudged b size ns ++ ((badUniformSumsFrom b size ns 0 (length ns) cells, 12) ∷ [])
+    gridJudged ns cells (out ∷ second ∷ []) ++ uniformAxesJudged b size ns
+    ++ ((badUniformSumsFrom b size ns 0 (length ns) cells, 12) ∷ [])

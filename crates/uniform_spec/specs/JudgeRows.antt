@@ -23,23 +23,29 @@ abbrev pub onThree : Border ℤ → ℕ → ℕ
 onThree b size = refusalOf (uniformJudged b size (3 ∷ []) (wholes (1 ∷ 2 ∷ 3 ∷ [])) 3 3)
 
 abbrev pub onOne : ℕ → List ℕ
-onOne size = refusalOf (uniform1dJudged (along Nearest) size (1 ∷ []) 0 (wholes (5 ∷ [])) 1) ∷ refusalOf (uniformJudged (along Nearest) size (1 ∷ []) (wholes (5 ∷ [])) 1 1) ∷ []
+onOne size = refusalOf (uniform1dJudged (along Nearest) size (1 ∷ []) 0 (wholes (5 ∷ [])) 1)
+    ∷ refusalOf (uniformJudged (along Nearest) size (1 ∷ []) (wholes (5 ∷ [])) 1 1) ∷ []
 
 abbrev pub square : List ℤ
 square = pos 1 ∷ pos 2 ∷ pos 3 ∷ minus 6 ∷ []
 
 pub record JudgeRows : Type 0 where
   -- T6: −1 −2 −4, size 3, Constant 0; the sums of its windows
-  pub t6 : uniform1d (constant (pos 0)) 3 (3 ∷ []) 0 (minus 1 ∷ minus 2 ∷ minus 4 ∷ []) ≡ minus 1 ∷ minus 2 ∷ minus 2 ∷ []
-  pub t6-grid : uniform (constant (pos 0)) 3 (3 ∷ []) (minus 1 ∷ minus 2 ∷ minus 4 ∷ []) ≡ minus 1 ∷ minus 2 ∷ minus 2 ∷ []
-  pub sums : windowSums (constant (pos 0)) 3 (3 ∷ []) 0 (minus 1 ∷ minus 2 ∷ minus 4 ∷ []) ≡ minus 3 ∷ minus 7 ∷ minus 6 ∷ []
+  pub t6 : uniform1d (constant (pos 0)) 3 (3 ∷ []) 0 (minus 1 ∷ minus 2 ∷ minus 4 ∷ [])
+      ≡ minus 1 ∷ minus 2 ∷ minus 2 ∷ []
+  pub t6-grid : uniform (constant (pos 0)) 3 (3 ∷ []) (minus 1 ∷ minus 2 ∷ minus 4 ∷ [])
+      ≡ minus 1 ∷ minus 2 ∷ minus 2 ∷ []
+  pub sums : windowSums (constant (pos 0)) 3 (3 ∷ []) 0 (minus 1 ∷ minus 2 ∷ minus 4 ∷ [])
+      ≡ minus 3 ∷ minus 7 ∷ minus 6 ∷ []
   -- an even window reads the cell before: −1 −2 under Nearest, size 2: −2 over 2 and −3 over 2
   pub even : uniform1d (along Nearest) 2 (2 ∷ []) 0 (minus 1 ∷ minus 2 ∷ []) ≡ minus 1 ∷ minus 1 ∷ []
-  -- the rows 1 2 / 3 −6, size 2 under Nearest: 1 2 / 2 −2 along axis 0, 1 1 / 3 −1 along axis 1; both, each pass cut: 1 1 / 2 0
+  -- the rows 1 2 / 3 −6, size 2 under Nearest: 1 2 / 2 −2 along axis 0, 1 1 / 3 −1 along axis 1; both, each pass cut: 1
+  -- 1 / 2 0
   pub down : uniform1d (along Nearest) 2 (2 ∷ 2 ∷ []) 0 square ≡ pos 1 ∷ pos 2 ∷ pos 2 ∷ minus 2 ∷ []
   pub across : uniform1d (along Nearest) 2 (2 ∷ 2 ∷ []) 1 square ≡ pos 1 ∷ pos 1 ∷ pos 3 ∷ minus 1 ∷ []
   pub both : uniform (along Nearest) 2 (2 ∷ 2 ∷ []) square ≡ pos 1 ∷ pos 1 ∷ pos 2 ∷ pos 0 ∷ []
-  -- the caller's constant stands beside every pass: one cell 9 of the shape 1 1, size 3 under Constant 0: 9 over 3, and 3 over 3
+  -- the caller's constant stands beside every pass: one cell 9 of the shape 1 1, size 3 under Constant 0: 9 over 3, and
+  -- 3 over 3
   pub twice : uniform (constant (pos 0)) 3 (1 ∷ 1 ∷ []) (pos 9 ∷ []) ≡ pos 1 ∷ []
   -- 5: sizes 0, 1, 65 and 66
   pub sizes : map (three (along Nearest) 0) (0 ∷ 1 ∷ 65 ∷ 66 ∷ []) ≡ 5 ∷ 0 ∷ 0 ∷ 5 ∷ []
@@ -51,17 +57,28 @@ pub record JudgeRows : Type 0 where
   pub grid-constants : map (λ c. onThree (constant c) 1) (minus (2 ^ 31) ∷ pos (2 ^ 31) ∷ pos 7 ∷ []) ≡ 9 ∷ 9 ∷ 0 ∷ []
   pub axis-first : three (constant (pos (2 ^ 31))) 1 3 ≡ 8
   -- 11: three cells, Mirror takes 5 and refuses 7, Reflect takes 7 and refuses 9, and so does Wrap
-  pub reaches : three (along Mirror) 0 5 ∷ three (along Mirror) 0 7 ∷ three (along Reflect) 0 7 ∷ three (along Reflect) 0 9 ∷ three (along Wrap) 0 9 ∷ [] ≡ 0 ∷ 11 ∷ 0 ∷ 11 ∷ 11 ∷ []
-  pub grid-reaches : onThree (along Mirror) 5 ∷ onThree (along Mirror) 7 ∷ onThree (along Reflect) 7 ∷ onThree (along Reflect) 9 ∷ [] ≡ 0 ∷ 11 ∷ 0 ∷ 11 ∷ []
-  -- the half-size rule under Constant and Nearest: half 3 on three cells passes, half 4 does not; uniform_filter1d has no such rule
-  pub halves : onThree (constant (pos 0)) 7 ∷ onThree (constant (pos 0)) 9 ∷ onThree (along Nearest) 8 ∷ three (constant (pos 0)) 0 9 ∷ [] ≡ 0 ∷ 11 ∷ 11 ∷ 0 ∷ []
+  pub reaches : three (along Mirror) 0 5 ∷ three (along Mirror) 0 7 ∷ three (along Reflect) 0 7
+      ∷ three (along Reflect) 0 9 ∷ three (along Wrap) 0 9 ∷ [] ≡ 0 ∷ 11 ∷ 0 ∷ 11 ∷ 11 ∷ []
+  pub grid-reaches : onThree (along Mirror) 5 ∷ onThree (along Mirror) 7 ∷ onThree (along Reflect) 7
+      ∷ onThree (along Reflect) 9 ∷ [] ≡ 0 ∷ 11 ∷ 0 ∷ 11 ∷ []
+  -- the half-size rule under Constant and Nearest: half 3 on three cells passes, half 4 does not; uniform_filter1d has
+  -- no such rule
+  pub halves : onThree (constant (pos 0)) 7 ∷ onThree (constant (pos 0)) 9 ∷ onThree (along Nearest) 8
+      ∷ three (constant (pos 0)) 0 9 ∷ [] ≡ 0 ∷ 11 ∷ 11 ∷ 0 ∷ []
   -- one cell under Nearest: size 3 passes both, size 5 the one-axis form alone
   pub one-cell : map onOne (3 ∷ 5 ∷ []) ≡ (0 ∷ 0 ∷ []) ∷ (0 ∷ 11 ∷ []) ∷ []
   -- any axis: 9 by 2 cells with size 5 under Mirror, 9 by 1 with size 5 under Nearest
-  pub any-axis : map (badGridReach (along Mirror) 5) (9 ∷ 2 ∷ []) ∷ map (badGridReach (along Nearest) 5) (9 ∷ 1 ∷ []) ∷ [] ≡ (false ∷ true ∷ []) ∷ (false ∷ true ∷ []) ∷ []
+  pub any-axis : map (badGridReach (along Mirror) 5) (9 ∷ 2 ∷ []) ∷ map (badGridReach (along Nearest) 5) (9 ∷ 1 ∷ [])
+      ∷ [] ≡ (false ∷ true ∷ []) ∷ (false ∷ true ∷ []) ∷ []
   -- 12, of levels that 3 refuses: two cells 2^62 in a window of two, in the first pass and in the second
-  pub beyond-one : map (λ x. badUniformSums (along Nearest) 2 (1 ∷ []) 0 (x ∷ [])) (pos (2 ^ 62) ∷ minus (2 ^ 62) ∷ []) ≡ true ∷ false ∷ []
-  pub beyond-later : badUniformSumsFrom (constant (pos (2 ^ 63))) 2 (1 ∷ 1 ∷ []) 0 1 (minus (2 ^ 63) ∷ []) ∷ badUniformSumsFrom (constant (pos (2 ^ 63))) 2 (1 ∷ 1 ∷ []) 0 2 (minus (2 ^ 63) ∷ []) ∷ [] ≡ false ∷ true ∷ []
+  pub beyond-one : map (λ x. badUniformSums (along Nearest) 2 (1 ∷ []) 0 (x ∷ [])) (pos (2 ^ 62) ∷ minus (2 ^ 62) ∷ [])
+      ≡ true ∷ false ∷ []
+  pub beyond-later : badUniformSumsFrom (constant (pos (2 ^ 63))) 2 (1 ∷ 1 ∷ []) 0 1 (minus (2 ^ 63) ∷ [])
+      ∷ badUniformSumsFrom (constant (pos (2 ^ 63))) 2 (1 ∷ 1 ∷ []) 0 2 (minus (2 ^ 63) ∷ []) ∷ [] ≡ false ∷ true ∷ []
   -- 1, 2 (output; second grid) and 3 come first
-  pub grids : refusalOf (uniform1dJudged (along Nearest) 0 [] 9 [] 0) ∷ refusalOf (uniform1dJudged (along Nearest) 0 (3 ∷ []) 9 (wholes (1 ∷ 2 ∷ 3 ∷ [])) 4) ∷ refusalOf (uniform1dJudged (along Nearest) 0 (1 ∷ []) 9 (pos (2 ^ 31) ∷ []) 1) ∷ [] ≡ 1 ∷ 2 ∷ 3 ∷ []
-  pub grid-grids : refusalOf (uniformJudged (along Nearest) 0 [] [] 0 0) ∷ refusalOf (uniformJudged (along Nearest) 0 (1 ∷ []) (wholes (5 ∷ [])) 1 2) ∷ refusalOf (uniformJudged (along Nearest) 0 (1 ∷ []) (pos (2 ^ 31) ∷ []) 1 1) ∷ [] ≡ 1 ∷ 2 ∷ 3 ∷ []
+  pub grids : refusalOf (uniform1dJudged (along Nearest) 0 [] 9 [] 0)
+      ∷ refusalOf (uniform1dJudged (along Nearest) 0 (3 ∷ []) 9 (wholes (1 ∷ 2 ∷ 3 ∷ [])) 4)
+      ∷ refusalOf (uniform1dJudged (along Nearest) 0 (1 ∷ []) 9 (pos (2 ^ 31) ∷ []) 1) ∷ [] ≡ 1 ∷ 2 ∷ 3 ∷ []
+  pub grid-grids : refusalOf (uniformJudged (along Nearest) 0 [] [] 0 0)
+      ∷ refusalOf (uniformJudged (along Nearest) 0 (1 ∷ []) (wholes (5 ∷ [])) 1 2)
+      ∷ refusalOf (uniformJudged (along Nearest) 0 (1 ∷ []) (pos (2 ^ 31) ∷ []) 1 1) ∷ [] ≡ 1 ∷ 2 ∷ 3 ∷ []

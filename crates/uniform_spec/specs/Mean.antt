@@ -1,8 +1,9 @@
--- The mean of each window of a line, from SciPy's page on `uniform_filter1d`. That page does not say how a mean of whole numbers is rounded; document 01
--- cuts the quotient toward zero. s is the padded line.
+-- The mean of each window of a line, from SciPy's page on `uniform_filter1d`. That page does not say how a mean of
+-- whole numbers is rounded; document 01 cuts the quotient toward zero. s is the padded line.
 --   cut total size       total over size, cut toward zero
 --   means s size n       the means of cells 0 to n − 1
---   MeanLineNeeds s size n    what the line worker supposes: 1 to 65 cells in a window, n windows inside the line, every cell a level that condition 3 accepts
+--   MeanLineNeeds s size n    what the line worker supposes: 1 to 65 cells in a window, n windows inside the line,
+--                             every cell a level that condition 3 accepts
 use Prim.Native.Nat.{ℕ, _+_, _≤_, _<_}
 use mathlib.Core.Path.{_≡_}
 use mathlib.Core.Bool.{false}

@@ -1,5 +1,7 @@
--- The uniform filters, from SciPy's pages on `uniform_filter1d` and `uniform_filter`; document 01 cuts each mean toward zero, in every pass.
---   paddedFor b size s             the lane s with the pads of a centred window: floor(size/2) places before it, size − floor(size/2) − 1 after it
+-- The uniform filters, from SciPy's pages on `uniform_filter1d` and `uniform_filter`; document 01 cuts each mean toward
+-- zero, in every pass.
+--   paddedFor b size s             the lane s with the pads of a centred window: floor(size/2) places before it, size −
+--                                  floor(size/2) − 1 after it
 --   windowSums b size ns a cells   for each cell the sum of its window along axis a
 --   uniform1d b size ns a cells    for each cell the mean of its window along axis a
 --   uniform b size ns cells        uniform1d along every axis, in rising order
@@ -19,7 +21,8 @@ abbrev pub paddedFor : Border ℤ → ℕ → List ℤ → List ℤ
 paddedFor b size s = paddedLine (pos 0) b (size / 2) (size - size / 2 - 1) s
 
 abbrev pub windowSums : Border ℤ → ℕ → List ℕ → ℕ → List ℤ → List ℤ
-windowSums b size ns a cells = alongAxis (pos 0) (λ s. tabulate (windowSum (paddedFor b size s) size) 0 (length s)) ns a cells
+windowSums b size ns a cells = alongAxis (pos 0) (λ s. tabulate (windowSum (paddedFor b size s) size) 0 (length s)) ns a
+    cells
 
 abbrev pub uniform1d : Border ℤ → ℕ → List ℕ → ℕ → List ℤ → List ℤ
 uniform1d b size ns a cells = alongAxis (pos 0) (λ s. means (paddedFor b size s) size (length s)) ns a cells

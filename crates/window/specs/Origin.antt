@@ -24,7 +24,8 @@ badOrigin len origin = outsideZ (negℤ (pos (len / 2))) (shrZ (pos len -ℤ pos
 
 -- no sum is negative where the origin is accepted
 abbrev pub originPads : ℕ → ℕ → ℕ → ℤ → Origin
-originPads len left right origin = cond (badOrigin len origin) Refused (Pads (natAbs (pos left +ℤ origin)) (natAbs (pos right -ℤ origin)))
+originPads len left right origin = cond (badOrigin len origin) Refused
+    (Pads (natAbs (pos left +ℤ origin)) (natAbs (pos right -ℤ origin)))
 
 abbrev pub refusalOfOrigin : Origin → ℕ
 refusalOfOrigin (Pads l r) = 0

@@ -1,14 +1,19 @@
--- The window of a cell along an axis, as document 01 words it: how many cells stand on each side of it, the pads that it needs, and conditions
--- 5, 7 and 11. A kernel of equal sides has its own pads, the same on every axis.
---   leftOf len, rightOf len       floor(len/2), and len − left − 1: the cells before and after the cell itself, where the origin is 0
+-- The window of a cell along an axis, as document 01 words it: how many cells stand on each side of it, the pads that
+-- it needs, and conditions 5, 7 and 11. A kernel of equal sides has its own pads, the same on every axis.
+--   leftOf len, rightOf len       floor(len/2), and len − left − 1: the cells before and after the cell itself, where
+--                                 the origin is 0
 --   leftPad len o, rightPad len o         left + origin, and right − origin
---   kernelLeft side o, kernelRight side o the pads of a grid kernel, as they are laid: floor(side/2) + origin, and floor(side/2) − origin
+--   kernelLeft side o, kernelRight side o
+--                                 the pads of a grid kernel, as they are laid: floor(side/2) + origin, and
+--                                 floor(side/2) − origin
 --   badSize len                   5: a length, or a count of weights, outside 1..65
 --   badWindowOrigin len o         7, where the origin is read: a window of more than one cell refuses it
 --   badEitherPad b left right n        11 of two pads of n cells: the border cannot fill one of them
 --   badReach b len o n            11 of a window: of one cell nothing is padded, else badEitherPad of its pads
---   badKernelReach b side o ns    11 of a grid kernel: of some axis, the pads as they are laid; on the right an even kernel never reads the last cell
---   changedOrigin len o           the origin of a convolution as it is applied: negated, and for an even count of weights 1 less
+--   badKernelReach b side o ns    11 of a grid kernel: of some axis, the pads as they are laid; on the right an even
+--                                 kernel never reads the last cell
+--   changedOrigin len o           the origin of a convolution as it is applied: negated, and for an even count of
+--                                 weights 1 less
 --   appliedOrigin convolution len o    the caller's origin, or, where convolution says convolution, the changed one
 use Prim.Native.Nat.{ℕ, _-_, _/_, _%_}
 use mathlib.Core.Bool.{Bool, not, _&&_, _||_, cond}

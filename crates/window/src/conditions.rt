@@ -7,7 +7,8 @@ ghost use Rattle.window.specs.Window.{badSize, badWindowOrigin, badEithe
 use crate::origin::Origin;
 use border::BorderMode;
 
-// Condition 5: the length of a window, or the count of weights, is outside 1..65. bad_size(65) is false, bad_size(66) is true.
+// Condition 5: the length of a window, or the count of weights, is outside 1..65. bad_size(65) is false, bad_size(66)
+// is true.
 pub fn bad_size(size: usize) -> bool
     ensures { λ r. ⌜ r ≡ badSize size ⌝ }
 {
@@ -53,8 +54,8 @@ pub(crate) fn bad_pads_any(mode: BorderMode, left: usize, right: usize, shape: &
     false
 }
 
-// Condition 11 of a lane of n cells: the border cannot fill one of the pads that a window needs, whose origin condition 7 accepts.
-// Of three cells Mirror fills the pads of a window of 5 with origin 0, and not of 7.
+// Condition 11 of a lane of n cells: the border cannot fill one of the pads that a window needs, whose origin condition
+// 7 accepts. Of three cells Mirror fills the pads of a window of 5 with origin 0, and not of 7.
 pub fn bad_reach(mode: BorderMode, n: usize, size: usize, origin: isize) -> bool
     requires { ⌜ badWindowOrigin size origin ≡ false ⌝ }
     ensures { λ r. ⌜ r ≡ badReach (borderOf mode) size origin n ⌝ }
@@ -68,7 +69,8 @@ pub fn bad_reach(mode: BorderMode, n: usize, size: usize, origin: isize) -> bool
     }
 }
 
-// Condition 11 of a grid: a lane of some axis has it. Of the shape 9 2 Mirror fills the pads of a window of 3 with origin 0, and not of 5.
+// Condition 11 of a grid: a lane of some axis has it. Of the shape 9 2 Mirror fills the pads of a window of 3 with
+// origin 0, and not of 5.
 pub fn bad_reach_any(mode: BorderMode, shape: &[usize], size: usize, origin: isize) -> bool
     requires { ⌜ badWindowOrigin size origin ≡ false ⌝ }
     ensures { λ r. ⌜ r ≡ anyOf (badReach (borderOf mode) size origin) (now (shape .entry)) ⌝ }

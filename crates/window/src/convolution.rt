@@ -7,9 +7,9 @@ ghost use Rattle.window.specs.Window.{badWindowOrigin, badReach, badKern
 use crate::origin::Origin;
 use border::BorderMode;
 
-// The origin of len weights as it is applied: the caller's, or, where convolution says convolution, negated and for an even count 1 less.
-// Only of an origin that condition 7 accepts: -2^63 has no negation.
-// applied_origin(3, 1, true) is -1, applied_origin(4, 1, true) is -2, applied_origin(4, 1, false) is 1.
+// The origin of len weights as it is applied: the caller's, or, where convolution says convolution, negated and for an
+// even count 1 less. Only of an origin that condition 7 accepts: -2^63 has no negation. applied_origin(3, 1, true) is
+// -1, applied_origin(4, 1, true) is -2, applied_origin(4, 1, false) is 1.
 pub fn applied_origin(len: usize, origin: isize, convolution: bool) -> isize
     requires { ⌜ badOrigin len origin ≡ false ⌝ }
     ensures { λ r. ⌜ r ≡ appliedOrigin convolution len origin ⌝ }
@@ -41,8 +41,9 @@ pub fn bad_applied_reach(
     crate::conditions::bad_reach(mode, n, len, applied_origin(len, origin, convolution))
 }
 
-// Condition 11 of a grid kernel whose origin condition 7 accepts, by the origin as it is applied: the pads as they are laid, on every axis.
-// One cell under Wrap with a side of 2 and origin 0 has it where convolution says convolution, and not else.
+// Condition 11 of a grid kernel whose origin condition 7 accepts, by the origin as it is applied: the pads as they are
+// laid, on every axis. One cell under Wrap with a side of 2 and origin 0 has it where convolution says convolution, and
+// not else.
 pub fn bad_kernel_reach(
     mode: BorderMode,
     shape: &[usize],
@@ -51,7 +52,8 @@ pub fn bad_kernel_reach(
     convolution: bool,
 ) -> bool
     requires { ⌜ badOrigin side origin ≡ false ⌝ }
-    ensures { λ r. ⌜ r ≡ badKernelReach (borderOf mode) side (appliedOrigin convolution side origin) (now (shape .entry)) ⌝ }
+    ensures { λ r. ⌜ r ≡ badKernelReach (borderOf mode) side (appliedOrigin convolution side origin)
+        (now (shape .entry)) ⌝ }
 {
     let applied = applied_origin(side, origin, convolution);
     match crate::origin::kernel_origin_check(side, applied) {

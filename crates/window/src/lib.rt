@@ -1,5 +1,5 @@
-// The window of a cell: which origins it takes, the pads that it needs, conditions 5, 7 and 11, the changed origin of a convolution, and
-// its part of a padded line.
+// The window of a cell: which origins it takes, the pads that it needs, conditions 5, 7 and 11, the changed origin of a
+// convolution, and its part of a padded line.
 ghost use Rattle.window.specs.Rows.{WindowRows};
 
 mod conditions;
@@ -21,7 +21,8 @@ pub use origin::origin_check;
 pub use part::window;
 pub use part::window_f64;
 
-// Worked rows of this crate's definitions: origins, lengths and pads at their limits, and the changed origin of a convolution.
+// Worked rows of this crate's definitions: origins, lengths and pads at their limits, and the changed origin of a
+// convolution.
 pub fn rows()
     ensures { λ _. ⌜ WindowRows ⌝ }
 {}

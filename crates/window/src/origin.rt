@@ -56,8 +56,8 @@ fn pads(len: usize, right: usize, origin: Shift) -> Origin
     }
 }
 
-// Condition 7 by itself: whether a window of len cells refuses the origin. Refuses nothing.
-// bad_origin(4, -2) is false, bad_origin(4, 2) is true; length 0 has no origin, so bad_origin(0, 0) is true.
+// Condition 7 by itself: whether a window of len cells refuses the origin. bad_origin(4, -2) is false, bad_origin(4, 2)
+// is true; length 0 has no origin, so bad_origin(0, 0) is true.
 pub fn bad_origin(len: usize, origin: isize) -> bool
     ensures { λ r. ⌜ r ≡ badOrigin len origin ⌝ }
 {

@@ -8,8 +8,8 @@ ghost use Rattle.numbers.specs.Windows.{windowOf};
 // * `i` - the number of the cell, counted from 0; its window starts at place i.
 // * `len` - how many cells the window has.
 //
-// Where i + len passes the end of the line (or 2^64), the empty part at the line's start. Refuses nothing.
-// The window of cell 1 of length 2 of 7 1 2 3 7 is 1 2.
+// Where i + len passes the end of the line (or 2^64), the empty part at the line's start. The window of cell 1 of
+// length 2 of 7 1 2 3 7 is 1 2.
 pub fn window(line: &[i64], i: usize, len: usize) -> &[i64]
     ensures { λ r. ⌜ now r ≡ windowOf (now (line .entry)) i len ⌝ }
 {

@@ -48,7 +48,18 @@ returns-9 : tie.Need-returns-9
 unfolding paddingOf
 returns-9 c =
     let a = c .before .before .before .before .before .before .before .before .args in
-    rw (ne-eqb (a .code) 0 (c .before .before .before .before .before .before .before .if1 .left), ne-eqb (a .code) 2 (c .before .before .before .before .before .before .if2 .left), ne-eqb (a .code) 3 (c .before .before .before .before .before .if3 .left), ne-eqb (a .code) 4 (c .before .before .before .before .if4 .left), ne-eqb (a .code) 5 (c .before .before .before .if5 .left), ne-eqb (a .code) 6 (c .before .before .if6 .left), ne-eqb (a .code) 7 (c .before .if7 .left), ne-eqb (a .code) 8 (c .if8 .left)) refl
+    rw (
+      ne-eqb (a .code) 0 (c .before .before .before .before .before .before .before .if1 .left),
+      ne-eqb (a .code) 2 (c .before .before .before .before .before .before .if2 .left),
+      ne-eqb (a .code) 3
+          (c .before .before .before .before .before .if3 .left),
+      ne-eqb (a .code) 4 (c .before .before .before .before .if4 .left),
+      ne-eqb (a .code) 5 (c .before .before .before .if5 .left),
+      ne-eqb
+          (a .code) 6 (c .before .before .if6 .left),
+      ne-eqb (a .code) 7 (c .before .if7 .left),
+      ne-eqb (a .code) 8 (c .if8 .left),
+    ) refl
 
 pub pad-mode-of-spec : {M : Type 1} → statement M
 pad-mode-of-spec = tie.close (tie.spec returns returns-2 returns-3 returns-4 returns-5 returns-6 returns-7 returns-8 returns-9)

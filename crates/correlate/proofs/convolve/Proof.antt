@@ -19,11 +19,14 @@ use Rattle.correlate.proofs.convolve.Statement.{statement}
 use Rattle.correlate.proofs.convolve.Tie as tie
 
 -- the judge's number
-judged : (c : tie.After-judge-kernel) → let s = c .before .before .before in c .judge-kernel .result ≡ refusalOf (kernelJudged true (borderOf (s .args .mode)) (s .args .origin) (now (s .args .sides)) (now (s .args .weights)) (now (s .args .shape)) (now (s .args .«data»)) (length (now (s .args .out))))
+judged : (c : tie.After-judge-kernel) → let s = c .before .before .before in c .judge-kernel .result
+    ≡ refusalOf (kernelJudged true (borderOf (s .args .mode)) (s .args .origin) (now (s .args .sides)) (now (s .args .weights)) (now (s .args .shape)) (now (s .args .«data»))
+    (length (now (s .args .out))))
 judged c =
     let s = c .before .before .before in
     let e : toZ w64 (ofZ w64 (s .args .origin)) ≡ s .args .origin = search needs in
-    c .judge-kernel .ensures ∙ ap (λ (o : ℤ). refusalOf (kernelJudged true (borderOf (s .args .mode)) o (now (s .args .sides)) (now (s .args .weights)) (now (s .args .shape)) (now (s .args .«data»)) (length (now (s .args .out))))) e
+    c .judge-kernel .ensures ∙ ap (λ (o : ℤ). refusalOf (kernelJudged true (borderOf (s .args .mode)) o (now (s .args .sides)) (now (s .args .weights)) (now (s .args .shape)) (now (s .args .«data»))
+    (length (now (s .args .out))))) e
 
 judge-kernel-requires : tie.Need-judge-kernel-requires
 judge-kernel-requires c κs = search needs
@@ -32,7 +35,8 @@ returns : tie.Need-returns
 returns c = answers-refused _ _ _ _ (judged (c .before)) (c .if1 .taken)
 
 array-borrow-prefix-reversed : tie.Need-array-borrow-prefix-reversed
-array-borrow-prefix-reversed c = let s = c .before .before .before .before in passed true (borderOf (s .args .mode)) (s .args .origin) (now (s .args .sides)) (now (s .args .weights)) (now (s .args .shape)) (now (s .args .«data»)) (length (now (s .args .out))) (sym (judged (c .before)) ∙ c .if1 .left) .equal .few
+array-borrow-prefix-reversed c = let s = c .before .before .before .before in passed true (borderOf (s .args .mode)) (s .args .origin) (now (s .args .sides)) (now (s .args .weights))
+    (now (s .args .shape)) (now (s .args .«data»)) (length (now (s .args .out))) (sym (judged (c .before)) ∙ c .if1 .left) .equal .few
 
 slice-aggregate-convolve-cells : tie.Need-slice-aggregate-convolve-cells
 slice-aggregate-convolve-cells c = sym (length-take-le _ _ (array-borrow-prefix-reversed (c .before)))
@@ -40,8 +44,11 @@ slice-aggregate-convolve-cells c = sym (length-take-le _ _ (array-borrow-prefix-
 convolve-cells-requires : tie.Need-convolve-cells-requires
 convolve-cells-requires c κs =
     let s = c .before .before .before .before .before .before in
-    let e : toZ w64 (ofZ w64 (s .args .origin)) ≡ s .args .origin = search needs in
-    (ap (λ (o : ℤ). refusalOf (kernelJudged true (borderOf (s .args .mode)) o (now (s .args .sides)) (now (s .args .weights)) (now (s .args .shape)) (now (s .args .«data»)) (length (now (s .args .out))))) e ∙ sym (judged (c .before .before .before)) ∙ c .before .before .if1 .left, sym (slice-aggregate-convolve-cells (c .before)))
+    let e : toZ w64 (ofZ w64 (s .args .origin)) ≡ s .args .origin = search needs in (
+      ap (λ (o : ℤ). refusalOf (kernelJudged true (borderOf (s .args .mode)) o (now (s .args .sides)) (now (s .args .weights)) (now (s .args .shape)) (now (s .args .«data»))
+          (length (now (s .args .out))))) e ∙ sym (judged (c .before .before .before)) ∙ c .before .before .if1 .left,
+      sym (slice-aggregate-convolve-cells (c .before)),
+    )
 
 same-length : tie.Need-same-length
 same-length c = search needs
@@ -51,7 +58,8 @@ returns-2 c =
     let s = c .before .before .before .before .before .before .before .before .before in
     let e : toZ w64 (ofZ w64 (s .args .origin)) ≡ s .args .origin = search needs in
     answers-accepted _ _ _ _ (judged (c .before .before .before .before .before .before)) (c .before .before .before .before .before .if1 .left)
-    (c .before .before .convolve-cells .ensures ∙ ap (λ (o : ℤ). convolveZ (borderOf (s .args .mode)) o (now (s .args .sides)) (now (s .args .weights)) (now (s .args .shape)) (now (s .args .«data»))) e)
+    (c .before .before .convolve-cells .ensures ∙ ap (λ (o : ℤ). convolveZ (borderOf (s .args .mode)) o (now (s .args .sides)) (now (s .args .weights)) (now (s .args .shape)) (now (s .args .«data»)))
+    e)
 
 pub convolve-spec : {M : Type 1} → statement M
 convolve-spec =

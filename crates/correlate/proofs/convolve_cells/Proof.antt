@@ -16,11 +16,14 @@ use borrow.Author.Needs.{needs}
 use Rattle.correlate.proofs.convolve_cells.Statement.{statement}
 use Rattle.correlate.proofs.convolve_cells.Tie as tie
 
-accepted : (s : tie.Start) → Passed true (borderOf (s .args .mode)) (s .args .origin) (now (s .args .sides)) (now (s .args .weights)) (now (s .args .shape)) (now (s .args .«data»)) (length (now (s .args .out)))
-accepted s = passed true (borderOf (s .args .mode)) (s .args .origin) (now (s .args .sides)) (now (s .args .weights)) (now (s .args .shape)) (now (s .args .«data»)) (length (now (s .args .out))) (s .pre .0)
+accepted : (s : tie.Start) → Passed true (borderOf (s .args .mode)) (s .args .origin) (now (s .args .sides)) (now (s .args .weights)) (now (s .args .shape)) (now (s .args .«data»))
+    (length (now (s .args .out)))
+accepted s = passed true (borderOf (s .args .mode)) (s .args .origin) (now (s .args .sides)) (now (s .args .weights)) (now (s .args .shape)) (now (s .args .«data»)) (length (now (s .args .out)))
+    (s .pre .0)
 
 -- the origin as it is applied
-origin-is : (c : tie.After-applied-origin) → let s = c .before .before .before .before .before .before .before in toZ w64 (ofZ w64 (c .applied-origin .result)) ≡ changedOrigin (sideOf (now (s .args .sides))) (s .args .origin)
+origin-is : (c : tie.After-applied-origin) → let s = c .before .before .before .before .before .before .before in toZ w64 (ofZ w64 (c .applied-origin .result))
+    ≡ changedOrigin (sideOf (now (s .args .sides))) (s .args .origin)
 origin-is c =
     let s = c .before .before .before .before .before .before .before in
     let e : toZ w64 (ofZ w64 (s .args .origin)) ≡ s .args .origin = search needs in
@@ -40,7 +43,8 @@ applied-origin-requires c κs =
     (λ j. badOrigin (c .len-of .ensures j) (e j)) ∙ accepted s .origin
 
 sum-windows-requires : tie.Need-sum-windows-requires
-sum-windows-requires c κs = let s = c .before .before .before .before .before .before .before .before .before in suits-as (now (s .args .out)) (accepted s) (c .before .before .before .len-of .ensures) (origin-is (c .before .before)) (c .before .before .before .before .before .reverse .ensures)
+sum-windows-requires c κs = let s = c .before .before .before .before .before .before .before .before .before in suits-as (now (s .args .out)) (accepted s) (c .before .before .before .len-of .ensures)
+    (origin-is (c .before .before)) (c .before .before .before .before .before .reverse .ensures)
 
 same-length : tie.Need-same-length
 same-length c = search needs
@@ -54,7 +58,8 @@ returns c =
     let side = c .before .before .before .before .before .len-of .ensures in
     let weights = c .before .before .before .before .before .before .before .reverse .ensures in
     c .before .sum-windows .ensures
-    ∙ (λ j. kernelAnswer (borderOf (s .args .mode)) (kernelLeft (side j) (origin-is (c .before .before .before .before) j)) (sidesOf (now (s .args .shape)) (side j)) (weights j) (now (s .args .shape)) (now (s .args .«data»)))
+    ∙ (λ j. kernelAnswer (borderOf (s .args .mode)) (kernelLeft (side j) (origin-is (c .before .before .before .before) j)) (sidesOf (now (s .args .shape)) (side j)) (weights j) (now (s .args .shape))
+    (now (s .args .«data»)))
     ∙ own-sides (now (s .args .out)) (accepted s) (kernelLeft (sideOf (now (s .args .sides))) (changedOrigin (sideOf (now (s .args .sides))) (s .args .origin))) (reverse (now (s .args .weights)))
 
 pub convolve-cells-spec : {M : Type 1} → statement M

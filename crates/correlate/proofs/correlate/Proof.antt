@@ -19,15 +19,20 @@ use Rattle.correlate.proofs.correlate.Statement.{statement}
 use Rattle.correlate.proofs.correlate.Tie as tie
 
 -- the judge's number
-judged : (c : tie.After-judge-kernel) → let s = c .before .before .before in c .judge-kernel .result ≡ refusalOf (kernelJudged false (borderOf (s .args .mode)) (s .args .origin) (now (s .args .sides)) (now (s .args .weights)) (now (s .args .shape)) (now (s .args .«data»)) (length (now (s .args .out))))
+judged : (c : tie.After-judge-kernel) → let s = c .before .before .before in c .judge-kernel .result
+    ≡ refusalOf (kernelJudged false (borderOf (s .args .mode)) (s .args .origin) (now (s .args .sides)) (now (s .args .weights)) (now (s .args .shape)) (now (s .args .«data»))
+    (length (now (s .args .out))))
 judged c =
     let s = c .before .before .before in
     let e : toZ w64 (ofZ w64 (s .args .origin)) ≡ s .args .origin = search needs in
-    c .judge-kernel .ensures ∙ ap (λ (o : ℤ). refusalOf (kernelJudged false (borderOf (s .args .mode)) o (now (s .args .sides)) (now (s .args .weights)) (now (s .args .shape)) (now (s .args .«data»)) (length (now (s .args .out))))) e
+    c .judge-kernel .ensures ∙ ap (λ (o : ℤ). refusalOf (kernelJudged false (borderOf (s .args .mode)) o (now (s .args .sides)) (now (s .args .weights)) (now (s .args .shape)) (now (s .args .«data»))
+    (length (now (s .args .out))))) e
 
 -- an accepted call
-accepted : (c : tie.Else1) → let s = c .before .before .before .before in Passed false (borderOf (s .args .mode)) (s .args .origin) (now (s .args .sides)) (now (s .args .weights)) (now (s .args .shape)) (now (s .args .«data»)) (length (now (s .args .out)))
-accepted c = let s = c .before .before .before .before in passed false (borderOf (s .args .mode)) (s .args .origin) (now (s .args .sides)) (now (s .args .weights)) (now (s .args .shape)) (now (s .args .«data»)) (length (now (s .args .out))) (sym (judged (c .before)) ∙ c .if1 .left)
+accepted : (c : tie.Else1) → let s = c .before .before .before .before in Passed false (borderOf (s .args .mode)) (s .args .origin) (now (s .args .sides)) (now (s .args .weights))
+    (now (s .args .shape)) (now (s .args .«data»)) (length (now (s .args .out)))
+accepted c = let s = c .before .before .before .before in passed false (borderOf (s .args .mode)) (s .args .origin) (now (s .args .sides)) (now (s .args .weights)) (now (s .args .shape))
+    (now (s .args .«data»)) (length (now (s .args .out))) (sym (judged (c .before)) ∙ c .if1 .left)
 
 judge-kernel-requires : tie.Need-judge-kernel-requires
 judge-kernel-requires c κs = search needs

@@ -24,10 +24,12 @@ checked c =
 
 -- the pads that it gives
 left-given : (c : tie.After-left) → let a = c .before .before .before .before .args in c .left .given .0 .0 ≡ kernelLeft (a .side) (a .origin)
-left-given c = let s = c .before .before .before .before in left-is (s .args .side) (s .args .side / 2) (s .args .side / 2) (s .args .origin) (s .pre .0) (checked (c .before .before)) (c .left .given .1)
+left-given c = let s = c .before .before .before .before in left-is (s .args .side) (s .args .side / 2) (s .args .side / 2) (s .args .origin) (s .pre .0) (checked (c .before .before))
+    (c .left .given .1)
 
 right-given : (c : tie.After-left) → let a = c .before .before .before .before .args in c .left .given .0 .1 .0 ≡ kernelRight (a .side) (a .origin)
-right-given c = let s = c .before .before .before .before in right-is (s .args .side) (s .args .side / 2) (s .args .side / 2) (s .args .origin) (s .pre .0) (checked (c .before .before)) (c .left .given .1)
+right-given c = let s = c .before .before .before .before in right-is (s .args .side) (s .args .side / 2) (s .args .side / 2) (s .args .origin) (s .pre .0) (checked (c .before .before))
+    (c .left .given .1)
 
 kernel-origin-check-requires : tie.Need-kernel-origin-check-requires
 kernel-origin-check-requires c κs = search needs
@@ -55,7 +57,8 @@ same-length c = search needs
 returns-2 : tie.Need-returns-2
 returns-2 c =
     let a = c .before .before .before .before .before .before .before .before .args in
-    c .before .correlate-cells .ensures ∙ ap (λ (l : ℕ). kernelAnswer (borderOf (a .mode)) l (sidesOf (now (a .shape)) (a .side)) (now (a .weights)) (now (a .shape)) (now (a .«data»))) (left-given (c .before .before .before .before))
+    c .before .correlate-cells .ensures ∙ ap (λ (l : ℕ). kernelAnswer (borderOf (a .mode)) l (sidesOf (now (a .shape)) (a .side)) (now (a .weights)) (now (a .shape)) (now (a .«data»)))
+    (left-given (c .before .before .before .before))
 
 pub sum-windows-spec : {M : Type 1} → statement M
 sum-windows-spec =

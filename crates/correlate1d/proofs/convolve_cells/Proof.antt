@@ -22,7 +22,8 @@ use Rattle.correlate1d.proofs.convolve_cells.Statement.{statement}
 use Rattle.correlate1d.proofs.convolve_cells.Tie as tie
 
 -- the origin as it is applied
-origin-is : (c : tie.After-applied-origin) → let s = c .before .before .before .before .before .before in toZ w64 (ofZ w64 (c .applied-origin .result)) ≡ changedOrigin (length (now (s .args .weights))) (s .args .origin)
+origin-is : (c : tie.After-applied-origin) → let s = c .before .before .before .before .before .before in toZ w64 (ofZ w64 (c .applied-origin .result))
+    ≡ changedOrigin (length (now (s .args .weights))) (s .args .origin)
 origin-is c =
     let s = c .before .before .before .before .before .before in
     let e : toZ w64 (ofZ w64 (s .args .origin)) ≡ s .args .origin = search needs in
@@ -35,7 +36,8 @@ shared-slice-copy-out-scale c = search needs
 scale-requires : tie.Need-scale-requires
 scale-requires c κs =
     let s = c .before .before .before .before in
-    scales-read (now (s .args .out)) (passed true (borderOf (s .args .mode)) (s .args .origin) (now (s .args .weights)) (now (s .args .shape)) (s .args .axis) (now (s .args .«data»)) (length (now (s .args .out))) (s .pre .0))
+    scales-read (now (s .args .out)) (passed true (borderOf (s .args .mode)) (s .args .origin) (now (s .args .weights)) (now (s .args .shape)) (s .args .axis) (now (s .args .«data»))
+    (length (now (s .args .out))) (s .pre .0))
 
 same-length : tie.Need-same-length
 same-length c = search needs
@@ -43,8 +45,10 @@ same-length c = search needs
 returns : tie.Need-returns
 returns c =
     let s = c .before .before .before .before .before .before in
-    scaled-cells (now (s .args .out)) (passed true (borderOf (s .args .mode)) (s .args .origin) (now (s .args .weights)) (now (s .args .shape)) (s .args .axis) (now (s .args .«data»)) (length (now (s .args .out))) (s .pre .0)) (c .before .scale .ensures)
-    ∙ one-convolved wholeOps (borderOf (s .args .mode)) (λ w. NonSymmetric) (changedOrigin (length (now (s .args .weights))) (s .args .origin)) (now (s .args .weights)) (now (s .args .shape)) (s .args .axis) (now (s .args .«data»)) (c .before .before .before .before .if1 .taken)
+    scaled-cells (now (s .args .out)) (passed true (borderOf (s .args .mode)) (s .args .origin) (now (s .args .weights)) (now (s .args .shape)) (s .args .axis) (now (s .args .«data»))
+    (length (now (s .args .out))) (s .pre .0)) (c .before .scale .ensures)
+    ∙ one-convolved wholeOps (borderOf (s .args .mode)) (λ w. NonSymmetric) (changedOrigin (length (now (s .args .weights))) (s .args .origin)) (now (s .args .weights)) (now (s .args .shape))
+    (s .args .axis) (now (s .args .«data»)) (c .before .before .before .before .if1 .taken)
 
 reverse-requires : tie.Need-reverse-requires
 reverse-requires c κs = search needs
@@ -53,12 +57,15 @@ applied-origin-requires : tie.Need-applied-origin-requires
 applied-origin-requires c κs =
     let s = c .before .before .before .before .before in
     let e : toZ w64 (ofZ w64 (s .args .origin)) ≡ s .args .origin = search needs in
-    ap (badOrigin (length (now (s .args .weights)))) e ∙ origin-accepted _ (s .args .origin) (c .before .before .before .if1 .left) (passed true (borderOf (s .args .mode)) (s .args .origin) (now (s .args .weights)) (now (s .args .shape)) (s .args .axis) (now (s .args .«data»)) (length (now (s .args .out))) (s .pre .0) .origin)
+    ap (badOrigin (length (now (s .args .weights)))) e ∙ origin-accepted _ (s .args .origin) (c .before .before .before .if1 .left)
+    (passed true (borderOf (s .args .mode)) (s .args .origin) (now (s .args .weights)) (now (s .args .shape)) (s .args .axis) (now (s .args .«data»)) (length (now (s .args .out))) (s .pre .0)
+    .origin)
 
 weigh-requires : tie.Need-weigh-requires
 weigh-requires c κs =
     let s = c .before .before .before .before .before .before .before .before in
-    weighs-as (weighs-accepted (now (s .args .out)) (passed true (borderOf (s .args .mode)) (s .args .origin) (now (s .args .weights)) (now (s .args .shape)) (s .args .axis) (now (s .args .«data»)) (length (now (s .args .out))) (s .pre .0)) (c .before .before .before .before .before .before .if1 .left)) (origin-is (c .before .before)) (c .before .before .before .before .reverse .ensures)
+    weighs-as (weighs-accepted (now (s .args .out)) (passed true (borderOf (s .args .mode)) (s .args .origin) (now (s .args .weights)) (now (s .args .shape)) (s .args .axis) (now (s .args .«data»))
+    (length (now (s .args .out))) (s .pre .0)) (c .before .before .before .before .before .before .if1 .left)) (origin-is (c .before .before)) (c .before .before .before .before .reverse .ensures)
 
 same-length-2 : tie.Need-same-length-2
 same-length-2 c = search needs
@@ -69,7 +76,8 @@ same-length-3 c = search needs
 returns-2 : tie.Need-returns-2
 returns-2 c =
     let s = c .before .before .before .before .before .before .before .before .before .before in
-    c .before .weigh .ensures ∙ (λ j. correlate1dZ (borderOf (s .args .mode)) (origin-is (c .before .before .before .before) j) (c .before .before .before .before .before .before .reverse .ensures j) (now (s .args .shape)) (s .args .axis) (now (s .args .«data»)))
+    c .before .weigh .ensures ∙ (λ j. correlate1dZ (borderOf (s .args .mode)) (origin-is (c .before .before .before .before) j) (c .before .before .before .before .before .before .reverse .ensures j)
+    (now (s .args .shape)) (s .args .axis) (now (s .args .«data»)))
 
 pub convolve-cells-spec : {M : Type 1} → statement M
 convolve-cells-spec =

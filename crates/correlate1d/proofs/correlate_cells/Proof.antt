@@ -25,7 +25,8 @@ shared-slice-copy-out-scale c = search needs
 scale-requires : tie.Need-scale-requires
 scale-requires c κs =
     let s = c .before .before .before .before in
-    scales-read (now (s .args .out)) (passed false (borderOf (s .args .mode)) (s .args .origin) (now (s .args .weights)) (now (s .args .shape)) (s .args .axis) (now (s .args .«data»)) (length (now (s .args .out))) (s .pre))
+    scales-read (now (s .args .out)) (passed false (borderOf (s .args .mode)) (s .args .origin) (now (s .args .weights)) (now (s .args .shape)) (s .args .axis) (now (s .args .«data»))
+    (length (now (s .args .out))) (s .pre))
 
 same-length : tie.Need-same-length
 same-length c = search needs
@@ -33,7 +34,8 @@ same-length c = search needs
 returns : tie.Need-returns
 returns c =
     let s = c .before .before .before .before .before .before in
-    scaled-cells (now (s .args .out)) (passed false (borderOf (s .args .mode)) (s .args .origin) (now (s .args .weights)) (now (s .args .shape)) (s .args .axis) (now (s .args .«data»)) (length (now (s .args .out))) (s .pre)) (c .before .scale .ensures)
+    scaled-cells (now (s .args .out)) (passed false (borderOf (s .args .mode)) (s .args .origin) (now (s .args .weights)) (now (s .args .shape)) (s .args .axis) (now (s .args .«data»))
+    (length (now (s .args .out))) (s .pre)) (c .before .scale .ensures)
     ∙ one-weight wholeOps (borderOf (s .args .mode)) NonSymmetric (s .args .origin) _ (now (s .args .shape)) (s .args .axis) _ (c .before .before .before .before .if1 .taken)
 
 weigh-requires : tie.Need-weigh-requires
@@ -41,7 +43,8 @@ weigh-requires c κs =
     let s = c .before .before .before in
     let e : toZ w64 (ofZ w64 (s .args .origin)) ≡ s .args .origin = search needs in
     subst (λ (o : ℤ). WeighNeeds (borderOf (s .args .mode)) (now (s .args .shape)) (s .args .axis) o (now (s .args .weights)) (now (s .args .«data»)) (now (s .args .out))) (sym e)
-    (weighs-accepted (now (s .args .out)) (passed false (borderOf (s .args .mode)) (s .args .origin) (now (s .args .weights)) (now (s .args .shape)) (s .args .axis) (now (s .args .«data»)) (length (now (s .args .out))) (s .pre)) (c .before .if1 .left))
+    (weighs-accepted (now (s .args .out)) (passed false (borderOf (s .args .mode)) (s .args .origin) (now (s .args .weights)) (now (s .args .shape)) (s .args .axis) (now (s .args .«data»))
+    (length (now (s .args .out))) (s .pre)) (c .before .if1 .left))
 
 same-length-2 : tie.Need-same-length-2
 same-length-2 c = search needs

@@ -19,11 +19,14 @@ use Rattle.correlate1d_f64.proofs.convolve1d_f64.Statement.{statement}
 use Rattle.correlate1d_f64.proofs.convolve1d_f64.Tie as tie
 
 -- the judge's number
-judged : (c : tie.After-judge-correlate-f64) → let s = c .before .before .before .before .before in c .judge-correlate-f64 .result ≡ refusalOf (correlateJudgedF true (borderOfF64 (s .args .mode)) (s .args .origin) (now (s .args .weights)) (now (s .args .shape)) (s .args .axis) (now (s .args .«data»)) (length (now (s .args .out))))
+judged : (c : tie.After-judge-correlate-f64) → let s = c .before .before .before .before .before in c .judge-correlate-f64 .result
+    ≡ refusalOf (correlateJudgedF true (borderOfF64 (s .args .mode)) (s .args .origin) (now (s .args .weights)) (now (s .args .shape)) (s .args .axis) (now (s .args .«data»))
+    (length (now (s .args .out))))
 judged c =
     let s = c .before .before .before .before .before in
     let e : toZ w64 (ofZ w64 (s .args .origin)) ≡ s .args .origin = search needs in
-    c .judge-correlate-f64 .ensures ∙ ap (λ (o : ℤ). refusalOf (correlateJudgedF true (borderOfF64 (s .args .mode)) o (now (s .args .weights)) (now (s .args .shape)) (s .args .axis) (now (s .args .«data»)) (length (now (s .args .out))))) e
+    c .judge-correlate-f64 .ensures ∙ ap (λ (o : ℤ). refusalOf (correlateJudgedF true (borderOfF64 (s .args .mode)) o (now (s .args .weights)) (now (s .args .shape)) (s .args .axis)
+    (now (s .args .«data»)) (length (now (s .args .out))))) e
 
 judge-correlate-f64-requires : tie.Need-judge-correlate-f64-requires
 judge-correlate-f64-requires c κs = search needs
@@ -34,7 +37,8 @@ returns c = answers-refused _ _ _ _ (judged (c .before)) (c .if1 .taken)
 array-borrow-prefix-reversed : tie.Need-array-borrow-prefix-reversed
 array-borrow-prefix-reversed c =
     let s = c .before .before .before .before .before .before in
-    passed-float true (borderOfF64 (s .args .mode)) (s .args .origin) (now (s .args .weights)) (now (s .args .shape)) (s .args .axis) (now (s .args .«data»)) (length (now (s .args .out))) (sym (judged (c .before)) ∙ c .if1 .left) .few
+    passed-float true (borderOfF64 (s .args .mode)) (s .args .origin) (now (s .args .weights)) (now (s .args .shape)) (s .args .axis) (now (s .args .«data»)) (length (now (s .args .out)))
+    (sym (judged (c .before)) ∙ c .if1 .left) .few
 
 slice-aggregate-convolve-cells : tie.Need-slice-aggregate-convolve-cells
 slice-aggregate-convolve-cells c = sym (length-take-le _ _ (array-borrow-prefix-reversed (c .before)))
@@ -42,8 +46,11 @@ slice-aggregate-convolve-cells c = sym (length-take-le _ _ (array-borrow-prefix-
 convolve-cells-requires : tie.Need-convolve-cells-requires
 convolve-cells-requires c κs =
     let s = c .before .before .before .before .before .before .before .before in
-    let e : toZ w64 (ofZ w64 (s .args .origin)) ≡ s .args .origin = search needs in
-    (ap (λ (o : ℤ). refusalOf (correlateJudgedF true (borderOfF64 (s .args .mode)) o (now (s .args .weights)) (now (s .args .shape)) (s .args .axis) (now (s .args .«data»)) (length (now (s .args .out))))) e ∙ sym (judged (c .before .before .before)) ∙ c .before .before .if1 .left, sym (slice-aggregate-convolve-cells (c .before)))
+    let e : toZ w64 (ofZ w64 (s .args .origin)) ≡ s .args .origin = search needs in (
+      ap (λ (o : ℤ). refusalOf (correlateJudgedF true (borderOfF64 (s .args .mode)) o (now (s .args .weights)) (now (s .args .shape)) (s .args .axis) (now (s .args .«data»))
+          (length (now (s .args .out))))) e ∙ sym (judged (c .before .before .before)) ∙ c .before .before .if1 .left,
+      sym (slice-aggregate-convolve-cells (c .before)),
+    )
 
 same-length : tie.Need-same-length
 same-length c = search needs
@@ -52,7 +59,9 @@ returns-2 : tie.Need-returns-2
 returns-2 c =
     let s = c .before .before .before .before .before .before .before .before .before .before .before .before in
     let e : toZ w64 (ofZ w64 (s .args .origin)) ≡ s .args .origin = search needs in
-    answers-accepted _ _ _ _ (judged (c .before .before .before .before .before .before .before)) (c .before .before .before .before .before .before .if1 .left) (c .before .before .before .convolve-cells .ensures ∙ ap (λ (o : ℤ). convolve1dF (borderOfF64 (s .args .mode)) o (now (s .args .weights)) (now (s .args .shape)) (s .args .axis) (now (s .args .«data»))) e)
+    answers-accepted _ _ _ _ (judged (c .before .before .before .before .before .before .before)) (c .before .before .before .before .before .before .if1 .left)
+    (c .before .before .before .convolve-cells .ensures ∙ ap (λ (o : ℤ). convolve1dF (borderOfF64 (s .args .mode)) o (now (s .args .weights)) (now (s .args .shape)) (s .args .axis)
+    (now (s .args .«data»))) e)
 
 pub convolve1d-f64-spec : {M : Type 1} → statement M
 convolve1d-f64-spec =

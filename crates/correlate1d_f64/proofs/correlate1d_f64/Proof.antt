@@ -17,11 +17,14 @@ use Rattle.correlate1d_f64.proofs.correlate1d_f64.Statement.{statement}
 use Rattle.correlate1d_f64.proofs.correlate1d_f64.Tie as tie
 
 -- the judge's number
-judged : (c : tie.After-judge-correlate-f64) → let s = c .before .before .before .before .before in c .judge-correlate-f64 .result ≡ refusalOf (correlateJudgedF false (borderOfF64 (s .args .mode)) (s .args .origin) (now (s .args .weights)) (now (s .args .shape)) (s .args .axis) (now (s .args .«data»)) (length (now (s .args .out))))
+judged : (c : tie.After-judge-correlate-f64) → let s = c .before .before .before .before .before in c .judge-correlate-f64 .result
+    ≡ refusalOf (correlateJudgedF false (borderOfF64 (s .args .mode)) (s .args .origin) (now (s .args .weights)) (now (s .args .shape)) (s .args .axis) (now (s .args .«data»))
+    (length (now (s .args .out))))
 judged c =
     let s = c .before .before .before .before .before in
     let e : toZ w64 (ofZ w64 (s .args .origin)) ≡ s .args .origin = search needs in
-    c .judge-correlate-f64 .ensures ∙ ap (λ (o : ℤ). refusalOf (correlateJudgedF false (borderOfF64 (s .args .mode)) o (now (s .args .weights)) (now (s .args .shape)) (s .args .axis) (now (s .args .«data»)) (length (now (s .args .out))))) e
+    c .judge-correlate-f64 .ensures ∙ ap (λ (o : ℤ). refusalOf (correlateJudgedF false (borderOfF64 (s .args .mode)) o (now (s .args .weights)) (now (s .args .shape)) (s .args .axis)
+    (now (s .args .«data»)) (length (now (s .args .out))))) e
 
 judge-correlate-f64-requires : tie.Need-judge-correlate-f64-requires
 judge-correlate-f64-requires c κs = search needs
@@ -33,7 +36,8 @@ correlate-cells-requires : tie.Need-correlate-cells-requires
 correlate-cells-requires c κs =
     let s = c .before .before .before .before .before .before .before in
     let e : toZ w64 (ofZ w64 (s .args .origin)) ≡ s .args .origin = search needs in
-    ap (λ (o : ℤ). refusalOf (correlateJudgedF false (borderOfF64 (s .args .mode)) o (now (s .args .weights)) (now (s .args .shape)) (s .args .axis) (now (s .args .«data»)) (length (now (s .args .out))))) e ∙ sym (judged (c .before .before)) ∙ c .before .if1 .left
+    ap (λ (o : ℤ). refusalOf (correlateJudgedF false (borderOfF64 (s .args .mode)) o (now (s .args .weights)) (now (s .args .shape)) (s .args .axis) (now (s .args .«data»))
+    (length (now (s .args .out))))) e ∙ sym (judged (c .before .before)) ∙ c .before .if1 .left
 
 same-length : tie.Need-same-length
 same-length c = search needs
@@ -42,7 +46,9 @@ returns-2 : tie.Need-returns-2
 returns-2 c =
     let s = c .before .before .before .before .before .before .before .before .before .before in
     let e : toZ w64 (ofZ w64 (s .args .origin)) ≡ s .args .origin = search needs in
-    answers-accepted _ _ _ _ (judged (c .before .before .before .before .before)) (c .before .before .before .before .if1 .left) (c .before .before .correlate-cells .ensures ∙ ap (λ (o : ℤ). correlate1dF (borderOfF64 (s .args .mode)) o (now (s .args .weights)) (now (s .args .shape)) (s .args .axis) (now (s .args .«data»))) e)
+    answers-accepted _ _ _ _ (judged (c .before .before .before .before .before)) (c .before .before .before .before .if1 .left)
+    (c .before .before .correlate-cells .ensures ∙ ap (λ (o : ℤ). correlate1dF (borderOfF64 (s .args .mode)) o (now (s .args .weights)) (now (s .args .shape)) (s .args .axis)
+    (now (s .args .«data»))) e)
 
 pub correlate1d-f64-spec : {M : Type 1} → statement M
 correlate1d-f64-spec =

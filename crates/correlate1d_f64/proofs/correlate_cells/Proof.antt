@@ -25,7 +25,8 @@ shared-slice-read-scale c = search needs
 scale-requires : tie.Need-scale-requires
 scale-requires c κs =
     let s = c .before .before .before .before .before .before .before in
-    lent-same (passed-float false (borderOfF64 (s .args .mode)) (s .args .origin) (now (s .args .weights)) (now (s .args .shape)) (s .args .axis) (now (s .args .«data»)) (length (now (s .args .out))) (s .pre) .grid)
+    lent-same (passed-float false (borderOfF64 (s .args .mode)) (s .args .origin) (now (s .args .weights)) (now (s .args .shape)) (s .args .axis) (now (s .args .«data»)) (length (now (s .args .out)))
+    (s .pre) .grid)
 
 same-length : tie.Need-same-length
 same-length c = search needs
@@ -34,13 +35,15 @@ returns : tie.Need-returns
 returns c =
     let s = c .before .before .before .before .before .before .before .before .before .before in
     c .before .before .scale .ensures
-    ∙ one-weight floatOps (borderOfF64 (s .args .mode)) (classF (now (s .args .weights))) (s .args .origin) (now (s .args .weights)) (now (s .args .shape)) (s .args .axis) (now (s .args .«data»)) (c .before .before .before .before .before .if1 .taken)
+    ∙ one-weight floatOps (borderOfF64 (s .args .mode)) (classF (now (s .args .weights))) (s .args .origin) (now (s .args .weights)) (now (s .args .shape)) (s .args .axis) (now (s .args .«data»))
+    (c .before .before .before .before .before .if1 .taken)
 
 weigh-requires : tie.Need-weigh-requires
 weigh-requires c κs =
     let s = c .before .before .before .before .before .before in
     let e : toZ w64 (ofZ w64 (s .args .origin)) ≡ s .args .origin = search needs in
-    placed-as (placed-accepted (now (s .args .out)) (passed-float false (borderOfF64 (s .args .mode)) (s .args .origin) (now (s .args .weights)) (now (s .args .shape)) (s .args .axis) (now (s .args .«data»)) (length (now (s .args .out))) (s .pre)) (c .before .if1 .left)) e refl
+    placed-as (placed-accepted (now (s .args .out)) (passed-float false (borderOfF64 (s .args .mode)) (s .args .origin) (now (s .args .weights)) (now (s .args .shape)) (s .args .axis)
+    (now (s .args .«data»)) (length (now (s .args .out))) (s .pre)) (c .before .if1 .left)) e refl
 
 same-length-2 : tie.Need-same-length-2
 same-length-2 c = search needs

@@ -30,8 +30,10 @@ checked c =
     c .origin-check .ensures .pads ∙ ap (originPads n (n / 2) (n - n / 2 - 1)) e
 
 -- the pads that it gives
-given : (c : tie.After-left) → let s = c .before .before .before .before .before .before .before in PadsAre _ (s .args .origin) (two-weights (s .pre)) (window-origin (s .pre)) (checked (c .before .before)) (c .left .given .0 .0) (c .left .given .0 .1 .0)
-given c = let s = c .before .before .before .before .before .before .before in pads-are _ (s .args .origin) (two-weights (s .pre)) (window-origin (s .pre)) (checked (c .before .before)) (c .left .given .1)
+given : (c : tie.After-left) → let s = c .before .before .before .before .before .before .before in PadsAre _ (s .args .origin) (two-weights (s .pre)) (window-origin (s .pre))
+    (checked (c .before .before)) (c .left .given .0 .0) (c .left .given .0 .1 .0)
+given c = let s = c .before .before .before .before .before .before .before in pads-are _ (s .args .origin) (two-weights (s .pre)) (window-origin (s .pre)) (checked (c .before .before))
+    (c .left .given .1)
 
 origin-check-requires : tie.Need-origin-check-requires
 origin-check-requires c κs = search needs
@@ -64,7 +66,8 @@ returns-2 c =
     let s = c .before .before .before .before .before .before .before .before .before .before .before .before .before in
     let G = given (c .before .before .before .before .before .before) in
     weighed-answer (s .pre) (G .left) (G .right) floatOps (classF (now (s .args .weights))) (c .before .before .correlate-axis-f64 .ensures
-    ∙ ap (λ (k : SymmetryState). alongAxis nan (correlatedLine floatOps k (borderOfF64 (s .args .mode)) (c .before .before .before .before .before .before .left .given .0 .0) (c .before .before .before .before .before .before .left .given .0 .1 .0) (now (s .args .weights))) (now (s .args .shape)) (s .args .axis) (now (s .args .«data»)))
+    ∙ ap (λ (k : SymmetryState). alongAxis nan (correlatedLine floatOps k (borderOfF64 (s .args .mode)) (c .before .before .before .before .before .before .left .given .0 .0)
+    (c .before .before .before .before .before .before .left .given .0 .1 .0) (now (s .args .weights))) (now (s .args .shape)) (s .args .axis) (now (s .args .«data»)))
     (c .before .before .before .before .symmetry-state-f64 .ensures))
 
 pub weigh-spec : {M : Type 1} → statement M

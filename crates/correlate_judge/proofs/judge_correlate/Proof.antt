@@ -19,7 +19,8 @@ use Rattle.correlate_judge.proofs.judge_correlate.Tie as tie
 
 -- the conditions after the grid's own
 abbrev rest : tie.Start → Judged
-rest s = drop 3 (correlateJudged (s .args .convolution) (borderOf (s .args .mode)) (s .args .origin) (now (s .args .weights)) (now (s .args .shape)) (s .args .axis) (now (s .args .«data»)) (s .args .out))
+rest s = drop 3 (correlateJudged (s .args .convolution) (borderOf (s .args .mode)) (s .args .origin) (now (s .args .weights)) (now (s .args .shape)) (s .args .axis) (now (s .args .«data»))
+    (s .args .out))
 
 slice-aggregate-judge-grid : tie.Need-slice-aggregate-judge-grid
 slice-aggregate-judge-grid c = search needs
@@ -28,7 +29,8 @@ judge-grid-requires : tie.Need-judge-grid-requires
 judge-grid-requires c κs = search needs
 
 returns : tie.Need-returns
-returns c = let s = c .before .before .before .before in grid-refused badLevel (now (s .args .shape)) (now (s .args .«data»)) (s .args .out ∷ []) (rest s) (c .before .judge-grid .ensures) (c .if1 .taken)
+returns c = let s = c .before .before .before .before in grid-refused badLevel (now (s .args .shape)) (now (s .args .«data»)) (s .args .out ∷ []) (rest s) (c .before .judge-grid .ensures)
+    (c .if1 .taken)
 
 bad-weights-requires : tie.Need-bad-weights-requires
 bad-weights-requires c κs = search needs
@@ -49,7 +51,8 @@ returns-2 c =
     let g = c .before .before .before .before .judge-grid .ensures in
     let b = borderOf (s .args .mode) in
     let w = now (s .args .weights) in
-    grid-ends badLevel (now (s .args .shape)) (now (s .args .«data»)) (s .args .out ∷ []) (weightsJudged badWeight w ++ placeJudged badLevel (s .args .convolution) b (s .args .origin) (length w) (now (s .args .shape)) (s .args .axis))
+    grid-ends badLevel (now (s .args .shape)) (now (s .args .«data»)) (s .args .out ∷ []) (weightsJudged badWeight w
+    ++ placeJudged badLevel (s .args .convolution) b (s .args .origin) (length w) (now (s .args .shape)) (s .args .axis))
     (badCorrelateSums (s .args .convolution) b (s .args .origin) w (now (s .args .shape)) (s .args .axis) (now (s .args .«data»))) 12 (tt, (tt, (tt, (tt, (tt, (tt, tt)))))) g z
     (weighed badWeight badLevel (s .args .convolution) b w (now (s .args .shape)) (s .args .axis) b weights-bad constant-bad (λ n pad. refl) e (c .judge-weighing .ensures))
     (λ G p. no-bad-sums (s .args .convolution) b (s .args .origin) w (now (s .args .shape)) (s .args .axis) (now (s .args .«data»)) (G .levels) (p .0) (p .1 .0) (p .1 .1 .1 .1 .0))

@@ -20,7 +20,8 @@ use Rattle.correlate_judge.proofs.judge_correlate_f64.Tie as tie
 
 -- the conditions after the grid's own
 abbrev rest : tie.Start → Judged
-rest s = drop 3 (correlateJudgedF (s .args .convolution) (borderOfF64 (s .args .mode)) (s .args .origin) (now (s .args .weights)) (now (s .args .shape)) (s .args .axis) (now (s .args .«data»)) (s .args .out))
+rest s = drop 3 (correlateJudgedF (s .args .convolution) (borderOfF64 (s .args .mode)) (s .args .origin) (now (s .args .weights)) (now (s .args .shape)) (s .args .axis) (now (s .args .«data»))
+    (s .args .out))
 
 slice-aggregate-judge-grid-f64 : tie.Need-slice-aggregate-judge-grid-f64
 slice-aggregate-judge-grid-f64 c = search needs
@@ -29,7 +30,8 @@ judge-grid-f64-requires : tie.Need-judge-grid-f64-requires
 judge-grid-f64-requires c κs = search needs
 
 returns : tie.Need-returns
-returns c = let s = c .before .before .before .before .before .before in grid-refused badFloat (now (s .args .shape)) (now (s .args .«data»)) (s .args .out ∷ []) (rest s) (c .before .judge-grid-f64 .ensures) (c .if1 .taken)
+returns c = let s = c .before .before .before .before .before .before in grid-refused badFloat (now (s .args .shape)) (now (s .args .«data»)) (s .args .out ∷ []) (rest s)
+    (c .before .judge-grid-f64 .ensures) (c .if1 .taken)
 
 bad-levels-f64-requires : tie.Need-bad-levels-f64-requires
 bad-levels-f64-requires c κs = search needs
@@ -56,7 +58,8 @@ returns-2 c =
     let z = c .before .before .before .before .if1 .left in
     let g = c .before .before .before .before .before .judge-grid-f64 .ensures in
     grid-accepted badFloat (now (s .args .shape)) (now (s .args .«data»)) (s .args .out ∷ []) (rest s) g z
-    (weighed badFloat badFloat (s .args .convolution) (borderOfF64 (s .args .mode)) (now (s .args .weights)) (now (s .args .shape)) (s .args .axis) (borderOf (c .before .kind-of .result)) weights-bad constant-bad (same-pads (c .before)) e (c .judge-weighing .ensures))
+    (weighed badFloat badFloat (s .args .convolution) (borderOfF64 (s .args .mode)) (now (s .args .weights)) (now (s .args .shape)) (s .args .axis) (borderOf (c .before .kind-of .result)) weights-bad
+    constant-bad (same-pads (c .before)) e (c .judge-weighing .ensures))
 
 pub judge-correlate-f64-spec : {M : Type 1} → statement M
 judge-correlate-f64-spec =

@@ -33,7 +33,8 @@ origin-in c = condition-is (origin-told (c .before)) (c .if3 .left)
 axis-in : (c : tie.Else4) → let a = c .before .before .before .before .before .before .before .before .args in badAxis (now (a .shape)) (a .axis) ≡ false
 axis-in c = condition-is (c .before .bad-axis .ensures) (c .if4 .left)
 
-reached : (c : tie.After-bad-applied-reach) → let a = c .before .before .before .before .before .before .before .before .before .before .before .args in c .bad-applied-reach .result ≡ badReach (borderOf (a .mode)) (a .len) (appliedOrigin (a .convolution) (a .len) (a .origin)) (lengthOf (now (a .shape)) (a .axis))
+reached : (c : tie.After-bad-applied-reach) → let a = c .before .before .before .before .before .before .before .before .before .before .before .args in c .bad-applied-reach .result
+    ≡ badReach (borderOf (a .mode)) (a .len) (appliedOrigin (a .convolution) (a .len) (a .origin)) (lengthOf (now (a .shape)) (a .axis))
 reached c =
     let s = c .before .before .before .before .before .before .before .before .before .before .before in
     c .bad-applied-reach .ensures ∙ (λ j. badReach (borderOf (s .args .mode)) (s .args .len) (appliedOrigin (s .args .convolution) (s .args .len) (same-origin s j)) (c .before .len-of .ensures j))
@@ -57,22 +58,52 @@ bad-axis-requires : tie.Need-bad-axis-requires
 bad-axis-requires c κs = search needs
 
 returns-4 : tie.Need-returns-4
-returns-4 c = simp (size-in (c .before .before .before .before .before), c .before .before .before .before .if2 .left, origin-in (c .before .before), condition-is (c .before .bad-axis .ensures) (c .if4 .taken)) refl
+returns-4 c = simp (
+  size-in (c .before .before .before .before .before),
+  c .before .before .before .before .if2 .left,
+  origin-in (c .before .before),
+  condition-is (c .before .bad-axis .ensures)
+      (c .if4 .taken),
+) refl
 
 returns-5 : tie.Need-returns-5
-returns-5 c = simp (size-in (c .before .before .before .before .before .before), c .before .before .before .before .before .if2 .left, origin-in (c .before .before .before), axis-in (c .before), c .if5 .taken) refl
+returns-5 c = simp (
+  size-in (c .before .before .before .before .before .before),
+  c .before .before .before .before .before .if2 .left,
+  origin-in (c .before .before .before),
+  axis-in (c .before),
+  c
+      .if5 .taken,
+) refl
 
 len-of-requires : tie.Need-len-of-requires
 len-of-requires c κs = search needs
 
 bad-applied-reach-requires : tie.Need-bad-applied-reach-requires
-bad-applied-reach-requires c κs = let s = c .before .before .before .before .before .before .before .before .before .before in ap (badWindowOrigin (s .args .len)) (same-origin s) ∙ origin-in (c .before .before .before .before)
+bad-applied-reach-requires c κs = let s = c .before .before .before .before .before .before .before .before .before .before in ap (badWindowOrigin (s .args .len)) (same-origin s)
+    ∙ origin-in (c .before .before .before .before)
 
 returns-6 : tie.Need-returns-6
-returns-6 c = simp (size-in (c .before .before .before .before .before .before .before .before .before), c .before .before .before .before .before .before .before .before .if2 .left, origin-in (c .before .before .before .before .before .before), axis-in (c .before .before .before .before), c .before .before .before .if5 .left, condition-is (reached (c .before)) (c .if6 .taken)) refl
+returns-6 c = simp (
+  size-in (c .before .before .before .before .before .before .before .before .before),
+  c .before .before .before .before .before .before .before .before .if2 .left,
+  origin-in
+      (c .before .before .before .before .before .before),
+  axis-in (c .before .before .before .before),
+  c .before .before .before .if5 .left,
+  condition-is (reached (c .before)) (c .if6 .taken),
+) refl
 
 returns-7 : tie.Need-returns-7
-returns-7 c = simp (size-in (c .before .before .before .before .before .before .before .before .before), c .before .before .before .before .before .before .before .before .if2 .left, origin-in (c .before .before .before .before .before .before), axis-in (c .before .before .before .before), c .before .before .before .if5 .left, condition-is (reached (c .before)) (c .if6 .left)) refl
+returns-7 c = simp (
+  size-in (c .before .before .before .before .before .before .before .before .before),
+  c .before .before .before .before .before .before .before .before .if2 .left,
+  origin-in
+      (c .before .before .before .before .before .before),
+  axis-in (c .before .before .before .before),
+  c .before .before .before .if5 .left,
+  condition-is (reached (c .before)) (c .if6 .left),
+) refl
 
 pub judge-weighing-spec : {M : Type 1} → statement M
 judge-weighing-spec =

@@ -71,7 +71,8 @@ same-length c = row-length (c .before .loop2 .inv .2) ∙ row-length (c .before 
 returns : tie.Need-returns Inv-loop μ-loop Inv-loop2 μ-loop2
 returns c =
     let s = c .before .before .before .before .before .before .before .before .before .before .before in
-    plain-end floatOps (now (s .args .weights)) (now (s .args .line)) (c .before .loop2 .inv .2) (omega arith) (row-length (c .before .before .before .loop .inv .2) ∙ c .before .before .before .before .before .before .start-rows .kept .1 .1 .0)
+    plain-end floatOps (now (s .args .weights)) (now (s .args .line)) (c .before .loop2 .inv .2) (omega arith)
+    (row-length (c .before .before .before .loop .inv .2) ∙ c .before .before .before .before .before .before .start-rows .kept .1 .1 .0)
 
 pub plain-line-spec : {M : Type 1} → statement M
 plain-line-spec =

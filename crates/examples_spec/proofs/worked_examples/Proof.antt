@@ -40,7 +40,8 @@ unfolding tabulate placeOf coordinate cellsAround trueAround medianAnswer
 eight a b c d e f g h = ap (λ n. replicate 8 (ltb 3 n)) (together (one a) (one b) (one c) (one d) (one e) (one f) (one g) (one h))
 
 examples : WorkedExamples
-unfolding tabulate windowOf badShape gridCount badLevel placeOf coordinate laneAt alongAxis cellFor extendedLane allInside extendedGrid badOrigin paddedAt paddedLine inserted sorted medianOf levelTo paddedGrid firstIn lastIn numberOf gridNumber answerOf after run summed correlatedBy kernelSum kernelAnswer gradientTo
+unfolding tabulate windowOf badShape gridCount badLevel placeOf coordinate laneAt alongAxis cellFor extendedLane allInside extendedGrid badOrigin paddedAt paddedLine inserted sorted medianOf levelTo
+    paddedGrid firstIn lastIn numberOf gridNumber answerOf after run summed correlatedBy kernelSum kernelAnswer gradientTo
 examples = record { t1 = refl; t2 = refl; t3 = refl; t4 = refl; t5 = refl; t6 = refl; t7 = refl; t8 = refl; t9 = eight; t10 = refl }
 
 order-of-axes-requires : tie.Need-order-of-axes-requires

@@ -15,7 +15,8 @@ use Rattle.gradient.proofs.filter.Statement.{statement}
 use Rattle.gradient.proofs.filter.Tie as tie
 
 -- the judge's number, by these weights
-judged : (c : tie.After-judge-gradient) → let a = c .before .before .args in c .judge-gradient .result ≡ refusalOf (gradientJudged (now (a .smooth)) (borderOf (a .mode)) (now (a .shape)) (a .axis) (now (a .«data»)) (length (now (a .out))) (length (now (a .second))))
+judged : (c : tie.After-judge-gradient) → let a = c .before .before .args in c .judge-gradient .result
+    ≡ refusalOf (gradientJudged (now (a .smooth)) (borderOf (a .mode)) (now (a .shape)) (a .axis) (now (a .«data»)) (length (now (a .out))) (length (now (a .second))))
 judged c = let s = c .before .before in c .judge-gradient .ensures (now (s .args .smooth)) (s .pre)
 
 judge-gradient-requires : tie.Need-judge-gradient-requires

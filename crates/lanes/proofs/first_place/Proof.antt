@@ -24,10 +24,12 @@ returns-4 : tie.Need-returns-4
 returns-4 c = let a = c .before .before .before .before .args in sym (cond-no _ _ _ (inside-no (a .n) (a .stride) (a .lane) (a .count) (λ I. omega arith)))
 
 returns-5 : tie.Need-returns-5
-returns-5 c = let a = c .before .before .before .before .before .args in sym (cond-no _ _ _ (inside-no (a .n) (a .stride) (a .lane) (a .count) (λ I. omega (arith, mul-le-mul (le-refl (a .n - 1)) (I .apart)))))
+returns-5 c = let a = c .before .before .before .before .before .args in sym (cond-no _ _ _
+    (inside-no (a .n) (a .stride) (a .lane) (a .count) (λ I. omega (arith, mul-le-mul (le-refl (a .n - 1)) (I .apart)))))
 
 returns-6 : tie.Need-returns-6
-returns-6 c = let a = c .before .before .before .before .before .before .args in sym (cond-no _ _ _ (inside-no (a .n) (a .stride) (a .lane) (a .count) (λ I. omega (arith, base-over (a .n) (a .stride) (a .lane) (I .some)))))
+returns-6 c = let a = c .before .before .before .before .before .before .args in sym (cond-no _ _ _
+    (inside-no (a .n) (a .stride) (a .lane) (a .count) (λ I. omega (arith, base-over (a .n) (a .stride) (a .lane) (I .some)))))
 
 base-of-requires : tie.Need-base-of-requires
 base-of-requires c κs = (omega arith, omega arith, omega arith, omega arith)

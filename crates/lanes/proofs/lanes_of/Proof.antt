@@ -39,7 +39,8 @@ div-t7 : tie.Need-div-t7
 div-t7 c =
     let ns = now (c .before .before .before .before .before .args .shape) in
     let a = c .before .before .before .before .before .args .axis in
-    subst (λ (n : ℕ). 0 < n) (sym (c .before .len-of .ensures)) (length-pos ns a (shape-accepted ns (accepted ns _ (c .before .before .before .cell-count .ensures) (c .before .before .if1 .left)) .full))
+    subst (λ (n : ℕ). 0 < n) (sym (c .before .len-of .ensures)) (length-pos ns a (shape-accepted ns (accepted ns _ (c .before .before .before .cell-count .ensures) (c .before .before .if1 .left))
+    .full))
 
 returns-2 : tie.Need-returns-2
 returns-2 c =

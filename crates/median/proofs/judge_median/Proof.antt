@@ -24,10 +24,20 @@ bad-single-requires : tie.Need-bad-single-requires
 bad-single-requires c κs = search needs
 
 returns-3 : tie.Need-returns-3
-returns-3 c = simp (condition-is (c .before .before .before .before .before .before .bad-axes .ensures) (c .before .before .before .before .before .if1 .left), condition-is (c .before .before .before .bad-lengths .ensures) (c .before .before .if2 .left), condition-is (c .before .bad-single .ensures) (c .if3 .taken))
+returns-3 c = simp (
+  condition-is (c .before .before .before .before .before .before .bad-axes .ensures) (c .before .before .before .before .before .if1 .left),
+  condition-is
+      (c .before .before .before .bad-lengths .ensures) (c .before .before .if2 .left),
+  condition-is (c .before .bad-single .ensures) (c .if3 .taken),
+)
 
 returns-4 : tie.Need-returns-4
-returns-4 c = simp (condition-is (c .before .before .before .before .before .before .bad-axes .ensures) (c .before .before .before .before .before .if1 .left), condition-is (c .before .before .before .bad-lengths .ensures) (c .before .before .if2 .left), condition-is (c .before .bad-single .ensures) (c .if3 .left))
+returns-4 c = simp (
+  condition-is (c .before .before .before .before .before .before .bad-axes .ensures) (c .before .before .before .before .before .if1 .left),
+  condition-is
+      (c .before .before .before .bad-lengths .ensures) (c .before .before .if2 .left),
+  condition-is (c .before .bad-single .ensures) (c .if3 .left),
+)
 
 pub judge-median-spec : {M : Type 1} → statement M
 judge-median-spec =

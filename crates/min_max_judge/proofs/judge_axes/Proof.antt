@@ -29,7 +29,8 @@ taken c = window-taken (c .before .before .before .args .size) (same-origin (c .
 constant-in : (c : tie.Else2) → badConstantBy badLevel (borderOf (c .before .before .before .before .before .args .mode)) ≡ false
 constant-in c = condition-is (c .before .bad-constant .ensures) (c .if2 .left)
 
-reached : (c : tie.After-bad-reach-any) → let a = c .before .before .before .before .before .before .args in c .bad-reach-any .result ≡ anyOf (badReach (borderOf (a .mode)) (a .size) (a .origin)) (now (a .shape))
+reached : (c : tie.After-bad-reach-any) → let a = c .before .before .before .before .before .before .args in c .bad-reach-any .result
+    ≡ anyOf (badReach (borderOf (a .mode)) (a .size) (a .origin)) (now (a .shape))
 reached c =
     let s = c .before .before .before .before .before .before in
     c .bad-reach-any .ensures ∙ ap (λ (o : ℤ). anyOf (badReach (borderOf (s .args .mode)) (s .args .size) o) (now (s .args .shape))) (same-origin s)

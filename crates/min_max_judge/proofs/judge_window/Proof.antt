@@ -33,7 +33,8 @@ axis-in c = condition-is (c .before .bad-axis .ensures) (c .if2 .left)
 constant-in : (c : tie.Else3) → badConstantBy badLevel (borderOf (c .before .before .before .before .before .before .before .args .mode)) ≡ false
 constant-in c = condition-is (c .before .bad-constant .ensures) (c .if3 .left)
 
-reached : (c : tie.After-bad-reach) → let a = c .before .before .before .before .before .before .before .before .before .args in c .bad-reach .result ≡ badReach (borderOf (a .mode)) (a .size) (a .origin) (lengthOf (now (a .shape)) (a .axis))
+reached : (c : tie.After-bad-reach) → let a = c .before .before .before .before .before .before .before .before .before .args in c .bad-reach .result
+    ≡ badReach (borderOf (a .mode)) (a .size) (a .origin) (lengthOf (now (a .shape)) (a .axis))
 reached c =
     let s = c .before .before .before .before .before .before .before .before .before in
     c .bad-reach .ensures ∙ (λ j. badReach (borderOf (s .args .mode)) (s .args .size) (same-origin s j) (c .before .len-of .ensures j))
@@ -44,7 +45,8 @@ judge-size-requires c κs = search needs
 returns : tie.Need-returns
 returns c =
     let s = c .before .before .before in
-    window-stops (s .args .size) (same-origin s) (c .before .judge-size .ensures) (windowJudged (callOf (now (s .args .shape)) (s .args .size) (s .args .axis) (s .args .mode) (s .args .origin) [])) (c .if1 .taken)
+    window-stops (s .args .size) (same-origin s) (c .before .judge-size .ensures) (windowJudged (callOf (now (s .args .shape)) (s .args .size) (s .args .axis) (s .args .mode) (s .args .origin) []))
+    (c .if1 .taken)
 
 bad-axis-requires : tie.Need-bad-axis-requires
 bad-axis-requires c κs = search needs
@@ -62,13 +64,16 @@ len-of-requires : tie.Need-len-of-requires
 len-of-requires c κs = search needs
 
 bad-reach-requires : tie.Need-bad-reach-requires
-bad-reach-requires c κs = window-taken (c .before .before .before .before .before .before .before .before .args .size) refl (c .before .before .before .before .before .before .judge-size .ensures) (c .before .before .before .before .before .if1 .left) .origin-in
+bad-reach-requires c κs = window-taken (c .before .before .before .before .before .before .before .before .args .size) refl (c .before .before .before .before .before .before .judge-size .ensures)
+    (c .before .before .before .before .before .if1 .left) .origin-in
 
 returns-4 : tie.Need-returns-4
-returns-4 c = let W = taken (c .before .before .before .before .before .before .before) in simp (W .size-in, W .origin-in, axis-in (c .before .before .before .before .before), constant-in (c .before .before .before), condition-is (reached (c .before)) (c .if4 .taken)) refl
+returns-4 c = let W = taken (c .before .before .before .before .before .before .before) in simp
+    (W .size-in, W .origin-in, axis-in (c .before .before .before .before .before), constant-in (c .before .before .before), condition-is (reached (c .before)) (c .if4 .taken)) refl
 
 returns-5 : tie.Need-returns-5
-returns-5 c = let W = taken (c .before .before .before .before .before .before .before) in simp (W .size-in, W .origin-in, axis-in (c .before .before .before .before .before), constant-in (c .before .before .before), condition-is (reached (c .before)) (c .if4 .left)) refl
+returns-5 c = let W = taken (c .before .before .before .before .before .before .before) in simp
+    (W .size-in, W .origin-in, axis-in (c .before .before .before .before .before), constant-in (c .before .before .before), condition-is (reached (c .before)) (c .if4 .left)) refl
 
 pub judge-window-spec : {M : Type 1} → statement M
 judge-window-spec =

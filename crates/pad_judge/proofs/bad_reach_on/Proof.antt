@@ -18,7 +18,8 @@ bad-pad-requires c κs = search needs
 returns : tie.Need-returns
 returns c =
     let a = c .before .before .before .before .before .args in
-    reach-left (a .mode) (now (a .shape)) (a .pads) (a .count) (a .axis) (c .before .before .before .len-of .ensures) (c .before .before .pair-of .ensures) (c .before .bad-pad .ensures) (c .if1 .taken)
+    reach-left (a .mode) (now (a .shape)) (a .pads) (a .count) (a .axis) (c .before .before .before .len-of .ensures) (c .before .before .pair-of .ensures) (c .before .bad-pad .ensures)
+    (c .if1 .taken)
 
 bad-pad-requires-2 : tie.Need-bad-pad-requires-2
 bad-pad-requires-2 c κs = search needs
@@ -26,7 +27,8 @@ bad-pad-requires-2 c κs = search needs
 returns-2 : tie.Need-returns-2
 returns-2 c =
     let a = c .before .before .before .before .before .before .args in
-    reach-right (a .mode) (now (a .shape)) (a .pads) (a .count) (a .axis) (c .before .before .before .before .len-of .ensures) (c .before .before .before .pair-of .ensures) (c .before .before .bad-pad .ensures) (c .before .if1 .left) (c .bad-pad2 .ensures)
+    reach-right (a .mode) (now (a .shape)) (a .pads) (a .count) (a .axis) (c .before .before .before .before .len-of .ensures) (c .before .before .before .pair-of .ensures)
+    (c .before .before .bad-pad .ensures) (c .before .if1 .left) (c .bad-pad2 .ensures)
 
 pub bad-reach-on-spec : {M : Type 1} → statement M
 bad-reach-on-spec =

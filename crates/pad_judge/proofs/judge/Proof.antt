@@ -55,7 +55,12 @@ bad-reach-requires c κs = search needs
 returns-4 : tie.Need-returns-4
 returns-4 c =
     judged-on (c .before .before .before .before .before .before)
-    (simp (condition-is (c .before .before .before .before .before .bad-constant .ensures) (c .before .before .before .before .if2 .left), condition-is (c .before .before .before .bad-pads .ensures) (c .before .before .if3 .left), condition-is (c .before .bad-reach .ensures) (c .if4 .taken)))
+    (simp (
+      condition-is (c .before .before .before .before .before .bad-constant .ensures) (c .before .before .before .before .if2 .left),
+      condition-is (c .before .before .before .bad-pads .ensures)
+          (c .before .before .if3 .left),
+      condition-is (c .before .bad-reach .ensures) (c .if4 .taken),
+    ))
 
 returns-5 : tie.Need-returns-5
 returns-5 c =
@@ -63,7 +68,13 @@ returns-5 c =
     let G = grid-in (c .before .before .before .before .before .before) in
     let k = condition-is (c .before .before .before .before .before .bad-constant .ensures) (c .before .before .before .before .if2 .left) in
     judged-on (c .before .before .before .before .before .before)
-    (simp (k, condition-is (c .before .before .before .bad-pads .ensures) (c .before .before .if3 .left), condition-is (c .before .bad-reach .ensures) (c .if4 .left), no-bad-sums (a .mode) (now (a .shape)) (a .pads) (a .count) (now (a .«data»)) (G .shape) (G .levels) k))
+    (simp (
+      k,
+      condition-is (c .before .before .before .bad-pads .ensures) (c .before .before .if3 .left),
+      condition-is (c .before .bad-reach .ensures) (c .if4 .left),
+      no-bad-sums (a .mode)
+          (now (a .shape)) (a .pads) (a .count) (now (a .«data»)) (G .shape) (G .levels) k,
+    ))
 
 pub judge-spec : {M : Type 1} → statement M
 judge-spec =

@@ -24,10 +24,12 @@ first-place-requires : tie.Need-first-place-requires
 first-place-requires c κs = search needs
 
 returns-4 : tie.Need-returns-4
-returns-4 c = let a = c .before .before .before .before .before .args in lane-out (a .n) (a .stride) (a .lane) (a .count) _ (c .before .first-place .ensures) (c .if4 .taken) (leb (a .left + a .n + a .right) (a .room))
+returns-4 c = let a = c .before .before .before .before .before .args in lane-out (a .n) (a .stride) (a .lane) (a .count) _ (c .before .first-place .ensures) (c .if4 .taken)
+    (leb (a .left + a .n + a .right) (a .room))
 
 returns-5 : tie.Need-returns-5
-returns-5 c = let a = c .before .before .before .before .before .args in lane-in (a .n) (a .stride) (a .lane) (a .count) _ (c .before .first-place .ensures) (c .if4 .left) (a .left + a .n + a .right) (a .room) (omega arith)
+returns-5 c = let a = c .before .before .before .before .before .args in lane-in (a .n) (a .stride) (a .lane) (a .count) _ (c .before .first-place .ensures) (c .if4 .left) (a .left + a .n + a .right)
+    (a .room) (omega arith)
 
 pub lane-fits-spec : {M : Type 1} → statement M
 lane-fits-spec =

@@ -14,22 +14,26 @@ bad-pad-requires : tie.Need-bad-pad-requires
 bad-pad-requires c κs = search needs
 
 returns : tie.Need-returns
-returns c = let a = c .before .before .args in bad-left-stays (pos 0) (borderOf (a .mode)) (a .n) (a .stride) (a .lane) (a .left) (a .right) (now (a .grid)) (now (a .line)) (c .before .bad-pad .ensures) (c .if1 .taken)
+returns c = let a = c .before .before .args in bad-left-stays (pos 0) (borderOf (a .mode)) (a .n) (a .stride) (a .lane) (a .left) (a .right) (now (a .grid)) (now (a .line))
+    (c .before .bad-pad .ensures) (c .if1 .taken)
 
 bad-pad-requires-2 : tie.Need-bad-pad-requires-2
 bad-pad-requires-2 c κs = search needs
 
 returns-2 : tie.Need-returns-2
-returns-2 c = let a = c .before .before .before .before .args in bad-right-stays (pos 0) (borderOf (a .mode)) (a .n) (a .stride) (a .lane) (a .left) (a .right) (now (a .grid)) (now (a .line)) (c .before .bad-pad2 .ensures) (c .if2 .taken)
+returns-2 c = let a = c .before .before .before .before .args in bad-right-stays (pos 0) (borderOf (a .mode)) (a .n) (a .stride) (a .lane) (a .left) (a .right) (now (a .grid)) (now (a .line))
+    (c .before .bad-pad2 .ensures) (c .if2 .taken)
 
 lane-fits-requires : tie.Need-lane-fits-requires
 lane-fits-requires c κs = search needs
 
 returns-3 : tie.Need-returns-3
-returns-3 c = let a = c .before .before .before .before .before .before .args in lane-stays (pos 0) (borderOf (a .mode)) (a .n) (a .stride) (a .lane) (a .left) (a .right) (now (a .grid)) (now (a .line)) (c .before .lane-fits .ensures) (not-true _ (c .if3 .taken))
+returns-3 c = let a = c .before .before .before .before .before .before .args in lane-stays (pos 0) (borderOf (a .mode)) (a .n) (a .stride) (a .lane) (a .left) (a .right) (now (a .grid))
+    (now (a .line)) (c .before .lane-fits .ensures) (not-true _ (c .if3 .taken))
 
 -- every test has passed
-served : (c : tie.Else3) → let a = c .before .before .before .before .before .before .args in Serves (borderOf (a .mode)) (a .n) (a .stride) (a .lane) (a .left) (a .right) (now (a .grid)) (now (a .line))
+served : (c : tie.Else3) → let a = c .before .before .before .before .before .before .args in Serves (borderOf (a .mode)) (a .n) (a .stride) (a .lane) (a .left) (a .right) (now (a .grid))
+    (now (a .line))
 served c = record {
   fits = condition-is (c .before .lane-fits .ensures) (not-false _ (c .if3 .left));
   fills-left = condition-is (c .before .before .before .before .before .bad-pad .ensures) (c .before .before .before .before .if1 .left);

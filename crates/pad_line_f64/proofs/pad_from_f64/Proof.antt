@@ -34,7 +34,8 @@ same-length : tie.Need-same-length
 same-length c = search needs
 
 returns : tie.Need-returns
-returns c = line-padded nan (c .before .before .before .before .before .before .before .before .before .before .pre) (c .before .before .before .before .before .before .read-from-f64 .ensures) (c .before .before .extend-f64 .ensures)
+returns c = line-padded nan (c .before .before .before .before .before .before .before .before .before .before .pre) (c .before .before .before .before .before .before .read-from-f64 .ensures)
+    (c .before .before .extend-f64 .ensures)
 
 pub pad-from-f64-spec : {M : Type 1} → statement M
 pad-from-f64-spec =

@@ -52,7 +52,8 @@ same-length-3 c = search needs
 returns-2 : tie.Need-returns-2
 returns-2 c =
     let s = c .before .before .before .before .before .before .before .before .before .before in
-    two-passes (step s) (now (s .args .«data»)) (c .before .before .before .before .before .before .before .if2 .taken) (c .before .before .before .before .before .pass2 .ensures) (c .before .pass3 .ensures)
+    two-passes (step s) (now (s .args .«data»)) (c .before .before .before .before .before .before .before .if2 .taken) (c .before .before .before .before .before .pass2 .ensures)
+    (c .before .pass3 .ensures)
 
 pass-requires-4 : tie.Need-pass-requires-4
 pass-requires-4 c κs = let F = accepted (c .before .before .before .before) in pass-accepted F (between-input F) (F .grid .lengths .0) (omega (arith, three (c .before)))
@@ -66,7 +67,8 @@ pass-requires-6 : tie.Need-pass-requires-6
 pass-requires-6 c κs =
     let F = accepted (c .before .before .before .before .before .before .before .before .before .before .before .before) in
     let p = c .before .before .before .before .before .before .before .pass4 in
-    pass-accepted F (between-pass F _ (between-pass F _ (between-input F) (p .ensures)) (c .before .before .before .pass5 .ensures)) (p .kept .1 .1 .1 .1 .1 .0 ∙ F .grid .lengths .0) (omega (arith, three (c .before .before .before .before .before .before .before .before .before)))
+    pass-accepted F (between-pass F _ (between-pass F _ (between-input F) (p .ensures)) (c .before .before .before .pass5 .ensures)) (p .kept .1 .1 .1 .1 .1 .0 ∙ F .grid .lengths .0)
+    (omega (arith, three (c .before .before .before .before .before .before .before .before .before)))
 
 same-length-4 : tie.Need-same-length-4
 same-length-4 c = search needs
@@ -77,7 +79,8 @@ same-length-5 c = search needs
 returns-3 : tie.Need-returns-3
 returns-3 c =
     let s = c .before .before .before .before .before .before .before .before .before .before .before .before .before .before in
-    three-passes (step s) (now (s .args .«data»)) (three (c .before .before .before .before .before .before .before .before .before .before .before)) (c .before .before .before .before .before .before .before .before .before .pass4 .ensures) (c .before .before .before .before .before .pass5 .ensures) (c .before .pass6 .ensures)
+    three-passes (step s) (now (s .args .«data»)) (three (c .before .before .before .before .before .before .before .before .before .before .before))
+    (c .before .before .before .before .before .before .before .before .before .pass4 .ensures) (c .before .before .before .before .before .pass5 .ensures) (c .before .pass6 .ensures)
 
 pub passes-spec : {M : Type 1} → statement M
 passes-spec =

@@ -22,12 +22,14 @@ bad-levels-requires c κs = search needs
 returns-2 : tie.Need-returns-2
 returns-2 c =
     let a = c .before .before .before .before .before .before .args in
-    level-refused badLevel (now (a .shape)) (now (a .«data»)) (now (a .lent)) (c .before .before .before .judge-lengths .ensures) (c .before .before .if1 .left) (condition-is (c .before .bad-levels .ensures) (c .if2 .taken))
+    level-refused badLevel (now (a .shape)) (now (a .«data»)) (now (a .lent)) (c .before .before .before .judge-lengths .ensures) (c .before .before .if1 .left)
+    (condition-is (c .before .bad-levels .ensures) (c .if2 .taken))
 
 returns-3 : tie.Need-returns-3
 returns-3 c =
     let a = c .before .before .before .before .before .before .args in
-    levels-accepted badLevel (now (a .shape)) (now (a .«data»)) (now (a .lent)) (c .before .before .before .judge-lengths .ensures) (c .before .before .if1 .left) (condition-is (c .before .bad-levels .ensures) (c .if2 .left))
+    levels-accepted badLevel (now (a .shape)) (now (a .«data»)) (now (a .lent)) (c .before .before .before .judge-lengths .ensures) (c .before .before .if1 .left)
+    (condition-is (c .before .bad-levels .ensures) (c .if2 .left))
 
 pub judge-grid-spec : {M : Type 1} → statement M
 judge-grid-spec =

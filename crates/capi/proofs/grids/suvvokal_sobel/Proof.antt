@@ -24,7 +24,8 @@ returns c =
     let a = c .before .before .before .before .before .args in
     let k : toZ w64 (ofZ w64 (a .constant)) ≡ a .constant = search needs in
     let m = rw k at (c .before .before .before .mode-of .ensures) in
-    scratch-unknown (pos 0) _ 4 _ (tt, (tt, (tt, (tt, (tt, (tt, (tt, tt))))))) (c .before .before .if1 .taken) (rw m at (c .before .judge-gradient .ensures sobelWeights (record { three = refl; small = refl }))) (c .unknown-after .ensures)
+    scratch-unknown (pos 0) _ 4 _ (tt, (tt, (tt, (tt, (tt, (tt, (tt, tt))))))) (c .before .before .if1 .taken)
+    (rw m at (c .before .judge-gradient .ensures sobelWeights (record { three = refl; small = refl }))) (c .unknown-after .ensures)
 
 sobel-requires : tie.Need-sobel-requires
 sobel-requires c κs = search needs

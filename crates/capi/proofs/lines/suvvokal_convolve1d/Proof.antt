@@ -23,7 +23,8 @@ returns c =
     let k : toZ w64 (ofZ w64 (a .constant)) ≡ a .constant = search needs in
     let o : toZ w64 (ofZ w64 (a .origin)) ≡ a .origin = search needs in
     let m = rw k at (c .before .before .before .mode-of .ensures) in
-    answers-unknown _ 4 _ (tt, (tt, (tt, (tt, (tt, (tt, (tt, (tt, (tt, (tt, tt)))))))))) (c .before .before .if1 .taken) (rw (m, o) at (c .before .judge-correlate .ensures)) (c .unknown-after .ensures)
+    answers-unknown _ 4 _ (tt, (tt, (tt, (tt, (tt, (tt, (tt, (tt, (tt, (tt, tt)))))))))) (c .before .before .if1 .taken) (rw (m, o) at (c .before .judge-correlate .ensures))
+    (c .unknown-after .ensures)
 
 convolve1d-requires : tie.Need-convolve1d-requires
 convolve1d-requires c κs = search needs

@@ -50,8 +50,12 @@ loop-less c = search needs
 
 loop-again : tie.Need-loop-again Inv-loop μ-loop
 loop-again c =
-    let l = c .before .before .loop in
-    (search needs, l .inv .1, front-more (pos 0) _ _ (omega (arith, l .inv .1)) (l .inv .2) (read (c .v .given) (ap (λ n. getD (now (c .before .before .before .args .weights)) (n - 1 - l .i) (pos 0)) (l .inv .1))))
+    let l = c .before .before .loop in (
+      search needs,
+      l .inv .1,
+      front-more (pos 0) _ _ (omega (arith, l .inv .1)) (l .inv .2)
+          (read (c .v .given) (ap (λ n. getD (now (c .before .before .before .args .weights)) (n - 1 - l .i) (pos 0)) (l .inv .1))),
+    )
 
 same-length : tie.Need-same-length Inv-loop μ-loop
 same-length c = c .before .loop .inv .2 .kept

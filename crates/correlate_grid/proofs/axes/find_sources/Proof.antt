@@ -27,7 +27,8 @@ same-length c = search needs
 
 returns : tie.Need-returns
 returns c = let s = c .before .before .before .before .before .before .before .before in
-    sources-found (borderOf (s .args .mode)) _ (s .args .axis) _ (now (s .args .table)) _ (s .pre .0) (c .before .before .before .numbering .ensures) (c .before .before .before .before .before .before .count-up .ensures) (s .pre .1)
+    sources-found (borderOf (s .args .mode)) _ (s .args .axis) _ (now (s .args .table)) _ (s .pre .0) (c .before .before .before .numbering .ensures)
+    (c .before .before .before .before .before .before .count-up .ensures) (s .pre .1)
     (c .before .pad-lane .kept .1 .1 .1 .1 .1 .1 .1 .0) (c .before .pad-lane .ensures)
 
 pub find-sources-spec : {M : Type 1} → statement M

@@ -78,8 +78,11 @@ loop-less c = search needs
 loop-again : tie.Need-loop-again Inv-loop μ-loop
 loop-again c = let s = c .before .before .before .before .before .before .before .before .before .before .before in
     let h : c .before .before .before .before .before .before .before .before .loop .j < s .args .axes .rows .side = search needs in
-    let k = c .before .before .add-kernel-row in
-    (search needs, summing-more (s .pre .0) (s .pre .1) (s .pre .2) (s .pre .3) h (c .before .before .before .before .before .row-for .ensures) (c .before .before .before .before .before .before .before .before .loop .inv .1) (k .kept .1 .1 .1 .1 .1 .1 .0) (k .ensures))
+    let k = c .before .before .add-kernel-row in (
+      search needs,
+      summing-more (s .pre .0) (s .pre .1) (s .pre .2) (s .pre .3) h (c .before .before .before .before .before .row-for .ensures)
+          (c .before .before .before .before .before .before .before .before .loop .inv .1) (k .kept .1 .1 .1 .1 .1 .1 .0) (k .ensures),
+    )
 
 same-length : tie.Need-same-length Inv-loop μ-loop
 same-length c = c .before .loop .inv .1 .line-long ∙ sym (c .before .before .before .before .pre .4 .line-long)

@@ -38,7 +38,8 @@ rem-correlate-row : tie.Need-rem-correlate-row Inv-loop μ-loop
 rem-correlate-row c = c .before .before .before .pre .0 .laid .rows .some
 
 mul-correlate-row : tie.Need-mul-correlate-row Inv-loop μ-loop
-mul-correlate-row c = let s = c .before .before .before .before in let l = c .before .before .loop in omega (arith, row-room (s .pre .0 .laid) (l .inv) (search needs), l .inv .kept, s .pre .0 .laid .small)
+mul-correlate-row c = let s = c .before .before .before .before in let l = c .before .before .loop in omega
+    (arith, row-room (s .pre .0 .laid) (l .inv) (search needs), l .inv .kept, s .pre .0 .laid .small)
 
 sub-correlate-row : tie.Need-sub-correlate-row Inv-loop μ-loop
 sub-correlate-row c = search needs

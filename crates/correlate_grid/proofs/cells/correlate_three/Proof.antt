@@ -35,11 +35,20 @@ array-borrow-prefix-line : tie.Need-array-borrow-prefix-line
 array-borrow-prefix-line c = search needs
 
 slice-aggregate-correlate-rows-3 : tie.Need-slice-aggregate-correlate-rows-3
-slice-aggregate-correlate-rows-3 c = let z = c .before .before .before .before .before .before .before .before .before .before .before .before .before .args .axes .cells in sym (length-take-le (z .left + z .len + z .right) _ (array-borrow-prefix-line (c .before)))
+slice-aggregate-correlate-rows-3 c = let z = c .before .before .before .before .before .before .before .before .before .before .before .before .before .args .axes .cells in sym
+    (length-take-le (z .left + z .len + z .right) _ (array-borrow-prefix-line (c .before)))
 
 correlate-rows-requires : tie.Need-correlate-rows-requires
-correlate-rows-requires c κs = let s = c .before .before .before .before .before .before .before .before .before .before .before .before .before .before in
-    (record { laid = s .pre .0; planes = c .before .before .before .before .before .before .before .before .before .before .before .find-sources .ensures; rows = c .before .before .before .before .before .before .before .find-sources2 .ensures }, sym (slice-aggregate-correlate-rows-3 (c .before)), s .pre .1)
+correlate-rows-requires c κs = let s = c .before .before .before .before .before .before .before .before .before .before .before .before .before .before in (
+  record {
+    laid = s .pre .0;
+    planes = c .before .before .before .before .before .before .before .before .before .before .before .find-sources .ensures;
+    rows = c .before .before .before .before
+        .before .before .before .find-sources2 .ensures;
+  },
+  sym (slice-aggregate-correlate-rows-3 (c .before)),
+  s .pre .1,
+)
 
 same-length : tie.Need-same-length
 same-length c = search needs

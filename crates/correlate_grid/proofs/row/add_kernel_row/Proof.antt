@@ -40,7 +40,8 @@ same-length-2 : tie.Need-same-length-2
 same-length-2 c = search needs
 
 returns : tie.Need-returns
-returns c = let s = c .before .before .before .before .before .before .before .before .before .before in row-added (s .pre .0) (s .pre .1) (c .before .before .before .before .before .before .load-row .ensures) (c .before .add-line .ensures)
+returns c = let s = c .before .before .before .before .before .before .before .before .before .before in row-added (s .pre .0) (s .pre .1)
+    (c .before .before .before .before .before .before .load-row .ensures) (c .before .add-line .ensures)
 
 pub add-kernel-row-spec : {M : Type 1} → statement M
 add-kernel-row-spec =

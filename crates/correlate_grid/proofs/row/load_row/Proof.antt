@@ -25,7 +25,8 @@ returns c = let s = c .before .before .before .before .before in
     let a = s .args in
     let k = c .before .before .constant-of .result in
     let e : toZ w64 (ofZ w64 k) ≡ k = search needs in
-    loaded-none (borderOf (a .mode)) (a .axis) (a .none) (a .row) (now (a .«data»)) (now (a .line)) (c .before .before .before .before .if1 .taken) (s .pre .3) (e ∙ c .before .before .constant-of .ensures) (c .before .fill .ensures)
+    loaded-none (borderOf (a .mode)) (a .axis) (a .none) (a .row) (now (a .«data»)) (now (a .line)) (c .before .before .before .before .if1 .taken) (s .pre .3)
+    (e ∙ c .before .before .constant-of .ensures) (c .before .fill .ensures)
 
 mul-pad-from : tie.Need-mul-pad-from
 mul-pad-from c = let s = c .before in omega (arith, s .pre .2 (c .if1 .left), s .pre .1)

@@ -19,7 +19,8 @@ use Rattle.correlate_judge.proofs.kernel.judge_kernel.Tie as tie
 
 -- the conditions after the grid's own
 abbrev rest : tie.Start → Judged
-rest s = drop 3 (kernelJudged (s .args .convolution) (borderOf (s .args .mode)) (s .args .origin) (now (s .args .sides)) (now (s .args .weights)) (now (s .args .shape)) (now (s .args .«data»)) (s .args .out))
+rest s = drop 3 (kernelJudged (s .args .convolution) (borderOf (s .args .mode)) (s .args .origin) (now (s .args .sides)) (now (s .args .weights)) (now (s .args .shape)) (now (s .args .«data»))
+    (s .args .out))
 
 slice-aggregate-judge-grid : tie.Need-slice-aggregate-judge-grid
 slice-aggregate-judge-grid c = search needs
@@ -44,7 +45,8 @@ returns-2 c =
     let b = borderOf (a .mode) in
     let w = now (a .weights) in
     grid-ends badLevel (now (a .shape)) (now (a .«data»)) (a .out ∷ []) (kernelPlaced (a .convolution) b (a .origin) (now (a .sides)) w (now (a .shape)))
-    (badKernelSums (a .convolution) b (a .origin) (now (a .sides)) w (now (a .shape)) (now (a .«data»))) 12 (tt, (tt, (tt, (tt, (tt, tt))))) (c .before .before .judge-grid .ensures) (c .before .if1 .left)
+    (badKernelSums (a .convolution) b (a .origin) (now (a .sides)) w (now (a .shape)) (now (a .«data»))) 12 (tt, (tt, (tt, (tt, (tt, tt))))) (c .before .before .judge-grid .ensures)
+    (c .before .if1 .left)
     (c .judge-placed .ensures ∙ ap (λ (o : ℤ). refusalOf (kernelPlaced (a .convolution) b o (now (a .sides)) w (now (a .shape)))) e)
     (λ G p. no-bad-sums (a .convolution) b (a .origin) (now (a .sides)) w (now (a .shape)) (now (a .«data»)) (G .shape) (G .levels) (p .0) (p .1 .0) (p .1 .1 .1 .0))
 

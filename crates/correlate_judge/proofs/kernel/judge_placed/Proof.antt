@@ -39,7 +39,8 @@ origin-in c = condition-is (origin-told (c .before)) (c .if3 .left)
 constant-in : (c : tie.Else4) → badConstantBy badLevel (borderOf (c .before .before .before .before .before .before .before .before .before .before .before .args .mode)) ≡ false
 constant-in c = condition-is (c .before .bad-constant .ensures) (c .if4 .left)
 
-reached : (c : tie.After-bad-kernel-reach) → let a = c .before .before .before .before .before .before .before .before .before .before .before .before .args in c .bad-kernel-reach .result ≡ badKernelReach (borderOf (a .mode)) (sideOf (now (a .sides))) (appliedOrigin (a .convolution) (sideOf (now (a .sides))) (a .origin)) (now (a .shape))
+reached : (c : tie.After-bad-kernel-reach) → let a = c .before .before .before .before .before .before .before .before .before .before .before .before .args in c .bad-kernel-reach .result
+    ≡ badKernelReach (borderOf (a .mode)) (sideOf (now (a .sides))) (appliedOrigin (a .convolution) (sideOf (now (a .sides))) (a .origin)) (now (a .shape))
 reached c =
     let s = c .before .before .before .before .before .before .before .before .before .before .before .before in
     let side = c .before .before .before .before .before .len-of .ensures in
@@ -70,16 +71,36 @@ bad-constant-requires : tie.Need-bad-constant-requires
 bad-constant-requires c κs = search needs
 
 returns-4 : tie.Need-returns-4
-returns-4 c = simp (kernel-in (c .before .before .before .before .before .before .before), weights-in (c .before .before .before .before .before), origin-in (c .before .before), condition-is (c .before .bad-constant .ensures) (c .if4 .taken)) refl
+returns-4 c = simp (
+  kernel-in (c .before .before .before .before .before .before .before),
+  weights-in (c .before .before .before .before .before),
+  origin-in (c .before .before),
+  condition-is
+      (c .before .bad-constant .ensures) (c .if4 .taken),
+) refl
 
 bad-kernel-reach-requires : tie.Need-bad-kernel-reach-requires
 bad-kernel-reach-requires c κs = condition-is (c .before .before .before .bad-origin .ensures) (c .before .before .if3 .left)
 
 returns-5 : tie.Need-returns-5
-returns-5 c = simp (kernel-in (c .before .before .before .before .before .before .before .before .before), weights-in (c .before .before .before .before .before .before .before), origin-in (c .before .before .before .before), constant-in (c .before .before), condition-is (reached (c .before)) (c .if5 .taken)) refl
+returns-5 c = simp (
+  kernel-in (c .before .before .before .before .before .before .before .before .before),
+  weights-in (c .before .before .before .before .before .before .before),
+  origin-in
+      (c .before .before .before .before),
+  constant-in (c .before .before),
+  condition-is (reached (c .before)) (c .if5 .taken),
+) refl
 
 returns-6 : tie.Need-returns-6
-returns-6 c = simp (kernel-in (c .before .before .before .before .before .before .before .before .before), weights-in (c .before .before .before .before .before .before .before), origin-in (c .before .before .before .before), constant-in (c .before .before), condition-is (reached (c .before)) (c .if5 .left)) refl
+returns-6 c = simp (
+  kernel-in (c .before .before .before .before .before .before .before .before .before),
+  weights-in (c .before .before .before .before .before .before .before),
+  origin-in
+      (c .before .before .before .before),
+  constant-in (c .before .before),
+  condition-is (reached (c .before)) (c .if5 .left),
+) refl
 
 pub judge-placed-spec : {M : Type 1} → statement M
 judge-placed-spec =

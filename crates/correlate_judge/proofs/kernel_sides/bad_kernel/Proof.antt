@@ -37,7 +37,8 @@ bad-length-requires c κs = search needs
 returns-3 : tie.Need-returns-3
 returns-3 c =
     let s = c .before .before .before .before .before .before .before in
-    count-asked (now (s .args .shape)) (now (s .args .sides)) (s .args .count) (c .before .before .before .before .if1 .left) (s .pre) (condition-is (sides-told (c .before .before)) (c .before .if2 .left)) (c .bad-length .ensures)
+    count-asked (now (s .args .shape)) (now (s .args .sides)) (s .args .count) (c .before .before .before .before .if1 .left) (s .pre)
+    (condition-is (sides-told (c .before .before)) (c .before .if2 .left)) (c .bad-length .ensures)
 
 pub bad-kernel-spec : {M : Type 1} → statement M
 bad-kernel-spec =

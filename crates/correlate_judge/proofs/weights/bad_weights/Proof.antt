@@ -35,7 +35,8 @@ bad-weight-requires c κs = search needs
 returns : tie.Need-returns Inv-loop μ-loop
 returns c = let l = c .before .before .before .before .loop in
     let S = now (c .before .before .before .before .before .args .weights) in
-    sym (any-hit badWeight (pos 0) (l .i) S (search needs) (l .inv .1) (sym (rw (toZ-ofZ w64 (getD S (l .i) (pos 0)) (record { sfits = c .before .before .z .given })) at (c .before .bad-weight .ensures)) ∙ c .if1 .taken))
+    sym (any-hit badWeight (pos 0) (l .i) S (search needs) (l .inv .1) (sym (rw (toZ-ofZ w64 (getD S (l .i) (pos 0)) (record { sfits = c .before .before .z .given })) at
+    (c .before .bad-weight .ensures)) ∙ c .if1 .taken))
 
 add-i : tie.Need-add-i Inv-loop μ-loop
 add-i c = search needs
@@ -45,8 +46,11 @@ loop-less c = search needs
 
 loop-again : tie.Need-loop-again Inv-loop μ-loop
 loop-again c = let l = c .before .before .before .before .loop in
-    let S = now (c .before .before .before .before .before .args .weights) in
-    (search needs, any-miss badWeight (pos 0) (l .i) S (search needs) (l .inv .1) (sym (rw (toZ-ofZ w64 (getD S (l .i) (pos 0)) (record { sfits = c .before .before .z .given })) at (c .before .bad-weight .ensures)) ∙ c .if1 .left))
+    let S = now (c .before .before .before .before .before .args .weights) in (
+      search needs,
+      any-miss badWeight (pos 0) (l .i) S (search needs) (l .inv .1) (sym (rw (toZ-ofZ w64 (getD S (l .i) (pos 0)) (record { sfits = c .before .before .z .given })) at
+          (c .before .bad-weight .ensures)) ∙ c .if1 .left),
+    )
 
 returns-2 : tie.Need-returns-2 Inv-loop μ-loop
 returns-2 c = let l = c .before .loop in

@@ -49,8 +49,11 @@ loop-less c = search needs
 loop-again : tie.Need-loop-again Inv-loop μ-loop
 loop-again c =
     let k = c .before .before in
-    let s = k .before in
-    (search needs, ap (λ m. read (toZ w64 (k .loop .sum) +ℤ read (getD (now (s .args .cells)) m (pos 0)))) (sym (zero-add (k .loop .i))) ∙ total-read (now (s .args .cells)) (s .pre .cells) (k .loop .i) 0 (omega (arith, s .pre .few)) (k .loop .inv .1) (omega arith))
+    let s = k .before in (
+      search needs,
+      ap (λ m. read (toZ w64 (k .loop .sum) +ℤ read (getD (now (s .args .cells)) m (pos 0)))) (sym (zero-add (k .loop .i)))
+          ∙ total-read (now (s .args .cells)) (s .pre .cells) (k .loop .i) 0 (omega (arith, s .pre .few)) (k .loop .inv .1) (omega arith),
+    )
 
 returns : tie.Need-returns Inv-loop μ-loop
 returns c =

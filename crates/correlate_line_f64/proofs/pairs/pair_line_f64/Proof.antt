@@ -13,7 +13,8 @@ use Rattle.correlate_line_f64.proofs.pairs.pair_line_f64.Statement.{sta
 use Rattle.correlate_line_f64.proofs.pairs.pair_line_f64.Tie as tie
 
 abbrev Inv-loop : tie.InvT-loop
-Inv-loop weights minus line out₀ half left₀ right₀ out left right = (left ≤ half) × (half ≡ length weights / 2) × (right ≡ length weights - 1 - left) × Row (pairsTo floatOps (joinedBy floatOps minus) weights line left) (length out₀) out
+Inv-loop weights minus line out₀ half left₀ right₀ out left right = (left ≤ half) × (half ≡ length weights / 2) × (right
+    ≡ length weights - 1 - left) × Row (pairsTo floatOps (joinedBy floatOps minus) weights line left) (length out₀) out
 
 abbrev μ-loop : tie.MeasureT-loop
 μ-loop weights minus line out₀ half left₀ right₀ out left right = half - left
@@ -25,7 +26,13 @@ sub-right : tie.Need-sub-right Inv-loop μ-loop
 sub-right c = search needs
 
 loop-holds : tie.Need-loop-holds Inv-loop μ-loop
-loop-holds c = let s = c .before .before .before .before .before .before .before in (search needs, refl, search needs, pairs-start floatOps (now (s .args .weights)) (now (s .args .line)) (joinedBy floatOps (s .args .minus)) _ (c .before .before .set-row .ensures))
+loop-holds c = let s = c .before .before .before .before .before .before .before in (
+  search needs,
+  refl,
+  search needs,
+  pairs-start floatOps (now (s .args .weights)) (now (s .args .line))
+      (joinedBy floatOps (s .args .minus)) _ (c .before .before .set-row .ensures),
+)
 
 add-loop : tie.Need-add-loop Inv-loop μ-loop
 add-loop c = search needs
@@ -48,8 +55,13 @@ loop-less c = search needs
 loop-again : tie.Need-loop-again Inv-loop μ-loop
 loop-again c =
     let s = c .before .before .before .before .before .before .before .before .before .before .before .before .before in
-    let l = c .before .before .before .before .before .loop in
-    (search needs, refl, search needs, row-next (l .inv .3) {h = pairsTo floatOps (joinedBy floatOps (s .args .minus)) (now (s .args .weights)) (now (s .args .line)) (l .left + 2)} (c .before .before .add-two-pairs .ensures))
+    let l = c .before .before .before .before .before .loop in (
+      search needs,
+      refl,
+      search needs,
+      row-next (l .inv .3) {h = pairsTo floatOps (joinedBy floatOps (s .args .minus)) (now (s .args .weights)) (now (s .args .line)) (l .left + 2)}
+          (c .before .before .add-two-pairs .ensures),
+    )
 
 add-pairs-requires : tie.Need-add-pairs-requires Inv-loop μ-loop
 add-pairs-requires c κs =
@@ -58,20 +70,23 @@ add-pairs-requires c κs =
     (record { some = omega arith; long = omega arith }, search needs, search needs, row-own r)
 
 same-length : tie.Need-same-length Inv-loop μ-loop
-same-length c = c .before .before .add-pairs .kept .1 .1 .1 .1 .1 .0 ∙ row-length (c .before .before .before .before .before .before .loop .inv .3) ∙ c .before .before .before .before .before .before .before .before .before .set-row .kept .1 .1 .1 .0
+same-length c = c .before .before .add-pairs .kept .1 .1 .1 .1 .1 .0 ∙ row-length (c .before .before .before .before .before .before .loop .inv .3)
+    ∙ c .before .before .before .before .before .before .before .before .before .set-row .kept .1 .1 .1 .0
 
 returns : tie.Need-returns Inv-loop μ-loop
 returns c =
     let s = c .before .before .before .before .before .before .before .before .before .before .before .before .before .before in
     let l = c .before .before .before .before .before .before .loop in
     let r = row-next (l .inv .3) {h = pairsTo floatOps (joinedBy floatOps (s .args .minus)) (now (s .args .weights)) (now (s .args .line)) (l .left + 1)} (c .before .before .add-pairs .ensures) in
-    pairs-end floatOps (now (s .args .weights)) (now (s .args .line)) (joinedBy floatOps (s .args .minus)) r (omega arith) (c .before .before .before .before .before .before .before .before .before .set-row .kept .1 .1 .1 .0)
+    pairs-end floatOps (now (s .args .weights)) (now (s .args .line)) (joinedBy floatOps (s .args .minus)) r (omega arith)
+    (c .before .before .before .before .before .before .before .before .before .set-row .kept .1 .1 .1 .0)
 
 same-length-2 : tie.Need-same-length-2 Inv-loop μ-loop
 same-length-2 c = row-length (c .before .before .loop .inv .3) ∙ c .before .before .before .before .before .set-row .kept .1 .1 .1 .0
 
 returns-2 : tie.Need-returns-2 Inv-loop μ-loop
-returns-2 c = let s = c .before .before .before .before .before .before .before .before .before .before in pairs-end floatOps (now (s .args .weights)) (now (s .args .line)) (joinedBy floatOps (s .args .minus)) (c .before .before .loop .inv .3) (omega arith) (c .before .before .before .before .before .set-row .kept .1 .1 .1 .0)
+returns-2 c = let s = c .before .before .before .before .before .before .before .before .before .before in pairs-end floatOps (now (s .args .weights)) (now (s .args .line))
+    (joinedBy floatOps (s .args .minus)) (c .before .before .loop .inv .3) (omega arith) (c .before .before .before .before .before .set-row .kept .1 .1 .1 .0)
 
 pub pair-line-f64-spec : {M : Type 1} → statement M
 pair-line-f64-spec =

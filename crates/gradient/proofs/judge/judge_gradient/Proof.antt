@@ -21,7 +21,8 @@ judge-grid-requires c κs = search needs
 returns : tie.Need-returns
 returns c smooth S =
     let a = c .before .before .before .before .args in
-    grid-refused badLevel (now (a .shape)) (now (a .«data»)) (a .out ∷ a .second ∷ []) (drop 3 (gradientJudged smooth (borderOf (a .mode)) (now (a .shape)) (a .axis) (now (a .«data»)) (a .out) (a .second)))
+    grid-refused badLevel (now (a .shape)) (now (a .«data»)) (a .out ∷ a .second ∷ []) (drop 3
+    (gradientJudged smooth (borderOf (a .mode)) (now (a .shape)) (a .axis) (now (a .«data»)) (a .out) (a .second)))
     (c .before .judge-grid .ensures) (c .if1 .taken)
 
 judge-passes-requires : tie.Need-judge-passes-requires
@@ -31,7 +32,8 @@ returns-2 : tie.Need-returns-2
 returns-2 c smooth S =
     let a = c .before .before .before .before .before .args in
     let b = borderOf (a .mode) in
-    grid-ends badLevel (now (a .shape)) (now (a .«data»)) (a .out ∷ a .second ∷ []) (passesJudged b (now (a .shape)) (a .axis)) (badGradientSums smooth b (now (a .shape)) (a .axis) (now (a .«data»))) 12 (tt, (tt, (tt, tt)))
+    grid-ends badLevel (now (a .shape)) (now (a .«data»)) (a .out ∷ a .second ∷ []) (passesJudged b (now (a .shape)) (a .axis)) (badGradientSums smooth b (now (a .shape)) (a .axis) (now (a .«data»)))
+    12 (tt, (tt, (tt, tt)))
     (c .before .before .judge-grid .ensures) (c .before .if1 .left) (c .judge-passes .ensures)
     (λ G p. no-gradient-sums b S (now (a .shape)) (a .axis) (now (a .«data»)) (G .shape) (G .levels) (p .1 .0))
 

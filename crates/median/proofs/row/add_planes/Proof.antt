@@ -25,7 +25,8 @@ add-plane-requires : tie.Need-add-plane-requires Inv-loop μ-loop
 add-plane-requires c κs =
     let s = c .before .before .before .before .before in
     let l = c .before .before .loop in
-    subst (λ (n : ℕ). Reaches (now (s .args .mask)) n (l .x * s .args .rows + s .args .ys .to) × Room (planeCount (now (s .args .mask)) (s .args .rows) n (s .args .ys) (l .x)) (l .counts)) (sym (l .inv .kept))
+    subst (λ (n : ℕ). Reaches (now (s .args .mask)) n (l .x * s .args .rows + s .args .ys .to) × Room (planeCount (now (s .args .mask)) (s .args .rows) n (s .args .ys) (l .x)) (l .counts))
+    (sym (l .inv .kept))
     (plane-reaches (s .pre .0) (l .x) (s .args .ys .to) (search needs) (s .pre .2), adding-room (l .inv) (search needs) (s .pre .3))
 
 add-x : tie.Need-add-x Inv-loop μ-loop
@@ -38,7 +39,8 @@ loop-again : tie.Need-loop-again Inv-loop μ-loop
 loop-again c =
     let s = c .before .before .before .before .before .before .before .before in
     let l = c .before .before .before .before .before .loop in
-    adding-more (l .inv) (search needs) (c .before .before .add-plane .ensures ∙ ap (λ (n : ℕ). added (planeCount (now (s .args .mask)) (s .args .rows) n (s .args .ys) (l .x)) (l .counts)) (l .inv .kept))
+    adding-more (l .inv) (search needs) (c .before .before .add-plane .ensures ∙ ap (λ (n : ℕ). added (planeCount (now (s .args .mask)) (s .args .rows) n (s .args .ys) (l .x)) (l .counts))
+    (l .inv .kept))
 
 same-length : tie.Need-same-length Inv-loop μ-loop
 same-length c = c .before .loop .inv .kept

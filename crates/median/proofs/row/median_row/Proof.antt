@@ -22,28 +22,49 @@ around-requires-2 : tie.Need-around-requires-2
 around-requires-2 c κs = let s = c .before .before .before .before in (row-below (s .pre .0) _ (s .pre .1), rows-small (s .pre .0))
 
 add-planes-requires : tie.Need-add-planes-requires
-add-planes-requires c κs = let s = c .before .before .before .before .before .before in row-adds (s .pre .3) (s .pre .0) _ (s .pre .1) (c .before .before .around .ensures) (c .before .around2 .ensures)
+add-planes-requires c κs = let s = c .before .before .before .before .before .before in row-adds (s .pre .3) (s .pre .0) _ (s .pre .1) (c .before .before .around .ensures)
+    (c .before .around2 .ensures)
 
 sub-m : tie.Need-sub-m
-sub-m c = let s = c .before .before .before .before .before .before .before .before .before .before in planes-ordered (s .pre .3) (s .pre .0) _ (s .pre .1) (c .before .before .before .before .before .before .around .ensures) (c .before .before .before .before .before .around2 .ensures)
+sub-m c = let s = c .before .before .before .before .before .before .before .before .before .before in planes-ordered (s .pre .3) (s .pre .0) _ (s .pre .1)
+    (c .before .before .before .before .before .before .around .ensures) (c .before .before .before .before .before .around2 .ensures)
 
 sub-m-2 : tie.Need-sub-m-2
-sub-m-2 c = let s = c .before .before .before .before .before .before .before .before .before .before .before in rows-ordered (s .pre .3) (s .pre .0) _ (s .pre .1) (c .before .before .before .before .before .before .before .around .ensures) (c .before .before .before .before .before .before .around2 .ensures)
+sub-m-2 c = let s = c .before .before .before .before .before .before .before .before .before .before .before in rows-ordered (s .pre .3) (s .pre .0) _ (s .pre .1)
+    (c .before .before .before .before .before .before .before .around .ensures) (c .before .before .before .before .before .before .around2 .ensures)
 
 mul-m : tie.Need-mul-m
-mul-m c = let s = c .before .before .before .before .before .before .before .before .before .before .before in omega (arith, rows-nine (s .pre .3) (s .pre .0) _ (s .pre .1) (c .before .before .before .before .before .before .before .around .ensures) (c .before .before .before .before .before .before .around2 .ensures))
+mul-m c = let s = c .before .before .before .before .before .before .before .before .before .before .before in omega (
+  arith,
+  rows-nine (s .pre .3) (s .pre .0) _ (s .pre .1) (c .before .before .before .before .before .before .before .around .ensures)
+      (c .before .before .before .before .before .before .around2 .ensures),
+)
 
 mul-a : tie.Need-mul-a
-mul-a c = let s = c .before .before .before .before .before .before .before .before .before .before .before in omega (arith, voted-room (s .pre .3) (s .pre .0) _ (s .pre .1) (c .before .before .before .before .before .before .before .around .ensures) (c .before .before .before .before .before .before .around2 .ensures) (c .before .before .before .before .add-planes .ensures), s .pre .0 .small)
+mul-a c = let s = c .before .before .before .before .before .before .before .before .before .before .before in omega (
+  arith,
+  voted-room (s .pre .3) (s .pre .0) _ (s .pre .1) (c .before .before .before .before .before .before .before .around .ensures)
+      (c .before .before .before .before .before .before .around2 .ensures) (c .before .before .before .before .add-planes .ensures),
+  s .pre .0 .small,
+)
 
 cast-vote-row : tie.Need-cast-vote-row
-cast-vote-row c = let s = c .before .before .before .before .before .before .before .before .before .before .before .before in omega (arith, rows-nine (s .pre .3) (s .pre .0) _ (s .pre .1) (c .before .before .before .before .before .before .before .before .around .ensures) (c .before .before .before .before .before .before .before .around2 .ensures))
+cast-vote-row c = let s = c .before .before .before .before .before .before .before .before .before .before .before .before in omega (
+  arith,
+  rows-nine (s .pre .3) (s .pre .0) _ (s .pre .1) (c .before .before .before .before .before .before .before .before .around .ensures)
+      (c .before .before .before .before .before .before .before .around2 .ensures),
+)
 
 vote-row-requires : tie.Need-vote-row-requires
 vote-row-requires c κs =
     let s = c .before .before .before .before .before .before .before .before .before .before .before .before .before in
-    let room = voted-room (s .pre .3) (s .pre .0) _ (s .pre .1) (c .before .before .before .before .before .before .before .before .before .around .ensures) (c .before .before .before .before .before .before .before .before .around2 .ensures) (c .before .before .before .before .before .before .add-planes .ensures) in
-    (row-counted (s .pre .3) (s .pre .0) _ (s .pre .1) (c .before .before .before .before .before .before .before .before .before .around .ensures) (c .before .before .before .before .before .before .before .before .around2 .ensures) (c .before .before .before .before .before .before .add-planes .ensures), omega (arith, room, s .pre .2), omega (arith, s .pre .0 .small, s .pre .2))
+    let room = voted-room (s .pre .3) (s .pre .0) _ (s .pre .1) (c .before .before .before .before .before .before .before .before .before .around .ensures)
+    (c .before .before .before .before .before .before .before .before .around2 .ensures) (c .before .before .before .before .before .before .add-planes .ensures) in (
+      row-counted (s .pre .3) (s .pre .0) _ (s .pre .1) (c .before .before .before .before .before .before .before .before .before .around .ensures)
+          (c .before .before .before .before .before .before .before .before .around2 .ensures) (c .before .before .before .before .before .before .add-planes .ensures),
+      omega (arith, room, s .pre .2),
+      omega (arith, s .pre .0 .small, s .pre .2),
+    )
 
 same-length : tie.Need-same-length
 same-length c = search needs
@@ -52,7 +73,10 @@ same-length-2 : tie.Need-same-length-2
 same-length-2 c = search needs
 
 returns : tie.Need-returns
-returns c = let s = c .before .before .before .before .before .before .before .before .before .before .before .before .before .before .before .before in row-voted (s .pre .3) (s .pre .0) _ (s .pre .1) (c .before .before .before .before .before .before .before .before .before .before .before .before .around .ensures) (c .before .before .before .before .before .before .before .before .before .before .before .around2 .ensures) (c .before .before .before .before .before .before .before .before .before .add-planes .ensures) (now (s .args .out)) (c .before .before .vote-row .ensures)
+returns c = let s = c .before .before .before .before .before .before .before .before .before .before .before .before .before .before .before .before in row-voted (s .pre .3) (s .pre .0) _ (s .pre .1)
+    (c .before .before .before .before .before .before .before .before .before .before .before .before .around .ensures)
+    (c .before .before .before .before .before .before .before .before .before .before .before .around2 .ensures)
+    (c .before .before .before .before .before .before .before .before .before .add-planes .ensures) (now (s .args .out)) (c .before .before .vote-row .ensures)
 
 pub median-row-spec : {M : Type 1} → statement M
 median-row-spec =

@@ -28,7 +28,8 @@ returns : tie.Need-returns
 returns c =
     let s = c .before .before .before .before .before .before .before .before in
     c .before .before .before .median-row .ensures
-    ∙ ap (λ (n : ℕ). setRow (s .args .r * n) n (medianOfPlace (s .args .planes) (s .args .rows) n (now (s .args .mask))) (now (s .args .out))) (sym (slice-aggregate-median-row (c .before .before .before .before .before)))
+    ∙ ap (λ (n : ℕ). setRow (s .args .r * n) n (medianOfPlace (s .args .planes) (s .args .rows) n (now (s .args .mask))) (now (s .args .out)))
+    (sym (slice-aggregate-median-row (c .before .before .before .before .before)))
 
 pub set-row-spec : {M : Type 1} → statement M
 set-row-spec =

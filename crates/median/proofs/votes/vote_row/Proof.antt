@@ -33,7 +33,8 @@ add-out-2 : tie.Need-add-out-2
 add-out-2 c = search needs
 
 slice-write-out-2 : tie.Need-slice-write-out-2
-slice-write-out-2 c = let s = c .before .before .before .before .before .before .before .before in omega (arith, c .before .before .before .vote-inside .kept .1 .1 .1 .0, length-set (now (s .args .out)) (s .args .a) (c .before .before .before .before .before .vote-end .result), s .pre .0 .two)
+slice-write-out-2 c = let s = c .before .before .before .before .before .before .before .before in omega
+    (arith, c .before .before .before .vote-inside .kept .1 .1 .1 .0, length-set (now (s .args .out)) (s .args .a) (c .before .before .before .before .before .vote-end .result), s .pre .0 .two)
 
 same-length : tie.Need-same-length
 same-length c = simp length-set (simp length-set at (c .before .before .before .vote-inside .kept .1 .1 .1 .0))

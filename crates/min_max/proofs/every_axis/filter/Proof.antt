@@ -18,7 +18,8 @@ use Rattle.min_max.proofs.every_axis.filter.Statement.{statement}
 use Rattle.min_max.proofs.every_axis.filter.Tie as tie
 
 -- the judge's number
-judged : (c : tie.After-judge-filter) → let a = c .before .before .before .args in c .judge-filter .result ≡ refusalOf (filterJudged (now (a .«data»)) (callOf (now (a .shape)) (a .size) 0 (a .mode) (a .origin) (now (a .out))) (length (now (a .second))))
+judged : (c : tie.After-judge-filter) → let a = c .before .before .before .args in c .judge-filter .result
+    ≡ refusalOf (filterJudged (now (a .«data»)) (callOf (now (a .shape)) (a .size) 0 (a .mode) (a .origin) (now (a .out))) (length (now (a .second))))
 judged c =
     let a = c .before .before .before .args in
     let e : toZ w64 (ofZ w64 (a .origin)) ≡ a .origin = search needs in
@@ -49,7 +50,8 @@ returns-2 : tie.Need-returns-2
 returns-2 c = let a = c .before .before .before .before .before .before .before .before .before .before .before .before .args in
     let e : toZ w64 (ofZ w64 (a .origin)) ≡ a .origin = search needs in
     let p = c .before .before .before .before .before .passes in
-    scratch-accepted (pos 0) _ _ _ _ _ (judged (c .before .before .before .before .before .before .before .before .before)) (c .before .before .before .before .before .before .before .before .if1 .left)
+    scratch-accepted (pos 0) _ _ _ _ _ (judged (c .before .before .before .before .before .before .before .before .before))
+    (c .before .before .before .before .before .before .before .before .if1 .left)
     (p .ensures ∙ ap (λ (o : ℤ). filterAnswer (orderOf (a .extreme)) (callOf (now (a .shape)) (a .size) 0 (a .mode) o (now (a .out))) (now (a .«data»))) e)
     (ap (λ (s : List ℤ). s ∷ []) (c .before .fill .ensures ∙ ap (λ (n : ℕ). replicate n (pos 0)) (p .kept .1 .1 .1 .1 .1 .1 .0)))
 

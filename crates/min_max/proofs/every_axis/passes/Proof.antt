@@ -42,7 +42,9 @@ pass-requires : tie.Need-pass-requires
 pass-requires c κs =
     let s = c .before .before .before in
     let a = s .args in
-    pass-accepted (now (a .«data»)) (now (a .shape)) (a .size) (a .mode) (handed s) (now (a .out)) (length (now (a .second))) (accepted s) _ _ (between-input (now (a .«data»)) (now (a .shape)) (a .size) (a .mode) (handed s) (now (a .out)) (length (now (a .second))) (accepted s)) (accepted s .grid .lengths .0) (omega (arith, c .before .if1 .taken))
+    pass-accepted (now (a .«data»)) (now (a .shape)) (a .size) (a .mode) (handed s) (now (a .out)) (length (now (a .second))) (accepted s) _ _
+    (between-input (now (a .«data»)) (now (a .shape)) (a .size) (a .mode) (handed s) (now (a .out)) (length (now (a .second))) (accepted s)) (accepted s .grid .lengths .0)
+    (omega (arith, c .before .if1 .taken))
 
 same-length : tie.Need-same-length
 same-length c = search needs
@@ -57,13 +59,18 @@ pass-requires-2 : tie.Need-pass-requires-2
 pass-requires-2 c κs =
     let s = c .before .before .before .before in
     let a = s .args in
-    pass-accepted (now (a .«data»)) (now (a .shape)) (a .size) (a .mode) (handed s) (now (a .out)) (length (now (a .second))) (accepted s) _ _ (between-input (now (a .«data»)) (now (a .shape)) (a .size) (a .mode) (handed s) (now (a .out)) (length (now (a .second))) (accepted s)) (accepted s .grid .lengths .1 .0) (omega (arith, c .before .if2 .taken))
+    pass-accepted (now (a .«data»)) (now (a .shape)) (a .size) (a .mode) (handed s) (now (a .out)) (length (now (a .second))) (accepted s) _ _
+    (between-input (now (a .«data»)) (now (a .shape)) (a .size) (a .mode) (handed s) (now (a .out)) (length (now (a .second))) (accepted s)) (accepted s .grid .lengths .1 .0)
+    (omega (arith, c .before .if2 .taken))
 
 pass-requires-3 : tie.Need-pass-requires-3
 pass-requires-3 c κs =
     let s = c .before .before .before .before .before .before .before .before in
     let a = s .args in
-    pass-accepted (now (a .«data»)) (now (a .shape)) (a .size) (a .mode) (handed s) (now (a .out)) (length (now (a .second))) (accepted s) _ _ (between-pass (now (a .«data»)) (now (a .shape)) (a .size) (a .mode) (handed s) (now (a .out)) (length (now (a .second))) (accepted s) (orderOf (a .extreme)) _ 0 (between-input (now (a .«data»)) (now (a .shape)) (a .size) (a .mode) (handed s) (now (a .out)) (length (now (a .second))) (accepted s)) (c .before .before .before .pass2 .ensures)) (accepted s .grid .lengths .0) (omega (arith, c .before .before .before .before .before .if2 .taken))
+    pass-accepted (now (a .«data»)) (now (a .shape)) (a .size) (a .mode) (handed s) (now (a .out)) (length (now (a .second))) (accepted s) _ _
+    (between-pass (now (a .«data»)) (now (a .shape)) (a .size) (a .mode) (handed s) (now (a .out)) (length (now (a .second))) (accepted s) (orderOf (a .extreme)) _ 0
+    (between-input (now (a .«data»)) (now (a .shape)) (a .size) (a .mode) (handed s) (now (a .out)) (length (now (a .second))) (accepted s)) (c .before .before .before .pass2 .ensures))
+    (accepted s .grid .lengths .0) (omega (arith, c .before .before .before .before .before .if2 .taken))
 
 same-length-2 : tie.Need-same-length-2
 same-length-2 c = search needs
@@ -75,25 +82,37 @@ returns-2 : tie.Need-returns-2
 returns-2 c =
     let s = c .before .before .before .before .before .before .before .before .before .before in
     let a = s .args in
-    two-passes (orderOf (a .extreme)) (now (a .«data»)) (now (a .shape)) (a .size) (a .mode) (handed s) (now (a .out)) _ _ (c .before .before .before .before .before .before .before .if2 .taken) (c .before .before .before .before .before .pass2 .ensures) (c .before .pass3 .ensures) ∙ answered s
+    two-passes (orderOf (a .extreme)) (now (a .«data»)) (now (a .shape)) (a .size) (a .mode) (handed s) (now (a .out)) _ _ (c .before .before .before .before .before .before .before .if2 .taken)
+    (c .before .before .before .before .before .pass2 .ensures) (c .before .pass3 .ensures) ∙ answered s
 
 pass-requires-4 : tie.Need-pass-requires-4
 pass-requires-4 c κs =
     let s = c .before .before .before .before in
     let a = s .args in
-    pass-accepted (now (a .«data»)) (now (a .shape)) (a .size) (a .mode) (handed s) (now (a .out)) (length (now (a .second))) (accepted s) _ _ (between-input (now (a .«data»)) (now (a .shape)) (a .size) (a .mode) (handed s) (now (a .out)) (length (now (a .second))) (accepted s)) (accepted s .grid .lengths .0) (omega (arith, three (c .before)))
+    pass-accepted (now (a .«data»)) (now (a .shape)) (a .size) (a .mode) (handed s) (now (a .out)) (length (now (a .second))) (accepted s) _ _
+    (between-input (now (a .«data»)) (now (a .shape)) (a .size) (a .mode) (handed s) (now (a .out)) (length (now (a .second))) (accepted s)) (accepted s .grid .lengths .0)
+    (omega (arith, three (c .before)))
 
 pass-requires-5 : tie.Need-pass-requires-5
 pass-requires-5 c κs =
     let s = c .before .before .before .before .before .before .before .before in
     let a = s .args in
-    pass-accepted (now (a .«data»)) (now (a .shape)) (a .size) (a .mode) (handed s) (now (a .out)) (length (now (a .second))) (accepted s) _ _ (between-pass (now (a .«data»)) (now (a .shape)) (a .size) (a .mode) (handed s) (now (a .out)) (length (now (a .second))) (accepted s) (orderOf (a .extreme)) _ 0 (between-input (now (a .«data»)) (now (a .shape)) (a .size) (a .mode) (handed s) (now (a .out)) (length (now (a .second))) (accepted s)) (c .before .before .before .pass4 .ensures)) (accepted s .grid .lengths .1 .0) (omega (arith, three (c .before .before .before .before .before)))
+    pass-accepted (now (a .«data»)) (now (a .shape)) (a .size) (a .mode) (handed s) (now (a .out)) (length (now (a .second))) (accepted s) _ _
+    (between-pass (now (a .«data»)) (now (a .shape)) (a .size) (a .mode) (handed s) (now (a .out)) (length (now (a .second))) (accepted s) (orderOf (a .extreme)) _ 0
+    (between-input (now (a .«data»)) (now (a .shape)) (a .size) (a .mode) (handed s) (now (a .out)) (length (now (a .second))) (accepted s)) (c .before .before .before .pass4 .ensures))
+    (accepted s .grid .lengths .1 .0) (omega (arith, three (c .before .before .before .before .before)))
 
 pass-requires-6 : tie.Need-pass-requires-6
 pass-requires-6 c κs =
     let s = c .before .before .before .before .before .before .before .before .before .before .before .before in
     let a = s .args in
-    pass-accepted (now (a .«data»)) (now (a .shape)) (a .size) (a .mode) (handed s) (now (a .out)) (length (now (a .second))) (accepted s) _ _ (between-pass (now (a .«data»)) (now (a .shape)) (a .size) (a .mode) (handed s) (now (a .out)) (length (now (a .second))) (accepted s) (orderOf (a .extreme)) _ 1 (between-pass (now (a .«data»)) (now (a .shape)) (a .size) (a .mode) (handed s) (now (a .out)) (length (now (a .second))) (accepted s) (orderOf (a .extreme)) _ 0 (between-input (now (a .«data»)) (now (a .shape)) (a .size) (a .mode) (handed s) (now (a .out)) (length (now (a .second))) (accepted s)) (c .before .before .before .before .before .before .before .pass4 .ensures)) (c .before .before .before .pass5 .ensures)) (c .before .before .before .before .before .before .before .pass4 .kept .1 .1 .1 .1 .1 .1 .1 .0 ∙ accepted s .grid .lengths .0) (omega (arith, three (c .before .before .before .before .before .before .before .before .before)))
+    pass-accepted (now (a .«data»)) (now (a .shape)) (a .size) (a .mode) (handed s) (now (a .out)) (length (now (a .second))) (accepted s) _ _
+    (between-pass (now (a .«data»)) (now (a .shape)) (a .size) (a .mode) (handed s) (now (a .out)) (length (now (a .second))) (accepted s) (orderOf (a .extreme)) _ 1
+    (between-pass (now (a .«data»)) (now (a .shape)) (a .size) (a .mode) (handed s) (now (a .out)) (length (now (a .second))) (accepted s) (orderOf (a .extreme)) _ 0
+    (between-input (now (a .«data»)) (now (a .shape)) (a .size) (a .mode) (handed s) (now (a .out)) (length (now (a .second))) (accepted s))
+    (c .before .before .before .before .before .before .before .pass4 .ensures)) (c .before .before .before .pass5 .ensures))
+    (c .before .before .before .before .before .before .before .pass4 .kept .1 .1 .1 .1 .1 .1 .1 .0 ∙ accepted s .grid .lengths .0)
+    (omega (arith, three (c .before .before .before .before .before .before .before .before .before)))
 
 same-length-4 : tie.Need-same-length-4
 same-length-4 c = search needs
@@ -105,7 +124,9 @@ returns-3 : tie.Need-returns-3
 returns-3 c =
     let s = c .before .before .before .before .before .before .before .before .before .before .before .before .before .before in
     let a = s .args in
-    three-passes (orderOf (a .extreme)) (now (a .«data»)) (now (a .shape)) (a .size) (a .mode) (handed s) (now (a .out)) _ _ _ (three (c .before .before .before .before .before .before .before .before .before .before .before)) (c .before .before .before .before .before .before .before .before .before .pass4 .ensures) (c .before .before .before .before .before .pass5 .ensures) (c .before .pass6 .ensures) ∙ answered s
+    three-passes (orderOf (a .extreme)) (now (a .«data»)) (now (a .shape)) (a .size) (a .mode) (handed s) (now (a .out)) _ _ _
+    (three (c .before .before .before .before .before .before .before .before .before .before .before)) (c .before .before .before .before .before .before .before .before .before .pass4 .ensures)
+    (c .before .before .before .before .before .pass5 .ensures) (c .before .pass6 .ensures) ∙ answered s
 
 pub passes-spec : {M : Type 1} → statement M
 passes-spec =

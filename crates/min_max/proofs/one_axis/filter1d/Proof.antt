@@ -16,7 +16,8 @@ use Rattle.min_max.proofs.one_axis.filter1d.Statement.{statement}
 use Rattle.min_max.proofs.one_axis.filter1d.Tie as tie
 
 -- the judge's number
-judged : (c : tie.After-judge-call) → let a = c .before .before .before .args in c .judge-call .result ≡ refusalOf (callJudged (now (a .«data»)) (callOf (now (a .shape)) (a .size) (a .axis) (a .mode) (a .origin) (now (a .out))))
+judged : (c : tie.After-judge-call) → let a = c .before .before .before .args in c .judge-call .result
+    ≡ refusalOf (callJudged (now (a .«data»)) (callOf (now (a .shape)) (a .size) (a .axis) (a .mode) (a .origin) (now (a .out))))
 judged c =
     let a = c .before .before .before .args in
     let e : toZ w64 (ofZ w64 (a .origin)) ≡ a .origin = search needs in

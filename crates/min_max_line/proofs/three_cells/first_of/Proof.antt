@@ -22,22 +22,26 @@ extreme-test a b p q = ap (λ g. orderBy g a b) p ∙ leZ-not-ltZ a b ∙ ap not
 returns : tie.Need-returns
 returns c =
     let s = c .before .before in
-    toZ-ofZ w64 _ (s .fits .b) ∙ sym (cond-no _ (s .args .a) (s .args .b) (greatest-test (s .args .a) (s .args .b) (c .before .if1 .taken) (rw (toZ-ofZ w64 _ (s .fits .a), toZ-ofZ w64 _ (s .fits .b)) at (c .if2 .taken))))
+    toZ-ofZ w64 _ (s .fits .b) ∙ sym (cond-no _ (s .args .a) (s .args .b) (greatest-test (s .args .a) (s .args .b) (c .before .if1 .taken)
+    (rw (toZ-ofZ w64 _ (s .fits .a), toZ-ofZ w64 _ (s .fits .b)) at (c .if2 .taken))))
 
 returns-2 : tie.Need-returns-2
 returns-2 c =
     let s = c .before .before in
-    toZ-ofZ w64 _ (s .fits .a) ∙ sym (cond-yes _ (s .args .a) (s .args .b) (greatest-test (s .args .a) (s .args .b) (c .before .if1 .taken) (rw (toZ-ofZ w64 _ (s .fits .a), toZ-ofZ w64 _ (s .fits .b)) at (c .if2 .left))))
+    toZ-ofZ w64 _ (s .fits .a) ∙ sym (cond-yes _ (s .args .a) (s .args .b) (greatest-test (s .args .a) (s .args .b) (c .before .if1 .taken)
+    (rw (toZ-ofZ w64 _ (s .fits .a), toZ-ofZ w64 _ (s .fits .b)) at (c .if2 .left))))
 
 returns-3 : tie.Need-returns-3
 returns-3 c =
     let s = c .before .before in
-    toZ-ofZ w64 _ (s .fits .b) ∙ sym (cond-no _ (s .args .a) (s .args .b) (extreme-test (s .args .a) (s .args .b) (c .before .if1 .left) (rw (toZ-ofZ w64 _ (s .fits .a), toZ-ofZ w64 _ (s .fits .b)) at (c .if3 .taken))))
+    toZ-ofZ w64 _ (s .fits .b) ∙ sym (cond-no _ (s .args .a) (s .args .b) (extreme-test (s .args .a) (s .args .b) (c .before .if1 .left)
+    (rw (toZ-ofZ w64 _ (s .fits .a), toZ-ofZ w64 _ (s .fits .b)) at (c .if3 .taken))))
 
 returns-4 : tie.Need-returns-4
 returns-4 c =
     let s = c .before .before in
-    toZ-ofZ w64 _ (s .fits .a) ∙ sym (cond-yes _ (s .args .a) (s .args .b) (extreme-test (s .args .a) (s .args .b) (c .before .if1 .left) (rw (toZ-ofZ w64 _ (s .fits .a), toZ-ofZ w64 _ (s .fits .b)) at (c .if3 .left))))
+    toZ-ofZ w64 _ (s .fits .a) ∙ sym (cond-yes _ (s .args .a) (s .args .b) (extreme-test (s .args .a) (s .args .b) (c .before .if1 .left)
+    (rw (toZ-ofZ w64 _ (s .fits .a), toZ-ofZ w64 _ (s .fits .b)) at (c .if3 .left))))
 
 pub first-of-spec : {M : Type 1} → statement M
 first-of-spec = tie.close (tie.spec returns returns-2 returns-3 returns-4)

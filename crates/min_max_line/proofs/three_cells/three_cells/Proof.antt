@@ -74,7 +74,8 @@ loop-again c =
       l .inv .3,
       read z (ap (λ (k : ℕ). getD (s .args .line .now) k (pos 0)) (sym (add-assoc (l .i) 1 1))),
       front-more (pos 0) _ _ (omega arith) (l .inv .4)
-          (three-read (orderBy (s .args .greatest)) (s .args .line .now) (l .i) (omega arith) (l .inv .2) (l .inv .3) (read z refl) (two .ok) (c .first-of2 .ok) (two .ensures) (c .first-of2 .ensures)),
+          (three-read (orderBy (s .args .greatest)) (s .args .line .now) (l .i) (omega arith) (l .inv .2) (l .inv .3) (read z refl) (two .ok) (c .first-of2 .ok) (two .ensures)
+          (c .first-of2 .ensures)),
     )
 
 same-length : tie.Need-same-length Inv-loop μ-loop

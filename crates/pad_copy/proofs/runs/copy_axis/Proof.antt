@@ -59,7 +59,8 @@ returns : tie.Need-returns
 returns c =
     let t = c .before .before .before .before .before in
     let s = t .before .before .before .before .before .before in
-    axis-copied (s .args .mode) (s .pre .0) (s .pre .1) (t .before .before .len-of .ensures) (t .before .len-of2 .ensures) (t .stride-of .ensures) (s .pre .2) (now (s .args .out)) (c .before .copy-blocks .ensures) refl
+    axis-copied (s .args .mode) (s .pre .0) (s .pre .1) (t .before .before .len-of .ensures) (t .before .len-of2 .ensures) (t .stride-of .ensures) (s .pre .2) (now (s .args .out))
+    (c .before .copy-blocks .ensures) refl
 
 pub copy-axis-spec : {M : Type 1} → statement M
 copy-axis-spec =

@@ -26,17 +26,32 @@ unfolding badPads
 returns-2 c = simp (condition-is (c .before .before .before .bad-count .ensures) (c .before .before .if1 .left), condition-is (c .before .over-pads .ensures) (c .if2 .taken))
 
 padded-cells-requires : tie.Need-padded-cells-requires
-padded-cells-requires c κs = (c .before .before .before .before .before .pre, condition-is (c .before .before .before .bad-count .ensures) (c .before .before .if1 .left), condition-is (c .before .over-pads .ensures) (c .if2 .left))
+padded-cells-requires c κs = (
+  c .before .before .before .before .before .pre,
+  condition-is (c .before .before .before .bad-count .ensures) (c .before .before .if1 .left),
+  condition-is
+      (c .before .over-pads .ensures) (c .if2 .left),
+)
 
 returns-3 : tie.Need-returns-3
 unfolding badPads
-returns-3 c = simp (condition-is (c .before .before .before .before .before .bad-count .ensures) (c .before .before .before .before .if1 .left), condition-is (c .before .before .before .over-pads .ensures) (c .before .before .if2 .left), lt-ltb _ _ (rw (c .before .padded-cells .ensures) at (c .if3 .taken)))
+returns-3 c = simp (
+  condition-is (c .before .before .before .before .before .bad-count .ensures) (c .before .before .before .before .if1 .left),
+  condition-is
+      (c .before .before .before .over-pads .ensures) (c .before .before .if2 .left),
+  lt-ltb _ _ (rw (c .before .padded-cells .ensures) at (c .if3 .taken)),
+)
 
 returns-4 : tie.Need-returns-4
 unfolding badPads
 returns-4 c =
     let a = c .before .before .before .before .before .before .before .args in
-    simp (condition-is (c .before .before .before .before .before .bad-count .ensures) (c .before .before .before .before .if1 .left), condition-is (c .before .before .before .over-pads .ensures) (c .before .before .if2 .left), le-ltb _ _ (rw (c .before .padded-cells .ensures) at (c .if3 .left)))
+    simp (
+      condition-is (c .before .before .before .before .before .bad-count .ensures) (c .before .before .before .before .if1 .left),
+      condition-is (c .before .before .before .over-pads .ensures)
+          (c .before .before .if2 .left),
+      le-ltb _ _ (rw (c .before .padded-cells .ensures) at (c .if3 .left)),
+    )
     (ap (λ (m : ℕ). not (eqb (a .out) m)) (c .before .padded-cells .ensures))
 
 pub bad-pads-spec : {M : Type 1} → statement M

@@ -33,7 +33,12 @@ padded-len-requires-3 : tie.Need-padded-len-requires-3
 padded-len-requires-3 c κs = asked (c .before .before) 2
 
 count-of-three-requires : tie.Need-count-of-three-requires
-count-of-three-requires c κs = (short (c .before .before .before) 0 (c .before .before .padded-len .ensures), short (c .before .before .before) 1 (c .before .padded-len2 .ensures), short (c .before .before .before) 2 (c .padded-len3 .ensures))
+count-of-three-requires c κs = (
+  short (c .before .before .before) 0 (c .before .before .padded-len .ensures),
+  short (c .before .before .before) 1 (c .before .padded-len2 .ensures),
+  short
+      (c .before .before .before) 2 (c .padded-len3 .ensures),
+)
 
 returns : tie.Need-returns
 returns c =

@@ -42,7 +42,8 @@ returns c =
     let a = c .before .before .before in
     let b = a .before .before .before .before in
     let s = b .before in
-    rims-filled (s .pre) (pos 0) (now (s .args .line)) _ refl (ap (λ (x : ℕ). s .args .left + x) (b .cell-before .ensures)) (a .before .before .copy-steps .ensures) (ap (λ (x : ℕ). s .args .left + x) (a .cell-after .ensures)) (c .before .copy-steps2 .ensures)
+    rims-filled (s .pre) (pos 0) (now (s .args .line)) _ refl (ap (λ (x : ℕ). s .args .left + x) (b .cell-before .ensures)) (a .before .before .copy-steps .ensures)
+    (ap (λ (x : ℕ). s .args .left + x) (a .cell-after .ensures)) (c .before .copy-steps2 .ensures)
 
 pub extend-along-spec : {M : Type 1} → statement M
 extend-along-spec =

@@ -42,7 +42,8 @@ returns c =
     let a = c .before .before .before .before in
     let b = a .before .before .before .before .before in
     let s = b .before .before in
-    rims-filled (s .pre) nan (now (s .args .line)) _ refl (ap (λ (x : ℕ). s .args .left + x) (b .cell-before .ensures)) (a .before .before .before .copy-steps-f64 .ensures) (ap (λ (x : ℕ). s .args .left + x) (a .cell-after .ensures)) (c .before .before .copy-steps-f642 .ensures)
+    rims-filled (s .pre) nan (now (s .args .line)) _ refl (ap (λ (x : ℕ). s .args .left + x) (b .cell-before .ensures)) (a .before .before .before .copy-steps-f64 .ensures)
+    (ap (λ (x : ℕ). s .args .left + x) (a .cell-after .ensures)) (c .before .before .copy-steps-f642 .ensures)
 
 pub extend-along-f64-spec : {M : Type 1} → statement M
 extend-along-f64-spec =

@@ -34,7 +34,9 @@ same-length : tie.Need-same-length
 same-length c = search needs
 
 returns : tie.Need-returns
-returns c = let s = c .before .before .before .before .before in read (c .level-of .ok) (c .level-of .ensures ∙ ap (statisticOf (s .before .args .statistic)) (own-read (s .before .args .s) (s .before .args .l) (s .before .args .left) (s .before .args .n) (now (s .before .args .grid)) (now (s .before .args .line)) (c .before .before .before .before .read-lane .ensures) (s .before .pre .0)))
+returns c = let s = c .before .before .before .before .before in read (c .level-of .ok) (c .level-of .ensures
+    ∙ ap (statisticOf (s .before .args .statistic)) (own-read (s .before .args .s) (s .before .args .l) (s .before .args .left) (s .before .args .n) (now (s .before .args .grid))
+    (now (s .before .args .line)) (c .before .before .before .before .read-lane .ensures) (s .before .pre .0)))
 
 pub level-by-spec : {M : Type 1} → statement M
 level-by-spec =

@@ -14,7 +14,8 @@ use Rattle.pad_statistic.proofs.place.middle_from.Statement.{statement}
 use Rattle.pad_statistic.proofs.place.middle_from.Tie as tie
 
 abbrev Inv-loop : tie.InvT-loop
-Inv-loop shape lefts padded from place a₀ a = (a ≤ length shape) × (middleFrom shape lefts from (coordinate padded place) ≡ allFrom (inMiddle shape lefts (coordinate padded place)) a (length shape - a))
+Inv-loop shape lefts padded from place a₀ a = (a ≤ length shape) × (middleFrom shape lefts from (coordinate padded place)
+    ≡ allFrom (inMiddle shape lefts (coordinate padded place)) a (length shape - a))
 
 abbrev μ-loop : tie.MeasureT-loop
 μ-loop shape lefts padded from place a₀ a = length shape - a

@@ -28,7 +28,8 @@ shared-slice-read-left : tie.Need-shared-slice-read-left
 shared-slice-read-left c = search needs
 
 returns : tie.Need-returns
-returns c = let s = c .before .before .before .before .before .before .before in middle-before (s .pre .0) (s .pre .2) (s .pre .1) (c .before .before .before .stride-of .ensures) (c .before .before .len-of .ensures) (c .if1 .taken)
+returns c = let s = c .before .before .before .before .before .before .before in middle-before (s .pre .0) (s .pre .2) (s .pre .1) (c .before .before .before .stride-of .ensures)
+    (c .before .before .len-of .ensures) (c .if1 .taken)
 
 len-of-requires-2 : tie.Need-len-of-requires-2
 len-of-requires-2 c κs = search needs
@@ -40,7 +41,8 @@ add-result c =
     record { fits = omega (arith, F .room (s .args .axis) (s .pre .2), F .short (s .args .axis), c .len-of2 .ensures) }
 
 returns-2 : tie.Need-returns-2
-returns-2 c = let s = c .before .before .before .before .before .before .before .before in middle-after (s .pre .0) (s .pre .2) (s .pre .1) (c .before .before .before .before .stride-of .ensures) (c .before .before .before .len-of .ensures) (c .len-of2 .ensures) (omega (arith, c .before .if1 .left))
+returns-2 c = let s = c .before .before .before .before .before .before .before .before in middle-after (s .pre .0) (s .pre .2) (s .pre .1) (c .before .before .before .before .stride-of .ensures)
+    (c .before .before .before .len-of .ensures) (c .len-of2 .ensures) (omega (arith, c .before .if1 .left))
 
 pub on-middle-spec : {M : Type 1} → statement M
 on-middle-spec =

@@ -107,7 +107,8 @@ returns c =
     let e = read (s .fits .c .sfits) refl in
     filled-all (filled-joined (c .before .before .before .loop .inv .1) (s .pre .0) (s .pre .1) (s .pre .2) (omega arith) (c .before .loop2 .inv .0) (c .before .loop2 .inv .3))
     (s .pre .0) (s .pre .1) (s .pre .2) (omega arith)
-    ∙ ap (λ (z : ℤ). withLane (pos 0) (a .p) (a .s) (a .l) (paddedLine (pos 0) (constant z) (a .left) (a .p - (a .left + a .n)) (ownOf (pos 0) (a .p) (a .s) (a .l) (a .left) (a .n) (now (a .out)))) (now (a .out))) e
+    ∙ ap (λ (z : ℤ). withLane (pos 0) (a .p) (a .s) (a .l) (paddedLine (pos 0) (constant z) (a .left) (a .p - (a .left + a .n)) (ownOf (pos 0) (a .p) (a .s) (a .l) (a .left) (a .n) (now (a .out))))
+    (now (a .out))) e
 
 pub fill-level-spec : {M : Type 1} → statement M
 fill-level-spec =

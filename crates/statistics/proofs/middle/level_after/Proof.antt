@@ -56,7 +56,8 @@ returns-2 : tie.Need-returns-2
 returns-2 c =
     let s = c .before .before .before in
     let l = s .args .levels .now in
-    read-at w32 (c .least-above .ok) (c .least-above .ensures ∙ ap (λ t. leastAbove leZ (toZ w32 (ofZ w32 (s .args .lower))) t l) (level-read w32 (omega arith) (maximumOf l) (high-size s) (high-is s)))
+    read-at w32 (c .least-above .ok) (c .least-above .ensures ∙ ap (λ t. leastAbove leZ (toZ w32 (ofZ w32 (s .args .lower))) t l)
+    (level-read w32 (omega arith) (maximumOf l) (high-size s) (high-is s)))
     ∙ next-above leZ total-≤ (pos 0) l (s .args .k) (s .pre .1 .0) _ (lower-is s) (maximumOf l) (ranked-below l (s .args .k + 1) (s .pre .1 .0) .le)
     (omega (arith, c .before .before .count-at-most .ensures, c .before .if1 .left))
 

@@ -39,8 +39,12 @@ distance-requires c κs = let E = found c in (E .low-size, (E .high-size, E .low
 loop-holds : tie.Need-loop-holds Inv-loop μ-loop
 loop-holds c =
     let s = c .before in
-    let E = found s in
-    (search needs, omega (arith, c .distance .ensures, offset-most (s .args .levels .now) (s .args .k) (s .pre .1 .1 .1) _ (E .low-ranked) _ (E .low-high) (E .ranked-high)), omega (arith, c .distance .ensures))
+    let E = found s in (
+      search needs,
+      omega (arith, c .distance .ensures, offset-most (s .args .levels .now) (s .args .k) (s .pre .1 .1 .1) _ (E .low-ranked) _ (E .low-high) (E .ranked-high)),
+      omega
+          (arith, c .distance .ensures),
+    )
 
 sub-middle : tie.Need-sub-middle Inv-loop μ-loop
 sub-middle c = search needs

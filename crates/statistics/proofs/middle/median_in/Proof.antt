@@ -21,8 +21,14 @@ maximum-requires c κs = search needs
 middle-level-requires : tie.Need-middle-level-requires
 middle-level-requires c κs =
     let n = c .before .before .before .before in
-    let e = n .narrow .ensures in
-    (ap unserved e ∙ n .before .before .pre .0, (read (c .before .before .minimum .ok) (c .before .before .minimum .ensures) ∙ ap minimumOf (sym e), (read (c .before .maximum .ok) (c .before .maximum .ensures) ∙ ap maximumOf (sym e), omega (arith, ap length e, n .before .before .pre .1 .0))))
+    let e = n .narrow .ensures in (
+      ap unserved e ∙ n .before .before .pre .0,
+      (
+        read (c .before .before .minimum .ok) (c .before .before .minimum .ensures)
+            ∙ ap minimumOf (sym e),
+        (read (c .before .maximum .ok) (c .before .maximum .ensures) ∙ ap maximumOf (sym e), omega (arith, ap length e, n .before .before .pre .1 .0)),
+      ),
+    )
 
 same-length : tie.Need-same-length
 same-length c = let n = c .before .before .before .before .before in ap length (n .narrow .ensures) ∙ sym (n .before .before .pre .1 .1)

@@ -51,17 +51,20 @@ level-after-requires : tie.Need-level-after-requires
 level-after-requires c κs = (c .before .before .pre .0, (omega (arith, c .if1 .left), (lower-is (c .before), toZ-ofZ w64 _ (c .before .before .fits .high) ∙ c .before .before .pre .1 .1 .0)))
 
 cast-result-2 : tie.Need-cast-result-2
-cast-result-2 c = let s = c .before .before .before in level-fits w64 (omega arith) (ranked (s .args .levels .now) ((length (s .args .levels .now) - 1) / 2)) (ranked-size s _) (lower-is (c .before .before))
+cast-result-2 c = let s = c .before .before .before in level-fits w64 (omega arith) (ranked (s .args .levels .now) ((length (s .args .levels .now) - 1) / 2)) (ranked-size s _)
+    (lower-is (c .before .before))
 
 cast-result-3 : tie.Need-cast-result-3
 cast-result-3 c = let s = c .before .before .before in level-fits w64 (omega arith) (ranked (s .args .levels .now) ((length (s .args .levels .now) - 1) / 2 + 1)) (ranked-size s _) (upper-is c)
 
 -- the sum of the two, which fits
 middles : (c : tie.After-level-after) → let l = c .before .before .before .args .levels .now in
-    toZ w64 (ofZ w64 (toZ w32 (ofZ w32 (c .before .before .level-of-rank .result)))) +ℤ toZ w64 (ofZ w64 (toZ w32 (ofZ w32 (c .level-after .result)))) ≡ ranked l ((length l - 1) / 2) +ℤ ranked l ((length l - 1) / 2 + 1)
+    toZ w64 (ofZ w64 (toZ w32 (ofZ w32 (c .before .before .level-of-rank .result)))) +ℤ toZ w64 (ofZ w64 (toZ w32 (ofZ w32 (c .level-after .result))))
+    ≡ ranked l ((length l - 1) / 2) +ℤ ranked l ((length l - 1) / 2 + 1)
 middles c = let s = c .before .before .before in
     let l = s .args .levels .now in
-    (λ i. level-read w64 (omega arith) (ranked l ((length l - 1) / 2)) (ranked-size s _) (lower-is (c .before .before)) i +ℤ level-read w64 (omega arith) (ranked l ((length l - 1) / 2 + 1)) (ranked-size s _) (upper-is c) i)
+    (λ i. level-read w64 (omega arith) (ranked l ((length l - 1) / 2)) (ranked-size s _) (lower-is (c .before .before)) i
+    +ℤ level-read w64 (omega arith) (ranked l ((length l - 1) / 2 + 1)) (ranked-size s _) (upper-is c) i)
 
 add-result : tie.Need-add-result
 add-result c = let s = c .before .before .before in

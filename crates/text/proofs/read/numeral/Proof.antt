@@ -49,10 +49,18 @@ returns-3 c =
     (c .before .if2 .left) (search needs) (search needs) (c .if3 .taken)
 
 mul-n : tie.Need-mul-n Inv-loop μ-loop
-mul-n c = let o = c .before .before .before .before .before in omega (arith, next-fits (o .before .before .before .args .base) (o .loop .n) (c .before .before .digit .result) (omega arith) (omega arith) (c .if3 .left))
+mul-n c = let o = c .before .before .before .before .before in omega (
+  arith,
+  next-fits (o .before .before .before .args .base) (o .loop .n) (c .before .before .digit .result) (omega arith)
+      (omega arith) (c .if3 .left),
+)
 
 add-n : tie.Need-add-n Inv-loop μ-loop
-add-n c = let o = c .before .before .before .before .before in omega (arith, next-fits (o .before .before .before .args .base) (o .loop .n) (c .before .before .digit .result) (omega arith) (omega arith) (c .if3 .left))
+add-n c = let o = c .before .before .before .before .before in omega (
+  arith,
+  next-fits (o .before .before .before .args .base) (o .loop .n) (c .before .before .digit .result) (omega arith)
+      (omega arith) (c .if3 .left),
+)
 
 add-i : tie.Need-add-i Inv-loop μ-loop
 add-i c = search needs
@@ -63,8 +71,16 @@ loop-less c = search needs
 loop-again : tie.Need-loop-again Inv-loop μ-loop
 loop-again c =
     let o = c .before .before .before .before .before in
-    let a = o .before .before .before .args in
-    (search needs, let o = c .before .before .before .before .before in omega (arith, next-fits (o .before .before .before .args .base) (o .loop .n) (c .before .before .digit .result) (omega arith) (omega arith) (c .if3 .left)), byte-next (a .base) (o .loop .n) (o .loop .i) _ (a .token .now) _ (c .before .before .before .before .loop-test .taken) (c .before .before .digit .ensures) (o .loop .inv .2) (c .before .if2 .left))
+    let a = o .before .before .before .args in (
+      search needs,
+      let o = c .before .before .before .before .before in omega (
+        arith,
+        next-fits (o .before .before .before .args .base) (o .loop .n) (c .before .before .digit .result) (omega arith)
+            (omega arith) (c .if3 .left),
+      ),
+      byte-next (a .base) (o .loop .n) (o .loop .i) _ (a .token .now) _ (c .before .before .before .before .loop-test .taken) (c .before .before .digit .ensures)
+          (o .loop .inv .2) (c .before .if2 .left),
+    )
 
 returns-4 : tie.Need-returns-4 Inv-loop μ-loop
 returns-4 c =

@@ -46,7 +46,8 @@ returns-2 : tie.Need-returns-2
 returns-2 c =
     let o = c .before .before .before .before in
     let a = o .before .before .before .before in
-    written-below (a .args .z) (a .args .out .now) _ (o .size .result) _ (o .before .before .if1 .left) (o .size .ensures ∙ ap natAbs (toZ-ofZ {w = w64} (a .fits .z))) (c .before .before .write-size .ensures .0)
+    written-below (a .args .z) (a .args .out .now) _ (o .size .result) _ (o .before .before .if1 .left) (o .size .ensures ∙ ap natAbs (toZ-ofZ {w = w64} (a .fits .z)))
+    (c .before .before .write-size .ensures .0)
     (below-is (a .args .z) (a .fits .z) (o .before .if2 .taken)) (c .before .before .write-size .ensures .1)
 
 size-requires-2 : tie.Need-size-requires-2
@@ -62,7 +63,8 @@ returns-3 : tie.Need-returns-3
 returns-3 c =
     let o = c .before .before .before .before in
     let a = o .before .before .before .before in
-    written-on (a .args .z) (a .args .out .now) _ (o .size2 .result) _ (o .before .before .if1 .left) (o .size2 .ensures ∙ ap natAbs (toZ-ofZ {w = w64} (a .fits .z))) (c .before .before .write-size2 .ensures .0)
+    written-on (a .args .z) (a .args .out .now) _ (o .size2 .result) _ (o .before .before .if1 .left) (o .size2 .ensures ∙ ap natAbs (toZ-ofZ {w = w64} (a .fits .z)))
+    (c .before .before .write-size2 .ensures .0)
     (on-is (a .args .z) (a .fits .z) (o .before .if2 .left)) (c .before .before .write-size2 .ensures .1)
 
 pub write-signed-spec : {M : Type 1} → statement M

@@ -24,8 +24,10 @@ axis-in c = condition-is (c .before .bad-axis .ensures) (c .if2 .left)
 constant-in : (c : tie.Else3) → badConstantBy badLevel (borderOf (c .before .before .before .before .before .before .before .args .mode)) ≡ false
 constant-in c = condition-is (c .before .bad-constant .ensures) (c .if3 .left)
 
-reached : (c : tie.After-bad-window) → let a = c .before .before .before .before .before .before .before .before .before .args in c .bad-window .result ≡ badReach (borderOf (a .mode)) (a .size) (pos 0) (lengthOf (now (a .shape)) (a .axis))
-reached c = let a = c .before .before .before .before .before .before .before .before .before .args in c .bad-window .ensures ∙ ap (badReach (borderOf (a .mode)) (a .size) (pos 0)) (c .before .len-of .ensures)
+reached : (c : tie.After-bad-window) → let a = c .before .before .before .before .before .before .before .before .before .args in c .bad-window .result
+    ≡ badReach (borderOf (a .mode)) (a .size) (pos 0) (lengthOf (now (a .shape)) (a .axis))
+reached c = let a = c .before .before .before .before .before .before .before .before .before .args in c .bad-window .ensures
+    ∙ ap (badReach (borderOf (a .mode)) (a .size) (pos 0)) (c .before .len-of .ensures)
 
 bad-size-requires : tie.Need-bad-size-requires
 bad-size-requires c κs = search needs
@@ -52,10 +54,22 @@ bad-window-requires : tie.Need-bad-window-requires
 bad-window-requires c κs = size-in (c .before .before .before .before .before)
 
 returns-4 : tie.Need-returns-4
-returns-4 c = simp (size-in (c .before .before .before .before .before .before .before), axis-in (c .before .before .before .before .before), constant-in (c .before .before .before), condition-is (reached (c .before)) (c .if4 .taken)) refl
+returns-4 c = simp (
+  size-in (c .before .before .before .before .before .before .before),
+  axis-in (c .before .before .before .before .before),
+  constant-in (c .before .before .before),
+  condition-is
+      (reached (c .before)) (c .if4 .taken),
+) refl
 
 returns-5 : tie.Need-returns-5
-returns-5 c = simp (size-in (c .before .before .before .before .before .before .before), axis-in (c .before .before .before .before .before), constant-in (c .before .before .before), condition-is (reached (c .before)) (c .if4 .left)) refl
+returns-5 c = simp (
+  size-in (c .before .before .before .before .before .before .before),
+  axis-in (c .before .before .before .before .before),
+  constant-in (c .before .before .before),
+  condition-is
+      (reached (c .before)) (c .if4 .left),
+) refl
 
 pub judge-along-spec : {M : Type 1} → statement M
 judge-along-spec =

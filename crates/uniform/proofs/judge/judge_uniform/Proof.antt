@@ -32,7 +32,8 @@ returns-2 c =
     let a = c .before .before .before .before .before .args in
     let b = borderOf (a .mode) in
     grid-ends badLevel (now (a .shape)) (now (a .«data»)) (a .out ∷ a .second ∷ []) (uniformAxesJudged b (a .size) (now (a .shape)))
-    (badUniformSumsFrom b (a .size) (now (a .shape)) 0 (length (now (a .shape))) (now (a .«data»))) 12 (tt, (tt, (tt, tt))) (c .before .before .judge-grid .ensures) (c .before .if1 .left) (c .judge-axes .ensures)
+    (badUniformSumsFrom b (a .size) (now (a .shape)) 0 (length (now (a .shape))) (now (a .«data»))) 12 (tt, (tt, (tt, tt))) (c .before .before .judge-grid .ensures) (c .before .if1 .left)
+    (c .judge-axes .ensures)
     (λ G p. no-bad-sums-from b (a .size) (now (a .shape)) (now (a .«data»)) (G .levels) (p .1 .0) (p .0) 0 (length (now (a .shape))))
 
 pub judge-uniform-spec : {M : Type 1} → statement M

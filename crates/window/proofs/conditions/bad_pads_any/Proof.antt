@@ -35,7 +35,8 @@ returns : tie.Need-returns Inv-loop μ-loop
 returns c =
     let s = c .before .before .before .before .before .before in
     let l = c .before .before .before .before .loop in
-    sym (any-hit (badEitherPad (borderOf (s .args .mode)) (s .args .left) (s .args .right)) 0 (l .a) (now (s .args .shape)) (search needs) (l .inv .1) (condition-is (c .before .bad-pads .ensures) (c .if1 .taken)))
+    sym (any-hit (badEitherPad (borderOf (s .args .mode)) (s .args .left) (s .args .right)) 0 (l .a) (now (s .args .shape)) (search needs) (l .inv .1)
+    (condition-is (c .before .bad-pads .ensures) (c .if1 .taken)))
 
 add-a : tie.Need-add-a Inv-loop μ-loop
 add-a c = search needs
@@ -46,8 +47,11 @@ loop-less c = search needs
 loop-again : tie.Need-loop-again Inv-loop μ-loop
 loop-again c =
     let s = c .before .before .before .before .before .before in
-    let l = c .before .before .before .before .loop in
-    (search needs, any-miss (badEitherPad (borderOf (s .args .mode)) (s .args .left) (s .args .right)) 0 (l .a) (now (s .args .shape)) (search needs) (l .inv .1) (condition-is (c .before .bad-pads .ensures) (c .if1 .left)))
+    let l = c .before .before .before .before .loop in (
+      search needs,
+      any-miss (badEitherPad (borderOf (s .args .mode)) (s .args .left) (s .args .right)) 0 (l .a) (now (s .args .shape)) (search needs) (l .inv .1)
+          (condition-is (c .before .bad-pads .ensures) (c .if1 .left)),
+    )
 
 returns-2 : tie.Need-returns-2 Inv-loop μ-loop
 returns-2 c =

@@ -43,7 +43,8 @@ returns-3 : tie.Need-returns-3
 returns-3 c =
     let k = c .before .before .before .before in
     let s = k .before .before .before in
-    c .bad-pads-any .ensures ∙ reach-any-is (s .args .size) (s .args .origin) (k .before .if1 .left) (s .pre) (checked k) (borderOf (s .args .mode)) (now (s .args .shape)) (c .before .before .left .given .1)
+    c .bad-pads-any .ensures ∙ reach-any-is (s .args .size) (s .args .origin) (k .before .if1 .left) (s .pre) (checked k) (borderOf (s .args .mode)) (now (s .args .shape))
+    (c .before .before .left .given .1)
 
 pub bad-reach-any-spec : {M : Type 1} → statement M
 bad-reach-any-spec = tie.close (tie.spec returns origin-check-requires enum-told enum-known-left bad-pads-any-requires returns-2 returns-3)

@@ -24,7 +24,8 @@ applied c =
     k ∙ c .applied-origin .ensures ∙ ap (appliedOrigin (a .convolution) (a .len)) e
 
 returns : tie.Need-returns
-returns c = let a = c .before .args in single-cell (a .len) (badEitherPad (borderOf (a .mode)) (leftPad (a .len) (appliedOrigin (a .convolution) (a .len) (a .origin))) (rightPad (a .len) (appliedOrigin (a .convolution) (a .len) (a .origin))) (a .n)) (c .if1 .taken)
+returns c = let a = c .before .args in single-cell (a .len) (badEitherPad (borderOf (a .mode)) (leftPad (a .len) (appliedOrigin (a .convolution) (a .len) (a .origin)))
+    (rightPad (a .len) (appliedOrigin (a .convolution) (a .len) (a .origin))) (a .n)) (c .if1 .taken)
 
 applied-origin-requires : tie.Need-applied-origin-requires
 applied-origin-requires c κs =
@@ -36,7 +37,8 @@ bad-reach-requires : tie.Need-bad-reach-requires
 bad-reach-requires c κs =
     let s = c .before .before in
     let more = c .before .if1 .left in
-    ap (badWindowOrigin (s .args .len)) (applied c) ∙ ap (λ (t : Bool). not (eqb (s .args .len) 1) && t) (applied-range (s .args .convolution) (s .args .len) (s .args .origin) ∙ origin-accepted (s .args .len) (s .args .origin) more (s .pre))
+    ap (badWindowOrigin (s .args .len)) (applied c) ∙ ap (λ (t : Bool). not (eqb (s .args .len) 1) && t)
+    (applied-range (s .args .convolution) (s .args .len) (s .args .origin) ∙ origin-accepted (s .args .len) (s .args .origin) more (s .pre))
     ∙ and-false (not (eqb (s .args .len) 1))
 
 returns-2 : tie.Need-returns-2

@@ -21,7 +21,8 @@ accepted : (s : tie.Start) → badOrigin (s .args .side) (appliedOrigin (s .args
 accepted s = applied-range (s .args .convolution) (s .args .side) (s .args .origin) ∙ s .pre
 
 -- the answer to it
-checked : (c : tie.After-kernel-origin-check) → let a = c .before .before .before .args in c .kernel-origin-check .result ≡ originPads (a .side) (a .side / 2) (a .side / 2) (appliedOrigin (a .convolution) (a .side) (a .origin))
+checked : (c : tie.After-kernel-origin-check) → let a = c .before .before .before .args in c .kernel-origin-check .result
+    ≡ originPads (a .side) (a .side / 2) (a .side / 2) (appliedOrigin (a .convolution) (a .side) (a .origin))
 checked c =
     let a = c .before .before .before .args in
     let e : toZ w64 (ofZ w64 (a .origin)) ≡ a .origin = search needs in
