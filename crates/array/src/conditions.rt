@@ -102,9 +102,8 @@ pub fn bad_axis(shape: &[usize], axis: usize) -> bool
 
 // Conditions 1 and 2 in rising order, of a grid of `len` cells and the lent grids; the cells are counted once.
 fn judge_lengths(shape: &[usize], len: usize, lent: &[usize]) -> u8
-    ensures { λ r. ⌜ r ≡ refusalOf
-        ((badShape (now (shape .entry)), 1) ∷ (anyOf (badLength (now (shape .entry))) (len ∷ now (lent .entry)), 2)
-        ∷ []) ⌝ }
+    ensures { λ r. ⌜ r ≡ refusalOf ((badShape (now (shape .entry)), 1) ∷
+        (anyOf (badLength (now (shape .entry))) (len ∷ now (lent .entry)), 2) ∷ []) ⌝ }
 {
     let count = cell_count(shape);
     if count == 0 {

@@ -20,8 +20,8 @@ pub fn len_of(shape: &[usize], axis: usize) -> usize
 
 // The number of cells of three lengths; 0 where a length is outside 1..1,024 or there are over 8,192 cells.
 fn count_of_three(a: usize, b: usize, c: usize) -> usize
-    ensures { λ r. ⌜ r ≡ cond (outside 1 longestAxis a
-        || (outside 1 longestAxis b || (outside 1 longestAxis c || ltb mostCells (a * (b * c))))) 0 (a * (b * c)) ⌝ }
+    ensures { λ r. ⌜ r ≡ cond (outside 1 longestAxis a ||
+        (outside 1 longestAxis b || (outside 1 longestAxis c || ltb mostCells (a * (b * c))))) 0 (a * (b * c)) ⌝ }
 {
     if a < 1 {
         return 0;

@@ -42,9 +42,8 @@ pub extern "C" fn suvvokal_correlate(
 ) -> u8
     ensures { λ r. ⌜ Answers (coded (kernelJudged false (borderOf (modeOf code constant)) origin (now (sides .entry))
         (now (weights .entry)) (now (shape .entry)) (now («data» .entry)) (length (now (out .entry))))
-        (unknownBorder code))
-        (correlateZ (borderOf (modeOf code constant)) origin (now (sides .entry)) (now (weights .entry))
-        (now (shape .entry)) (now («data» .entry))) (now (out .entry)) r (now (out .exit)) ⌝ }
+        (unknownBorder code)) (correlateZ (borderOf (modeOf code constant)) origin (now (sides .entry))
+        (now (weights .entry)) (now (shape .entry)) (now («data» .entry))) (now (out .entry)) r (now (out .exit)) ⌝ }
 {
     let mode = codes::mode_of(code, constant);
     if 4 < code {
@@ -78,9 +77,8 @@ pub extern "C" fn suvvokal_convolve(
 ) -> u8
     ensures { λ r. ⌜ Answers (coded (kernelJudged true (borderOf (modeOf code constant)) origin (now (sides .entry))
         (now (weights .entry)) (now (shape .entry)) (now («data» .entry)) (length (now (out .entry))))
-        (unknownBorder code))
-        (convolveZ (borderOf (modeOf code constant)) origin (now (sides .entry)) (now (weights .entry))
-        (now (shape .entry)) (now («data» .entry))) (now (out .entry)) r (now (out .exit)) ⌝ }
+        (unknownBorder code)) (convolveZ (borderOf (modeOf code constant)) origin (now (sides .entry))
+        (now (weights .entry)) (now (shape .entry)) (now («data» .entry))) (now (out .entry)) r (now (out .exit)) ⌝ }
 {
     let mode = codes::mode_of(code, constant);
     if 4 < code {
@@ -120,9 +118,9 @@ pub extern "C" fn suvvokal_prewitt(
     second: &mut [i64],
     out: &mut [i64],
 ) -> u8
-    ensures { λ r. ⌜ ScratchAnswers (pos 0) (coded (gradientJudged prewittWeights (borderOf (modeOf code constant))
-        (now (shape .entry)) axis (now («data» .entry)) (length (now (out .entry))) (length (now (second .entry))))
-        (unknownBorder code))
+    ensures { λ r. ⌜ ScratchAnswers (pos 0) (coded
+        (gradientJudged prewittWeights (borderOf (modeOf code constant)) (now (shape .entry)) axis (now («data» .entry))
+        (length (now (out .entry))) (length (now (second .entry)))) (unknownBorder code))
         (gradientOf prewittWeights (borderOf (modeOf code constant)) (now (shape .entry)) axis (now («data» .entry)))
         (now (out .entry)) (now (second .entry) ∷ []) r (now (out .exit)) (now (second .exit) ∷ []) ⌝ }
 {
@@ -146,9 +144,9 @@ pub extern "C" fn suvvokal_sobel(
     second: &mut [i64],
     out: &mut [i64],
 ) -> u8
-    ensures { λ r. ⌜ ScratchAnswers (pos 0) (coded (gradientJudged sobelWeights (borderOf (modeOf code constant))
-        (now (shape .entry)) axis (now («data» .entry)) (length (now (out .entry))) (length (now (second .entry))))
-        (unknownBorder code))
+    ensures { λ r. ⌜ ScratchAnswers (pos 0) (coded
+        (gradientJudged sobelWeights (borderOf (modeOf code constant)) (now (shape .entry)) axis (now («data» .entry))
+        (length (now (out .entry))) (length (now (second .entry)))) (unknownBorder code))
         (gradientOf sobelWeights (borderOf (modeOf code constant)) (now (shape .entry)) axis (now («data» .entry)))
         (now (out .entry)) (now (second .entry) ∷ []) r (now (out .exit)) (now (second .exit) ∷ []) ⌝ }
 {
@@ -181,9 +179,9 @@ pub extern "C" fn suvvokal_uniform_filter(
     second: &mut [i64],
     out: &mut [i64],
 ) -> u8
-    ensures { λ r. ⌜ ScratchAnswers (pos 0) (coded (uniformJudged (borderOf (modeOf code constant)) size
-        (now (shape .entry)) (now («data» .entry)) (length (now (out .entry))) (length (now (second .entry))))
-        (unknownBorder code))
+    ensures { λ r. ⌜ ScratchAnswers (pos 0) (coded
+        (uniformJudged (borderOf (modeOf code constant)) size (now (shape .entry)) (now («data» .entry))
+        (length (now (out .entry))) (length (now (second .entry)))) (unknownBorder code))
         (uniformOf (borderOf (modeOf code constant)) size (now (shape .entry)) (now («data» .entry))) (now (out .entry))
         (now (second .entry) ∷ []) r (now (out .exit)) (now (second .exit) ∷ []) ⌝ }
 {
@@ -218,9 +216,9 @@ pub extern "C" fn suvvokal_minimum_filter(
     second: &mut [i64],
     out: &mut [i64],
 ) -> u8
-    ensures { λ r. ⌜ ScratchAnswers (pos 0) (coded (filterJudged (now («data» .entry))
-        (callOf (now (shape .entry)) size 0 (modeOf code constant) origin (now (out .entry)))
-        (length (now (second .entry)))) (unknownBorder code))
+    ensures { λ r. ⌜ ScratchAnswers (pos 0) (coded
+        (filterJudged (now («data» .entry)) (callOf (now (shape .entry)) size 0 (modeOf code constant) origin
+        (now (out .entry))) (length (now (second .entry)))) (unknownBorder code))
         (filterAnswer leZ (callOf (now (shape .entry)) size 0 (modeOf code constant) origin (now (out .entry)))
         (now («data» .entry))) (now (out .entry)) (now (second .entry) ∷ []) r (now (out .exit))
         (now (second .exit) ∷ []) ⌝ }
@@ -254,9 +252,9 @@ pub extern "C" fn suvvokal_maximum_filter(
     second: &mut [i64],
     out: &mut [i64],
 ) -> u8
-    ensures { λ r. ⌜ ScratchAnswers (pos 0) (coded (filterJudged (now («data» .entry))
-        (callOf (now (shape .entry)) size 0 (modeOf code constant) origin (now (out .entry)))
-        (length (now (second .entry)))) (unknownBorder code))
+    ensures { λ r. ⌜ ScratchAnswers (pos 0) (coded
+        (filterJudged (now («data» .entry)) (callOf (now (shape .entry)) size 0 (modeOf code constant) origin
+        (now (out .entry))) (length (now (second .entry)))) (unknownBorder code))
         (filterAnswer atLeast (callOf (now (shape .entry)) size 0 (modeOf code constant) origin (now (out .entry)))
         (now («data» .entry))) (now (out .entry)) (now (second .entry) ∷ []) r (now (out .exit))
         (now (second .exit) ∷ []) ⌝ }

@@ -39,9 +39,8 @@ pub extern "C" fn suvvokal_correlate1d(
 ) -> u8
     ensures { λ r. ⌜ Answers (coded (correlateJudged false (borderOf (modeOf code constant)) origin
         (now (weights .entry)) (now (shape .entry)) axis (now («data» .entry)) (length (now (out .entry))))
-        (unknownBorder code))
-        (correlate1dZ (borderOf (modeOf code constant)) origin (now (weights .entry)) (now (shape .entry)) axis
-        (now («data» .entry))) (now (out .entry)) r (now (out .exit)) ⌝ }
+        (unknownBorder code)) (correlate1dZ (borderOf (modeOf code constant)) origin (now (weights .entry))
+        (now (shape .entry)) axis (now («data» .entry))) (now (out .entry)) r (now (out .exit)) ⌝ }
 {
     let mode = codes::mode_of(code, constant);
     if 4 < code {
@@ -75,9 +74,8 @@ pub extern "C" fn suvvokal_convolve1d(
 ) -> u8
     ensures { λ r. ⌜ Answers (coded (correlateJudged true (borderOf (modeOf code constant)) origin
         (now (weights .entry)) (now (shape .entry)) axis (now («data» .entry)) (length (now (out .entry))))
-        (unknownBorder code))
-        (convolve1dZ (borderOf (modeOf code constant)) origin (now (weights .entry)) (now (shape .entry)) axis
-        (now («data» .entry))) (now (out .entry)) r (now (out .exit)) ⌝ }
+        (unknownBorder code)) (convolve1dZ (borderOf (modeOf code constant)) origin (now (weights .entry))
+        (now (shape .entry)) axis (now («data» .entry))) (now (out .entry)) r (now (out .exit)) ⌝ }
 {
     let mode = codes::mode_of(code, constant);
     if 4 < code {
@@ -111,9 +109,8 @@ pub extern "C" fn suvvokal_correlate1d_f64(
 ) -> u8
     ensures { λ r. ⌜ Answers (coded (correlateJudgedF false (borderOfF64 (modeOfF64 code constant)) origin
         (now (weights .entry)) (now (shape .entry)) axis (now («data» .entry)) (length (now (out .entry))))
-        (unknownBorder code))
-        (correlate1dF (borderOfF64 (modeOfF64 code constant)) origin (now (weights .entry)) (now (shape .entry)) axis
-        (now («data» .entry))) (now (out .entry)) r (now (out .exit)) ⌝ }
+        (unknownBorder code)) (correlate1dF (borderOfF64 (modeOfF64 code constant)) origin (now (weights .entry))
+        (now (shape .entry)) axis (now («data» .entry))) (now (out .entry)) r (now (out .exit)) ⌝ }
 {
     let mode = codes::mode_of_f64(code, constant);
     if 4 < code {
@@ -147,9 +144,8 @@ pub extern "C" fn suvvokal_convolve1d_f64(
 ) -> u8
     ensures { λ r. ⌜ Answers (coded (correlateJudgedF true (borderOfF64 (modeOfF64 code constant)) origin
         (now (weights .entry)) (now (shape .entry)) axis (now («data» .entry)) (length (now (out .entry))))
-        (unknownBorder code))
-        (convolve1dF (borderOfF64 (modeOfF64 code constant)) origin (now (weights .entry)) (now (shape .entry)) axis
-        (now («data» .entry))) (now (out .entry)) r (now (out .exit)) ⌝ }
+        (unknownBorder code)) (convolve1dF (borderOfF64 (modeOfF64 code constant)) origin (now (weights .entry))
+        (now (shape .entry)) axis (now («data» .entry))) (now (out .entry)) r (now (out .exit)) ⌝ }
 {
     let mode = codes::mode_of_f64(code, constant);
     if 4 < code {

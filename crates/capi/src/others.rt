@@ -19,8 +19,8 @@ use kernel3d::Kernel3d;
 #[no_mangle]
 pub extern "C" fn suvvokal_median_filter(mask: &[bool], shape: &[usize], out: &mut [bool]) -> u8
     ensures { λ r. ⌜ Answers (medianJudged (now (shape .entry)) (length (now (mask .entry)))
-        (length (now (out .entry))))
-        (medianAnswer (now (shape .entry)) (now (mask .entry))) (now (out .entry)) r (now (out .exit)) ⌝ }
+        (length (now (out .entry)))) (medianAnswer (now (shape .entry)) (now (mask .entry))) (now (out .entry)) r
+        (now (out .exit)) ⌝ }
 {
     median::median_filter(mask, shape, out)
 }

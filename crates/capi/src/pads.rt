@@ -65,8 +65,7 @@ pub extern "C" fn suvvokal_pad(
 ) -> u8
     ensures { λ r. ⌜ Answers (coded (padJudged (paddingOf code constant) (now (shape .entry))
         (pairsOf (now (lefts .entry)) (now (rights .entry))) count (now («data» .entry)) (length (now (out .entry))))
-        (unknownPad code))
-        (paddedGrid (paddingOf code constant) (now (shape .entry))
+        (unknownPad code)) (paddedGrid (paddingOf code constant) (now (shape .entry))
         (leftsOf (now (shape .entry)) (pairsOf (now (lefts .entry)) (now (rights .entry))) count)
         (rightsOf (now (shape .entry)) (pairsOf (now (lefts .entry)) (now (rights .entry))) count)
         (now («data» .entry))) (now (out .entry)) r (now (out .exit)) ⌝ }
@@ -95,11 +94,10 @@ pub extern "C" fn suvvokal_pad_to(
 ) -> u8
     ensures { λ r. ⌜ Answers (coded (padJudged (paddingOf code constant) (now (shape .entry))
         (pairsOf (now (lefts .entry)) (now (rights .entry))) count (now («data» .entry)) (length (now (out .entry))))
-        (unknownPad code))
-        (paddedOver (paddingOf code constant) (now (shape .entry))
+        (unknownPad code)) (paddedOver (paddingOf code constant) (now (shape .entry))
         (leftsOf (now (shape .entry)) (pairsOf (now (lefts .entry)) (now (rights .entry))) count)
-        (rightsOf (now (shape .entry)) (pairsOf (now (lefts .entry)) (now (rights .entry))) count)
-        (now («data» .entry)) (now (out .entry))) (now (out .entry)) r (now (out .exit)) ⌝ }
+        (rightsOf (now (shape .entry)) (pairsOf (now (lefts .entry)) (now (rights .entry))) count) (now («data» .entry))
+        (now (out .entry))) (now (out .entry)) r (now (out .exit)) ⌝ }
 {
     let mode = codes::pad_mode_of(code, constant);
     let pairs = pairs_of(lefts, rights);

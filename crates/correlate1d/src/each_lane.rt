@@ -52,9 +52,9 @@ fn correlate_rows(
     line: &mut [i64],
     out: &mut [i64],
 )
-    requires { ⌜ AxisNeeds (borderOf mode) (now shape) axis left right (now «data») (now out) × (length (now weights)
-        ≡ left + right + 1) × WeightNeeds (now weights) (borderOf mode) (now «data») × (length (now line)
-        ≡ longestLine) × (strideOf (now shape) axis ≡ 1) ⌝ }
+    requires { ⌜ AxisNeeds (borderOf mode) (now shape) axis left right (now «data») (now out)
+        × (length (now weights) ≡ left + right + 1) × WeightNeeds (now weights) (borderOf mode) (now «data»)
+        × (length (now line) ≡ longestLine) × (strideOf (now shape) axis ≡ 1) ⌝ }
     ensures { λ _. ⌜ now (out .exit) ≡ alongAxis (pos 0)
         (correlatedLine wholeOps NonSymmetric (borderOf mode) left right (now (weights .entry))) (now (shape .entry))
         axis (now («data» .entry)) ⌝ }
@@ -96,9 +96,9 @@ fn correlate_lanes(
     swept: &mut [i64],
     out: &mut [i64],
 )
-    requires { ⌜ AxisNeeds (borderOf mode) (now shape) axis left right (now «data») (now out) × (length (now weights)
-        ≡ left + right + 1) × WeightNeeds (now weights) (borderOf mode) (now «data») × (length (now line)
-        ≡ longestLine) × (length (now swept) ≡ lengthOf (now shape) axis) ⌝ }
+    requires { ⌜ AxisNeeds (borderOf mode) (now shape) axis left right (now «data») (now out)
+        × (length (now weights) ≡ left + right + 1) × WeightNeeds (now weights) (borderOf mode) (now «data»)
+        × (length (now line) ≡ longestLine) × (length (now swept) ≡ lengthOf (now shape) axis) ⌝ }
     ensures { λ _. ⌜ now (out .exit) ≡ alongAxis (pos 0)
         (correlatedLine wholeOps NonSymmetric (borderOf mode) left right (now (weights .entry))) (now (shape .entry))
         axis (now («data» .entry)) ⌝ }
@@ -142,9 +142,9 @@ fn correlate_columns(
     line: &mut [i64],
     out: &mut [i64],
 )
-    requires { ⌜ AxisNeeds (borderOf mode) (now shape) axis left right (now «data») (now out) × (length (now weights)
-        ≡ left + right + 1) × WeightNeeds (now weights) (borderOf mode) (now «data») × (length (now line)
-        ≡ longestLine) ⌝ }
+    requires { ⌜ AxisNeeds (borderOf mode) (now shape) axis left right (now «data») (now out)
+        × (length (now weights) ≡ left + right + 1) × WeightNeeds (now weights) (borderOf mode) (now «data»)
+        × (length (now line) ≡ longestLine) ⌝ }
     ensures { λ _. ⌜ now (out .exit) ≡ alongAxis (pos 0)
         (correlatedLine wholeOps NonSymmetric (borderOf mode) left right (now (weights .entry))) (now (shape .entry))
         axis (now («data» .entry)) ⌝ }
@@ -177,8 +177,8 @@ pub(crate) fn correlate_axis(
     right: usize,
     out: &mut [i64],
 )
-    requires { ⌜ AxisNeeds (borderOf mode) (now shape) axis left right (now «data») (now out) × (length (now weights)
-        ≡ left + right + 1) × WeightNeeds (now weights) (borderOf mode) (now «data») ⌝ }
+    requires { ⌜ AxisNeeds (borderOf mode) (now shape) axis left right (now «data») (now out)
+        × (length (now weights) ≡ left + right + 1) × WeightNeeds (now weights) (borderOf mode) (now «data») ⌝ }
     ensures { λ _. ⌜ now (out .exit) ≡ alongAxis (pos 0)
         (correlatedLine wholeOps NonSymmetric (borderOf mode) left right (now (weights .entry))) (now (shape .entry))
         axis (now («data» .entry)) ⌝ }

@@ -53,10 +53,12 @@ fn correlate_rows(
     line: &mut [f64],
     out: &mut [f64],
 )
-    requires { ⌜ AxisNeeds (borderOfF64 mode) (now shape) axis left right (now «data») (now out) × (length (now weights)
-        ≡ left + right + 1) × (length (now line) ≡ longestLine) × (strideOf (now shape) axis ≡ 1) ⌝ }
-    ensures { λ _. ⌜ now (out .exit) ≡ alongAxis nan (correlatedLine floatOps class (borderOfF64 mode) left right
-        (now (weights .entry))) (now (shape .entry)) axis (now («data» .entry)) ⌝ }
+    requires { ⌜ AxisNeeds (borderOfF64 mode) (now shape) axis left right (now «data») (now out)
+        × (length (now weights) ≡ left + right + 1) × (length (now line) ≡ longestLine)
+        × (strideOf (now shape) axis ≡ 1) ⌝ }
+    ensures { λ _. ⌜ now (out .exit) ≡ alongAxis nan
+        (correlatedLine floatOps class (borderOfF64 mode) left right (now (weights .entry))) (now (shape .entry)) axis
+        (now («data» .entry)) ⌝ }
 {
     let along = lanes::lanes_of(shape, axis);
     let n = along.len;
@@ -97,10 +99,12 @@ fn correlate_lanes(
     swept: &mut [f64],
     out: &mut [f64],
 )
-    requires { ⌜ AxisNeeds (borderOfF64 mode) (now shape) axis left right (now «data») (now out) × (length (now weights)
-        ≡ left + right + 1) × (length (now line) ≡ longestLine) × (length (now swept) ≡ lengthOf (now shape) axis) ⌝ }
-    ensures { λ _. ⌜ now (out .exit) ≡ alongAxis nan (correlatedLine floatOps class (borderOfF64 mode) left right
-        (now (weights .entry))) (now (shape .entry)) axis (now («data» .entry)) ⌝ }
+    requires { ⌜ AxisNeeds (borderOfF64 mode) (now shape) axis left right (now «data») (now out)
+        × (length (now weights) ≡ left + right + 1) × (length (now line) ≡ longestLine)
+        × (length (now swept) ≡ lengthOf (now shape) axis) ⌝ }
+    ensures { λ _. ⌜ now (out .exit) ≡ alongAxis nan
+        (correlatedLine floatOps class (borderOfF64 mode) left right (now (weights .entry))) (now (shape .entry)) axis
+        (now («data» .entry)) ⌝ }
 {
     let along = lanes::lanes_of(shape, axis);
     let n = along.len;
@@ -143,10 +147,11 @@ fn correlate_columns(
     line: &mut [f64],
     out: &mut [f64],
 )
-    requires { ⌜ AxisNeeds (borderOfF64 mode) (now shape) axis left right (now «data») (now out) × (length (now weights)
-        ≡ left + right + 1) × (length (now line) ≡ longestLine) ⌝ }
-    ensures { λ _. ⌜ now (out .exit) ≡ alongAxis nan (correlatedLine floatOps class (borderOfF64 mode) left right
-        (now (weights .entry))) (now (shape .entry)) axis (now («data» .entry)) ⌝ }
+    requires { ⌜ AxisNeeds (borderOfF64 mode) (now shape) axis left right (now «data») (now out)
+        × (length (now weights) ≡ left + right + 1) × (length (now line) ≡ longestLine) ⌝ }
+    ensures { λ _. ⌜ now (out .exit) ≡ alongAxis nan
+        (correlatedLine floatOps class (borderOfF64 mode) left right (now (weights .entry))) (now (shape .entry)) axis
+        (now («data» .entry)) ⌝ }
 {
     let n = array::len_of(shape, axis);
     let mut swept = [0.0; numbers::LONGEST_AXIS];
@@ -178,10 +183,11 @@ pub(crate) fn correlate_axis_f64(
     right: usize,
     out: &mut [f64],
 )
-    requires { ⌜ AxisNeeds (borderOfF64 mode) (now shape) axis left right (now «data») (now out) × (length (now weights)
-        ≡ left + right + 1) ⌝ }
-    ensures { λ _. ⌜ now (out .exit) ≡ alongAxis nan (correlatedLine floatOps class (borderOfF64 mode) left right
-        (now (weights .entry))) (now (shape .entry)) axis (now («data» .entry)) ⌝ }
+    requires { ⌜ AxisNeeds (borderOfF64 mode) (now shape) axis left right (now «data») (now out)
+        × (length (now weights) ≡ left + right + 1) ⌝ }
+    ensures { λ _. ⌜ now (out .exit) ≡ alongAxis nan
+        (correlatedLine floatOps class (borderOfF64 mode) left right (now (weights .entry))) (now (shape .entry)) axis
+        (now («data» .entry)) ⌝ }
 {
     let mut line = [0.0; numbers::LONGEST_LINE];
     if lanes::stride_of(shape, axis) == 1 {

@@ -63,8 +63,9 @@ fn correlate_row(
     out: &mut [i64],
 )
     requires { ⌜ Mapped (borderOf mode) (axes .planes) (axes .rows) (axes .cells) (now weights) (now «data») (now first)
-        (now second) × (p < axes .planes .len) × (s < axes .rows .len) × (length (now line)
-        ≡ axes .cells .left + axes .cells .len + axes .cells .right) × (length (now out) ≡ axes .cells .len) ⌝ }
+        (now second) × (p < axes .planes .len) × (s < axes .rows .len)
+        × (length (now line) ≡ axes .cells .left + axes .cells .len + axes .cells .right)
+        × (length (now out) ≡ axes .cells .len) ⌝ }
     ensures { λ _. ⌜ now (out .exit) ≡ tabulate (rowsTo (borderOf mode) (axes .planes) (axes .rows) (axes .cells)
         (now (weights .entry)) (now («data» .entry)) (p * axes .rows .len + s) (axes .planes .side * axes .rows .side))
         0 (axes .cells .len) ⌝ }

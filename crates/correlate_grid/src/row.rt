@@ -44,8 +44,8 @@ fn constant_of(mode: BorderMode) -> i64
 // Sets the line to the padded row, or to the constant where there is no row.
 fn load_row(data: &[i64], mode: BorderMode, axis: Axis, none: usize, row: usize, line: &mut [i64])
     requires { ⌜ Serves (borderOf mode) axis × (length (now «data») ≤ mostCells)
-        × ((row ≡ none → ⊥) → row * axis .len + axis .len ≤ length (now «data»)) × (length (now line)
-        ≡ axis .left + axis .len + axis .right) ⌝ }
+        × ((row ≡ none → ⊥) → row * axis .len + axis .len ≤ length (now «data»))
+        × (length (now line) ≡ axis .left + axis .len + axis .right) ⌝ }
     ensures { λ _. ⌜ now (line .exit) ≡ rowLine (borderOf mode) axis none row (now («data» .entry)) ⌝ }
 {
     if row == none {
@@ -69,9 +69,9 @@ pub(crate) fn add_kernel_row(
 )
     requires { ⌜ KernelNeeds (borderOf mode) (axes .planes) (axes .rows) (axes .cells) (now weights) (now «data»)
         × Reading (axes .planes) (axes .rows) (axes .cells) row q (now line) (now out) ⌝ }
-    ensures { λ _. ⌜ now (out .exit) ≡ tabulate (λ i. getD (now (out .entry)) i (pos 0)
-        +ℤ lineSum (borderOf mode) (axes .planes) (axes .rows) (axes .cells) (now (weights .entry))
-        (now («data» .entry)) row q i) 0 (axes .cells .len) ⌝ }
+    ensures { λ _. ⌜ now (out .exit) ≡ tabulate (λ i. getD (now (out .entry)) i (pos 0) +ℤ lineSum (borderOf mode)
+        (axes .planes) (axes .rows) (axes .cells) (now (weights .entry)) (now («data» .entry)) row q i) 0
+        (axes .cells .len) ⌝ }
 {
     let cells = axes.cells;
     load_row(

@@ -33,10 +33,10 @@ fn judge_weighing(
     origin: isize,
     convolution: bool,
 ) -> u8
-    ensures { λ r. ⌜ r ≡ refusalOf ((badSize len, 5) ∷ («weights_bad», 6) ∷ (badWindowOrigin len origin, 7)
-        ∷ (badAxis (now (shape .entry)) axis, 8) ∷ («constant_bad», 9)
-        ∷ (badReach (borderOf mode) len (appliedOrigin convolution len origin) (lengthOf (now (shape .entry)) axis), 11)
-        ∷ []) ⌝ }
+    ensures { λ r. ⌜ r ≡ refusalOf ((badSize len, 5) ∷ («weights_bad», 6) ∷ (badWindowOrigin len origin, 7) ∷
+        (badAxis (now (shape .entry)) axis, 8) ∷ («constant_bad», 9) ∷
+        (badReach (borderOf mode) len (appliedOrigin convolution len origin) (lengthOf (now (shape .entry)) axis), 11) ∷
+        []) ⌝ }
 {
     if window::bad_size(len) {
         return numbers::KERNEL;

@@ -49,8 +49,8 @@ fn add_three_rows(weights: &[i64], line: &[i64], j: usize, out: &mut [i64])
 // Adds the terms of three weights at a time while three are left, and says how many were taken.
 fn add_threes(weights: &[i64], line: &[i64], out: &mut [i64]) -> usize
     requires { ⌜ Addable (now weights) (now line) (now out) ⌝ }
-    ensures { λ r. ⌜ (r ≤ length (now (weights .entry))) × (now (out .exit)
-        ≡ tabulate (addedTo (now (out .entry)) (now (weights .entry)) (now (line .entry)) r) 0
+    ensures { λ r. ⌜ (r ≤ length (now (weights .entry)))
+        × (now (out .exit) ≡ tabulate (addedTo (now (out .entry)) (now (weights .entry)) (now (line .entry)) r) 0
         (length (now (out .entry)))) ⌝ }
 {
     let count = weights.len();

@@ -54,8 +54,8 @@ fn add_four_raised_rows(weights: &[i64], line: &[i64], by: u32, j: usize, out: &
 // Adds to every cell the raised terms of all weights, four weights a pass while four are left. The line holds raised
 // cells, and every cell what its sum starts from.
 fn add_raised(weights: &[i64], line: &[i64], by: u32, out: &mut [i64])
-    requires { ⌜ RaiseNeeds by (now weights) (lowered (now line)) (length (now out)) × (now out
-        ≡ tabulate (raisedStart by (now weights) (lowered (now line))) 0 (length (now out))) ⌝ }
+    requires { ⌜ RaiseNeeds by (now weights) (lowered (now line)) (length (now out))
+        × (now out ≡ tabulate (raisedStart by (now weights) (lowered (now line))) 0 (length (now out))) ⌝ }
     ensures { λ _. ⌜ now (out .exit) ≡ weighedLine wholeOps NonSymmetric (now (weights .entry))
         (lowered (now (line .entry))) (length (now (out .entry))) ⌝ }
 {

@@ -48,8 +48,9 @@ fn start_four_rows(weights: &[f64], line: &[f64], out: &mut [f64])
 // Starts every cell with the first four weights, or with the first where there are fewer, and says how many were taken.
 fn start_rows(weights: &[f64], line: &[f64], out: &mut [f64]) -> usize
     requires { ⌜ Windows (now weights) (now line) (length (now out)) ⌝ }
-    ensures { λ r. ⌜ (r ≤ length (now (weights .entry))) × (now (out .exit)
-        ≡ tabulate (plainTo floatOps (now (weights .entry)) (now (line .entry)) r) 0 (length (now (out .entry)))) ⌝ }
+    ensures { λ r. ⌜ (r ≤ length (now (weights .entry)))
+        × (now (out .exit) ≡ tabulate (plainTo floatOps (now (weights .entry)) (now (line .entry)) r) 0
+        (length (now (out .entry)))) ⌝ }
 {
     if weights.len() < 4 {
         start_row(weights, line, out);
@@ -61,8 +62,8 @@ fn start_rows(weights: &[f64], line: &[f64], out: &mut [f64]) -> usize
 
 // Adds to every cell the term of cell j of its window.
 fn add_row(weights: &[f64], line: &[f64], j: usize, out: &mut [f64])
-    requires { ⌜ Windows (now weights) (now line) (length (now out)) × (j < length (now weights)) × (now out
-        ≡ tabulate (plainTo floatOps (now weights) (now line) j) 0 (length (now out))) ⌝ }
+    requires { ⌜ Windows (now weights) (now line) (length (now out)) × (j < length (now weights))
+        × (now out ≡ tabulate (plainTo floatOps (now weights) (now line) j) 0 (length (now out))) ⌝ }
     ensures { λ _. ⌜ now (out .exit) ≡ tabulate (plainTo floatOps (now (weights .entry)) (now (line .entry)) (j + 1)) 0
         (length (now (out .entry))) ⌝ }
 {
@@ -77,8 +78,8 @@ fn add_row(weights: &[f64], line: &[f64], j: usize, out: &mut [f64])
 
 // Adds to every cell the terms of cells j to j + 3 of its window, one after the other.
 fn add_four_rows(weights: &[f64], line: &[f64], j: usize, out: &mut [f64])
-    requires { ⌜ Windows (now weights) (now line) (length (now out)) × (j + 4 ≤ length (now weights)) × (now out
-        ≡ tabulate (plainTo floatOps (now weights) (now line) j) 0 (length (now out))) ⌝ }
+    requires { ⌜ Windows (now weights) (now line) (length (now out)) × (j + 4 ≤ length (now weights))
+        × (now out ≡ tabulate (plainTo floatOps (now weights) (now line) j) 0 (length (now out))) ⌝ }
     ensures { λ _. ⌜ now (out .exit) ≡ tabulate (plainTo floatOps (now (weights .entry)) (now (line .entry)) (j + 4)) 0
         (length (now (out .entry))) ⌝ }
 {

@@ -28,9 +28,10 @@ fn set_row(weights: &[f64], line: &[f64], j: usize, out: &mut [f64])
 
 // Adds to every cell the term of its window's cells left and right, which mirror each other.
 fn add_pairs(weights: &[f64], minus: bool, line: &[f64], left: usize, right: usize, out: &mut [f64])
-    requires { ⌜ Windows (now weights) (now line) (length (now out)) × (left < length (now weights) / 2) × (right
-        ≡ length (now weights) - 1 - left) × (now out ≡ tabulate
-        (pairsTo floatOps (joinedBy floatOps minus) (now weights) (now line) left) 0 (length (now out))) ⌝ }
+    requires { ⌜ Windows (now weights) (now line) (length (now out)) × (left < length (now weights) / 2)
+        × (right ≡ length (now weights) - 1 - left)
+        × (now out ≡ tabulate (pairsTo floatOps (joinedBy floatOps minus) (now weights) (now line) left) 0
+        (length (now out))) ⌝ }
     ensures { λ _. ⌜ now (out .exit) ≡ tabulate (pairsTo floatOps (joinedBy floatOps minus) (now (weights .entry))
         (now (line .entry)) (left + 1)) 0 (length (now (out .entry))) ⌝ }
 {
@@ -52,9 +53,10 @@ fn add_two_pairs(
     right: usize,
     out: &mut [f64],
 )
-    requires { ⌜ Windows (now weights) (now line) (length (now out)) × (left + 1 < length (now weights) / 2) × (right
-        ≡ length (now weights) - 1 - left) × (now out ≡ tabulate
-        (pairsTo floatOps (joinedBy floatOps minus) (now weights) (now line) left) 0 (length (now out))) ⌝ }
+    requires { ⌜ Windows (now weights) (now line) (length (now out)) × (left + 1 < length (now weights) / 2)
+        × (right ≡ length (now weights) - 1 - left)
+        × (now out ≡ tabulate (pairsTo floatOps (joinedBy floatOps minus) (now weights) (now line) left) 0
+        (length (now out))) ⌝ }
     ensures { λ _. ⌜ now (out .exit) ≡ tabulate (pairsTo floatOps (joinedBy floatOps minus) (now (weights .entry))
         (now (line .entry)) (left + 2)) 0 (length (now (out .entry))) ⌝ }
 {

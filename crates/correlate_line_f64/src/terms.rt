@@ -31,10 +31,10 @@ pub struct Four {
 // Weights j to j + 3.
 pub(crate) fn four_weights(weights: &[f64], j: usize) -> Four
     requires { ⌜ j + 4 ≤ length (now weights) ⌝ }
-    ensures { λ r. ⌜ (r .w0 ≡ getD (now (weights .entry)) j (floatOps .past)) × (r .w1
-        ≡ getD (now (weights .entry)) (j + 1) (floatOps .past)) × (r .w2
-        ≡ getD (now (weights .entry)) (j + 2) (floatOps .past)) × (r .w3
-        ≡ getD (now (weights .entry)) (j + 3) (floatOps .past)) ⌝ }
+    ensures { λ r. ⌜ (r .w0 ≡ getD (now (weights .entry)) j (floatOps .past))
+        × (r .w1 ≡ getD (now (weights .entry)) (j + 1) (floatOps .past))
+        × (r .w2 ≡ getD (now (weights .entry)) (j + 2) (floatOps .past))
+        × (r .w3 ≡ getD (now (weights .entry)) (j + 3) (floatOps .past)) ⌝ }
 {
     Four {
         w0: weights[j],

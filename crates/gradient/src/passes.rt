@@ -39,8 +39,9 @@ pub(crate) fn passes(
     second: &mut [i64],
     out: &mut [i64],
 )
-    requires { ⌜ ThreeSmall (now smooth) × (refusalOf (gradientJudged (now smooth) (borderOf mode) (now shape) axis
-        (now «data») (length (now out)) (length (now second))) ≡ 0) ⌝ }
+    requires { ⌜ ThreeSmall (now smooth) × (refusalOf
+        (gradientJudged (now smooth) (borderOf mode) (now shape) axis (now «data») (length (now out))
+        (length (now second))) ≡ 0) ⌝ }
     ensures { λ _. ⌜ now (out .exit) ≡ gradient (now (smooth .entry)) (borderOf mode) (now (shape .entry)) axis
         (now («data» .entry)) ⌝ }
 {

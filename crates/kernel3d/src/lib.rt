@@ -23,8 +23,8 @@ impl Kernel3d {
 
     pub const FULL_COUNT: usize = 27;
 
-    // The kernel's cells, the last axis fastest. self: which kernel. Example: Star has cell [0][1][1], a face, true and
-    // cell [0][0][1], an edge, false.
+    // The kernel's cells, the last axis fastest.
+    // Star has cell [0][1][1], a face, true and cell [0][0][1], an edge, false.
     pub fn generate(self) -> [[[bool; 3]; 3]; 3]
         ensures { λ r. ⌜ r ≡ shape self ⌝ }
     {
@@ -63,7 +63,7 @@ impl Kernel3d {
         }
     }
 
-    // The number of true cells. self: which kernel. Example: Ball has 1 + 6 + 12 = 19.
+    // The number of true cells. Ball has 1 + 6 + 12 = 19.
     pub fn count(self) -> usize
         ensures { λ r. ⌜ r ≡ countOf self ⌝ }
     {

@@ -22,9 +22,8 @@ fn gather_f64(grid: &[f64], base: usize, stride: usize, line: &mut [f64])
 
 // Copies the line to the cells of the lane, whose first cell is at base.
 fn scatter_f64(line: &[f64], stride: usize, lane: usize, base: usize, grid: &mut [f64])
-    requires { ⌜ (0 < length (now line)) × (0 < stride) × (base
-        ≡ laneBase (length (now line)) stride lane) × (base + length (now line) * stride < length (now grid) +
-        stride) ⌝ }
+    requires { ⌜ (0 < length (now line)) × (0 < stride) × (base ≡ laneBase (length (now line)) stride lane)
+        × (base + length (now line) * stride < length (now grid) + stride) ⌝ }
     ensures { λ _. ⌜ now (grid .exit) ≡ withLane nan (length (now (line .entry))) stride lane (now (line .entry))
         (now (grid .entry)) ⌝ }
 {
@@ -52,9 +51,8 @@ pub fn read_from_f64(grid: &[f64], base: usize, stride: usize, line: &mut [f64])
 
 // As `write_from`, of float levels.
 pub fn write_from_f64(line: &[f64], stride: usize, lane: usize, base: usize, grid: &mut [f64])
-    requires { ⌜ (0 < length (now line)) × (0 < stride) × (base
-        ≡ laneBase (length (now line)) stride lane) × (base + length (now line) * stride < length (now grid) +
-        stride) ⌝ }
+    requires { ⌜ (0 < length (now line)) × (0 < stride) × (base ≡ laneBase (length (now line)) stride lane)
+        × (base + length (now line) * stride < length (now grid) + stride) ⌝ }
     ensures { λ _. ⌜ now (grid .exit) ≡ withLane nan (length (now (line .entry))) stride lane (now (line .entry))
         (now (grid .entry)) ⌝ }
 {

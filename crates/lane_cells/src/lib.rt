@@ -28,9 +28,8 @@ fn gather(grid: &[i64], base: usize, stride: usize, line: &mut [i64])
 
 // Copies the line to the cells of the lane, whose first cell is at base.
 fn scatter(line: &[i64], stride: usize, lane: usize, base: usize, grid: &mut [i64])
-    requires { ⌜ (0 < length (now line)) × (0 < stride) × (base
-        ≡ laneBase (length (now line)) stride lane) × (base + length (now line) * stride < length (now grid) +
-        stride) ⌝ }
+    requires { ⌜ (0 < length (now line)) × (0 < stride) × (base ≡ laneBase (length (now line)) stride lane)
+        × (base + length (now line) * stride < length (now grid) + stride) ⌝ }
     ensures { λ _. ⌜ now (grid .exit) ≡ withLane (pos 0) (length (now (line .entry))) stride lane (now (line .entry))
         (now (grid .entry)) ⌝ }
 {
@@ -60,9 +59,8 @@ pub fn read_from(grid: &[i64], base: usize, stride: usize, line: &mut [i64])
 // Copies the line to the cells of the lane, whose first cell is at base.
 // 7 8 written to lane 1 of axis 0 of the rows 1 2 3 / 4 5 6, with base 1 and stride 3, give 1 7 3 / 4 8 6.
 pub fn write_from(line: &[i64], stride: usize, lane: usize, base: usize, grid: &mut [i64])
-    requires { ⌜ (0 < length (now line)) × (0 < stride) × (base
-        ≡ laneBase (length (now line)) stride lane) × (base + length (now line) * stride < length (now grid) +
-        stride) ⌝ }
+    requires { ⌜ (0 < length (now line)) × (0 < stride) × (base ≡ laneBase (length (now line)) stride lane)
+        × (base + length (now line) * stride < length (now grid) + stride) ⌝ }
     ensures { λ _. ⌜ now (grid .exit) ≡ withLane (pos 0) (length (now (line .entry))) stride lane (now (line .entry))
         (now (grid .entry)) ⌝ }
 {

@@ -74,8 +74,8 @@ fn median_cells(mask: &[bool], shape: &[usize], out: &mut [bool])
 // where three are, none.
 pub fn median_filter(mask: &[bool], shape: &[usize], out: &mut [bool]) -> u8
     ensures { λ r. ⌜ Answers (medianJudged (now (shape .entry)) (length (now (mask .entry)))
-        (length (now (out .entry))))
-        (medianAnswer (now (shape .entry)) (now (mask .entry))) (now (out .entry)) r (now (out .exit)) ⌝ }
+        (length (now (out .entry)))) (medianAnswer (now (shape .entry)) (now (mask .entry))) (now (out .entry)) r
+        (now (out .exit)) ⌝ }
 {
     let refusal = judge_median(shape, mask.len(), out.len());
     if refusal != 0 {

@@ -88,8 +88,8 @@ fn median_row(
     counts: &mut [u8],
     out: &mut [bool],
 )
-    requires { ⌜ MaskNeeds planes rows (length (now counts)) (now mask) × (r < planes * rows) × (length (now out)
-        ≡ length (now mask)) × Blank (now counts) ⌝ }
+    requires { ⌜ MaskNeeds planes rows (length (now counts)) (now mask) × (r < planes * rows)
+        × (length (now out) ≡ length (now mask)) × Blank (now counts) ⌝ }
     ensures { λ _. ⌜ now (out .exit) ≡ setRow (r * length (now (counts .entry))) (length (now (counts .entry)))
         (medianOfPlace planes rows (length (now (counts .entry))) (now (mask .entry))) (now (out .entry)) ⌝ }
 {

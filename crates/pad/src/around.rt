@@ -37,8 +37,8 @@ pub(crate) fn fill_around(
     padded: &[usize],
     out: &mut [i64],
 )
-    requires { ⌜ Framed (now shape) (now lefts) (now padded) × (cells ≡ cellCount (now shape)) × (length (now out)
-        ≡ cellCount (now padded)) ⌝ }
+    requires { ⌜ Framed (now shape) (now lefts) (now padded) × (cells ≡ cellCount (now shape))
+        × (length (now out) ≡ cellCount (now padded)) ⌝ }
     ensures { λ _. ⌜ now (out .exit) ≡ aroundSet level (now (shape .entry)) (now (lefts .entry)) (now (padded .entry))
         (now (out .entry)) ⌝ }
 {

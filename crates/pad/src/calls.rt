@@ -32,10 +32,11 @@ fn start(
     padded: &[usize],
     out: &mut [i64],
 )
-    requires { ⌜ Framed (now shape) (now lefts) (now padded) × (cells ≡ cellCount (now shape)) × (length (now out)
-        ≡ cellCount (now padded)) ⌝ }
-    ensures { λ _. ⌜ now (out .exit) ≡ cond whole (aroundSet c (now (shape .entry)) (now (lefts .entry))
-        (now (padded .entry)) (now (out .entry))) (now (out .entry)) ⌝ }
+    requires { ⌜ Framed (now shape) (now lefts) (now padded) × (cells ≡ cellCount (now shape))
+        × (length (now out) ≡ cellCount (now padded)) ⌝ }
+    ensures { λ _. ⌜ now (out .exit) ≡ cond whole
+        (aroundSet c (now (shape .entry)) (now (lefts .entry)) (now (padded .entry)) (now (out .entry)))
+        (now (out .entry)) ⌝ }
 {
     if !whole {
         return;
@@ -54,11 +55,12 @@ fn lay_level(
     whole: bool,
     out: &mut [i64],
 )
-    requires { ⌜ Framed (now shape) (now lefts) (now padded) × (length (now «data»)
-        ≡ cellCount (now shape)) × (length (now out) ≡ cellCount (now padded)) ⌝ }
-    ensures { λ _. ⌜ now (out .exit) ≡ cond whole (laid (Constant c) (now (shape .entry)) (now (lefts .entry))
-        (now (padded .entry)) (now («data» .entry))) (middleSet (now (shape .entry)) (now (lefts .entry))
-        (now (padded .entry)) (now («data» .entry)) (now (out .entry))) ⌝ }
+    requires { ⌜ Framed (now shape) (now lefts) (now padded) × (length (now «data») ≡ cellCount (now shape))
+        × (length (now out) ≡ cellCount (now padded)) ⌝ }
+    ensures { λ _. ⌜ now (out .exit) ≡ cond whole
+        (laid (Constant c) (now (shape .entry)) (now (lefts .entry)) (now (padded .entry)) (now («data» .entry)))
+        (middleSet (now (shape .entry)) (now (lefts .entry)) (now (padded .entry)) (now («data» .entry))
+        (now (out .entry))) ⌝ }
 {
     start(whole, c, data.len(), shape, lefts, padded, out);
     copy_middle(data, shape, lefts, padded, out);
@@ -73,8 +75,8 @@ fn lay_cells(
     along: CellBorder,
     out: &mut [i64],
 )
-    requires { ⌜ Filling along (now shape) (now lefts) (now padded) × (anyOf badLevel (now «data»)
-        ≡ false) × (length (now «data») ≡ cellCount (now shape)) × (length (now out) ≡ cellCount (now padded)) ⌝ }
+    requires { ⌜ Filling along (now shape) (now lefts) (now padded) × (anyOf badLevel (now «data») ≡ false)
+        × (length (now «data») ≡ cellCount (now shape)) × (length (now out) ≡ cellCount (now padded)) ⌝ }
     ensures { λ _. ⌜ now (out .exit) ≡ laid (modeAlong along) (now (shape .entry)) (now (lefts .entry))
         (now (padded .entry)) (now («data» .entry)) ⌝ }
 {
@@ -91,8 +93,8 @@ fn lay_statistic(
     statistic: Statistic,
     out: &mut [i64],
 )
-    requires { ⌜ Framed (now shape) (now lefts) (now padded) × (anyOf badLevel (now «data»)
-        ≡ false) × (length (now «data») ≡ cellCount (now shape)) × (length (now out) ≡ cellCount (now padded)) ⌝ }
+    requires { ⌜ Framed (now shape) (now lefts) (now padded) × (anyOf badLevel (now «data») ≡ false)
+        × (length (now «data») ≡ cellCount (now shape)) × (length (now out) ≡ cellCount (now padded)) ⌝ }
     ensures { λ _. ⌜ now (out .exit) ≡ laid (modeTaking statistic) (now (shape .entry)) (now (lefts .entry))
         (now (padded .entry)) (now («data» .entry)) ⌝ }
 {
@@ -113,10 +115,11 @@ fn lay_in(
     padded: &mut [usize],
     out: &mut [i64],
 )
-    requires { ⌜ (refusalOf (padJudged mode (now shape) pads count (now «data») (length (now out)))
-        ≡ 0) × (length (now lefts) ≡ length (now shape)) × (length (now padded) ≡ length (now shape)) ⌝ }
-    ensures { λ _. ⌜ now (out .exit) ≡ cond whole (paddedGrid mode (now (shape .entry))
-        (leftsOf (now (shape .entry)) pads count) (rightsOf (now (shape .entry)) pads count) (now («data» .entry)))
+    requires { ⌜ (refusalOf (padJudged mode (now shape) pads count (now «data») (length (now out))) ≡ 0)
+        × (length (now lefts) ≡ length (now shape)) × (length (now padded) ≡ length (now shape)) ⌝ }
+    ensures { λ _. ⌜ now (out .exit) ≡ cond whole
+        (paddedGrid mode (now (shape .entry)) (leftsOf (now (shape .entry)) pads count)
+        (rightsOf (now (shape .entry)) pads count) (now («data» .entry)))
         (paddedOver mode (now (shape .entry)) (leftsOf (now (shape .entry)) pads count)
         (rightsOf (now (shape .entry)) pads count) (now («data» .entry)) (now (out .entry))) ⌝ }
 {
@@ -140,8 +143,9 @@ fn lay(
     out: &mut [i64],
 )
     requires { ⌜ refusalOf (padJudged mode (now shape) pads count (now «data») (length (now out))) ≡ 0 ⌝ }
-    ensures { λ _. ⌜ now (out .exit) ≡ cond whole (paddedGrid mode (now (shape .entry))
-        (leftsOf (now (shape .entry)) pads count) (rightsOf (now (shape .entry)) pads count) (now («data» .entry)))
+    ensures { λ _. ⌜ now (out .exit) ≡ cond whole
+        (paddedGrid mode (now (shape .entry)) (leftsOf (now (shape .entry)) pads count)
+        (rightsOf (now (shape .entry)) pads count) (now («data» .entry)))
         (paddedOver mode (now (shape .entry)) (leftsOf (now (shape .entry)) pads count)
         (rightsOf (now (shape .entry)) pads count) (now («data» .entry)) (now (out .entry))) ⌝ }
 {

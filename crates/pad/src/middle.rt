@@ -110,8 +110,8 @@ pub(crate) fn copy_middle(
     padded: &[usize],
     out: &mut [i64],
 )
-    requires { ⌜ Framed (now shape) (now lefts) (now padded) × (length (now «data»)
-        ≡ cellCount (now shape)) × (length (now out) ≡ cellCount (now padded)) ⌝ }
+    requires { ⌜ Framed (now shape) (now lefts) (now padded) × (length (now «data») ≡ cellCount (now shape))
+        × (length (now out) ≡ cellCount (now padded)) ⌝ }
     ensures { λ _. ⌜ now (out .exit) ≡ middleSet (now (shape .entry)) (now (lefts .entry)) (now (padded .entry))
         (now («data» .entry)) (now (out .entry)) ⌝ }
 {

@@ -18,8 +18,8 @@ fn fill_in(
     line: &mut [i64],
     out: &mut [i64],
 )
-    requires { ⌜ Framed (now shape) (now lefts) (now padded) × (length (now line)
-        ≡ longestPaddedAxis) × (length (now out) ≡ cellCount (now padded)) ⌝ }
+    requires { ⌜ Framed (now shape) (now lefts) (now padded) × (length (now line) ≡ longestPaddedAxis)
+        × (length (now out) ≡ cellCount (now padded)) ⌝ }
     ensures { λ _. ⌜ Fills (modeTaking statistic) (now (shape .entry)) (now (lefts .entry)) (now (padded .entry)) 0
         (length (now (shape .entry))) (now (out .entry)) (now (out .exit)) ⌝ }
 {

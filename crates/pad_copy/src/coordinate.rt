@@ -25,8 +25,8 @@ fn copy_run(from: usize, at: usize, count: usize, out: &mut [i64])
 
 // Copies coordinate `from` of an axis onto coordinate `at`, run by run in each of the blocks of p * s cells.
 fn copy_runs(from: usize, at: usize, p: usize, s: usize, blocks: usize, out: &mut [i64])
-    requires { ⌜ (from < p) × (at < p) × (from ≡ at → ⊥) × (0 < s) × (length (now out)
-        ≡ blocks * (p * s)) × (length (now out) ≤ mostPaddedCells) ⌝ }
+    requires { ⌜ (from < p) × (at < p) × (from ≡ at → ⊥) × (0 < s) × (length (now out) ≡ blocks * (p * s))
+        × (length (now out) ≤ mostPaddedCells) ⌝ }
     ensures { λ _. ⌜ now (out .exit) ≡ coordinateSet p s from at (now (out .entry)) ⌝ }
 {
     let mut block = 0;
@@ -39,8 +39,8 @@ fn copy_runs(from: usize, at: usize, p: usize, s: usize, blocks: usize, out: &mu
 
 // The same where the cells of the axis stand side by side: a run is one cell.
 fn copy_cells(from: usize, at: usize, p: usize, blocks: usize, out: &mut [i64])
-    requires { ⌜ (from < p) × (at < p) × (from ≡ at → ⊥) × (length (now out)
-        ≡ blocks * p) × (length (now out) ≤ mostPaddedCells) ⌝ }
+    requires { ⌜ (from < p) × (at < p) × (from ≡ at → ⊥) × (length (now out) ≡ blocks * p)
+        × (length (now out) ≤ mostPaddedCells) ⌝ }
     ensures { λ _. ⌜ now (out .exit) ≡ coordinateSet p 1 from at (now (out .entry)) ⌝ }
 {
     let mut block = 0;
@@ -68,8 +68,8 @@ pub(crate) fn copy_coordinate(
     blocks: usize,
     out: &mut [i64],
 )
-    requires { ⌜ (from < p) × (at < p) × (from ≡ at → ⊥) × (0 < s) × (length (now out)
-        ≡ blocks * (p * s)) × (length (now out) ≤ mostPaddedCells) ⌝ }
+    requires { ⌜ (from < p) × (at < p) × (from ≡ at → ⊥) × (0 < s) × (length (now out) ≡ blocks * (p * s))
+        × (length (now out) ≤ mostPaddedCells) ⌝ }
     ensures { λ _. ⌜ now (out .exit) ≡ coordinateSet p s from at (now (out .entry)) ⌝ }
 {
     if s == 1 {

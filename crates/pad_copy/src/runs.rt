@@ -67,8 +67,8 @@ fn copy_axis(
     axis: usize,
     out: &mut [i64],
 )
-    requires { ⌜ Filling mode (now shape) (now lefts) (now padded) × (axis < length (now shape)) × (length (now out)
-        ≡ cellCount (now padded)) ⌝ }
+    requires { ⌜ Filling mode (now shape) (now lefts) (now padded) × (axis < length (now shape))
+        × (length (now out) ≡ cellCount (now padded)) ⌝ }
     ensures { λ _. ⌜ Fills (modeAlong mode) (now (shape .entry)) (now (lefts .entry)) (now (padded .entry)) axis
         (suc axis) (now (out .entry)) (now (out .exit)) ⌝ }
 {

@@ -79,8 +79,8 @@ fn count_of_three(a: usize, b: usize, c: usize) -> usize
 
 // The number of padded cells of an accepted shape whose pads are at most 64.
 fn padded_cells(shape: &[usize], pads: [Pair; 3], count: usize) -> usize
-    requires { ⌜ (badShape (now shape) ≡ false) × (badCount (now shape) count
-        ≡ false) × (anyOf overPad (take count pads) ≡ false) ⌝ }
+    requires { ⌜ (badShape (now shape) ≡ false) × (badCount (now shape) count ≡ false)
+        × (anyOf overPad (take count pads) ≡ false) ⌝ }
     ensures { λ r. ⌜ r ≡ paddedCount (now (shape .entry)) pads count ⌝ }
 {
     let a = padded_len(shape, pads, count, 0);

@@ -53,8 +53,8 @@ fn extend_along(
 
 // Extends the n cells of the line from place left on by the border.
 pub(crate) fn extend(mode: BorderMode, left: usize, n: usize, right: usize, line: &mut [i64])
-    requires { ⌜ (0 < n) × (left + n + right ≤ length (now line)) × (badPad (borderOf mode) n left
-        ≡ false) × (badPad (borderOf mode) n right ≡ false) ⌝ }
+    requires { ⌜ (0 < n) × (left + n + right ≤ length (now line)) × (badPad (borderOf mode) n left ≡ false)
+        × (badPad (borderOf mode) n right ≡ false) ⌝ }
     ensures { λ _. ⌜ now (line .exit) ≡ padMiddle (pos 0) (borderOf mode) left n right (now (line .entry)) ⌝ }
 {
     match mode {

@@ -49,8 +49,8 @@ fn extend_along_f64(
 }
 
 pub(crate) fn extend_f64(mode: BorderModeF64, left: usize, n: usize, right: usize, line: &mut [f64])
-    requires { ⌜ (0 < n) × (left + n + right ≤ length (now line)) × (badPad (borderOfF64 mode) n left
-        ≡ false) × (badPad (borderOfF64 mode) n right ≡ false) ⌝ }
+    requires { ⌜ (0 < n) × (left + n + right ≤ length (now line)) × (badPad (borderOfF64 mode) n left ≡ false)
+        × (badPad (borderOfF64 mode) n right ≡ false) ⌝ }
     ensures { λ _. ⌜ now (line .exit) ≡ padMiddle nan (borderOfF64 mode) left n right (now (line .entry)) ⌝ }
 {
     match mode {

@@ -22,11 +22,11 @@ pub fn set_frame(
     lefts: &mut [usize],
     padded: &mut [usize],
 )
-    requires { ⌜ (badShape (now shape) ≡ false) × (badCount (now shape) count
-        ≡ false) × (anyOf overPad (take count pads) ≡ false) × (length (now lefts)
-        ≡ length (now shape)) × (length (now padded) ≡ length (now shape)) ⌝ }
-    ensures { λ _. ⌜ (now (lefts .exit) ≡ leftsOf (now (shape .entry)) pads count) × (now (padded .exit)
-        ≡ paddedShape (now (shape .entry)) (leftsOf (now (shape .entry)) pads count)
+    requires { ⌜ (badShape (now shape) ≡ false) × (badCount (now shape) count ≡ false)
+        × (anyOf overPad (take count pads) ≡ false) × (length (now lefts) ≡ length (now shape))
+        × (length (now padded) ≡ length (now shape)) ⌝ }
+    ensures { λ _. ⌜ (now (lefts .exit) ≡ leftsOf (now (shape .entry)) pads count)
+        × (now (padded .exit) ≡ paddedShape (now (shape .entry)) (leftsOf (now (shape .entry)) pads count)
         (rightsOf (now (shape .entry)) pads count)) ⌝ }
 {
     let mut a = 0;

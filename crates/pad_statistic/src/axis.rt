@@ -29,8 +29,8 @@ fn fill_lane(
     out: &mut [i64],
 )
     requires { ⌜ Framed (now shape) (now lefts) (now padded) × (axis < length (now shape))
-        × ((s ≡ 1 → ⊥) → length (now line) ≡ longestPaddedAxis) × (length (now out) ≡ cellCount (now padded)) × (p
-        ≡ lengthOf (now padded) axis) × (s ≡ strideOf (now padded) axis) × (lane < cellCount (now padded) / p) ⌝ }
+        × ((s ≡ 1 → ⊥) → length (now line) ≡ longestPaddedAxis) × (length (now out) ≡ cellCount (now padded))
+        × (p ≡ lengthOf (now padded) axis) × (s ≡ strideOf (now padded) axis) × (lane < cellCount (now padded) / p) ⌝ }
     ensures { λ _. ⌜ now (out .exit) ≡ cond (middleFrom (now (shape .entry)) (now (lefts .entry)) (suc axis)
         (coordinate (now (padded .entry)) (laneBase p s lane)))
         (filledLane statistic p s lane (getD (now (lefts .entry)) axis 0) (lengthOf (now (shape .entry)) axis)
@@ -73,8 +73,8 @@ pub fn fill_axis(
     out: &mut [i64],
 )
     requires { ⌜ Framed (now shape) (now lefts) (now padded) × (axis < length (now shape))
-        × ((strideOf (now padded) axis ≡ 1 → ⊥) → length (now line) ≡ longestPaddedAxis) × (length (now out)
-        ≡ cellCount (now padded)) ⌝ }
+        × ((strideOf (now padded) axis ≡ 1 → ⊥) → length (now line) ≡ longestPaddedAxis)
+        × (length (now out) ≡ cellCount (now padded)) ⌝ }
     ensures { λ _. ⌜ Fills (modeTaking statistic) (now (shape .entry)) (now (lefts .entry)) (now (padded .entry)) axis
         (suc axis) (now (out .entry)) (now (out .exit)) ⌝ }
 {

@@ -61,8 +61,8 @@ pub(crate) fn level_in(
     grid: &[i64],
     line: &mut [i64],
 ) -> i64
-    requires { ⌜ (laneInside p s l (length (now grid)) ≡ true) × (base
-        ≡ laneBase p s l) × (left + n ≤ p) × ((s ≡ 1 → ⊥) → p ≤ length (now line)) ⌝ }
+    requires { ⌜ (laneInside p s l (length (now grid)) ≡ true) × (base ≡ laneBase p s l) × (left + n ≤ p)
+        × ((s ≡ 1 → ⊥) → p ≤ length (now line)) ⌝ }
     ensures { λ r. ⌜ r ≡ statisticOf statistic (take n (drop left (lane (pos 0) p s l (now (grid .entry))))) ⌝ }
 {
     if s == 1 {

@@ -80,8 +80,12 @@ fn check_pairs_f64(weights: &[f64], turned: bool, state: SymmetryState) -> Symme
     found
 }
 
-// The symmetry class of whole weights. weights: the kernel's weights along one axis, any number of them. even lengths,
-// and no weights at all, are NonSymmetric. Example: 1 2 5 -2 -1 is AntiSymmetric; its middle weight is never looked at.
+// The symmetry class of whole weights.
+//
+// * `weights` - the kernel's weights along one axis, any number of them.
+//
+// An even number of weights, none among them, is NonSymmetric. 1 2 5 -2 -1 is AntiSymmetric; its middle weight is never
+// looked at.
 pub fn symmetry_state_i64(weights: &[i64]) -> SymmetryState
     ensures { λ r. ⌜ r ≡ classZ (now (weights .entry)) ⌝ }
 {
@@ -95,9 +99,11 @@ pub fn symmetry_state_i64(weights: &[i64]) -> SymmetryState
     check_pairs_i64(weights, true, SymmetryState::AntiSymmetric)
 }
 
-// The symmetry class of float weights: a pair differs by more than 2^-52. weights: the kernel's weights along one axis,
-// any number of them and any floats. even lengths are NonSymmetric, and a pair with a NaN does not differ. Example: 0 1
-// 2^-53 is Symmetric.
+// The symmetry class of float weights: a pair differs by more than 2^-52.
+//
+// * `weights` - the kernel's weights along one axis, any number of them and any floats.
+//
+// An even number of weights is NonSymmetric, and a pair with a NaN does not differ. 0, 1, 2^-53 is Symmetric.
 pub fn symmetry_state_f64(weights: &[f64]) -> SymmetryState
     ensures { λ r. ⌜ r ≡ classF (now (weights .entry)) ⌝ }
 {

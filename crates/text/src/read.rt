@@ -57,8 +57,11 @@ pub fn numeral(base: u64, token: &[u8]) -> Unsigned
     Unsigned::Is(n)
 }
 
-// The unsigned number that a token is: decimal digits only. token: the bytes, whatever they are. an odd token and a
-// number beyond 2^64 - 1 are Not. Example: 0042 is 42, and +1 is Not.
+// The unsigned number that a token is: decimal digits only.
+//
+// * `token` - the bytes, whatever they are.
+//
+// Any other token and a number beyond 2^64 - 1 are Not. 0042 is 42, and +1 is Not.
 pub fn read_unsigned(token: &[u8]) -> Unsigned
     ensures { λ r. ⌜ r ≡ unsignedOf (now (token .entry)) ⌝ }
 {
@@ -98,8 +101,11 @@ fn negative(size: Unsigned) -> Signed
     }
 }
 
-// The signed number that a token is: decimal digits, a minus before them or not. token: the bytes, whatever they are.
-// an odd token and a number outside -2^63 to 2^63 - 1 are Not. Example: -07 is -7, and - is Not.
+// The signed number that a token is: decimal digits, a minus before them or not.
+//
+// * `token` - the bytes, whatever they are.
+//
+// Any other token and a number outside -2^63 to 2^63 - 1 are Not. -07 is -7, and - is Not.
 pub fn read_signed(token: &[u8]) -> Signed
     ensures { λ r. ⌜ r ≡ signedOf (now (token .entry)) ⌝ }
 {

@@ -74,9 +74,12 @@ fn write_size(n: u64, out: &mut [u8]) -> usize
     k
 }
 
-// Writes a signed number at the front of out, a minus and its decimal digits, and answers how many bytes it took. z:
-// the number. out: at least 20 bytes; in a shorter one nothing is written, and the answer is 0. Example: -7 writes -
-// and 7, and answers 2.
+// Writes a signed number at the front of out, a minus and its decimal digits, and answers how many bytes it took.
+//
+// * `z` - the number.
+// * `out` - at least 20 bytes; in a shorter one nothing is written, and the answer is 0.
+//
+// -7 writes - and 7, and answers 2.
 pub fn write_signed(z: i64, out: &mut [u8]) -> usize
     ensures { λ r. ⌜ r ≡ writtenCount (signedText z) (now (out .entry)) ⌝ }
     ensures { λ r. ⌜ now (out .exit) ≡ writtenIn (signedText z) (now (out .entry)) ⌝ }

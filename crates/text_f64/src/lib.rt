@@ -58,8 +58,11 @@ fn is_nan(token: &[u8]) -> bool
     token[2] == 110
 }
 
-// The float that a token is. token: the bytes, whatever they are. an odd token is Not. The bits of a NaN are a NaN.
-// Example: 3ff0000000000000 is 1.0, and 3FF0000000000000 is Not.
+// The float that a token is.
+//
+// * `token` - the bytes, whatever they are.
+//
+// Any other token is Not. The bits of a NaN are a NaN. 3ff0000000000000 is 1.0, and 3FF0000000000000 is Not.
 pub fn read_float(token: &[u8]) -> Token
     ensures { λ r. ⌜ r ≡ floatOf (now (token .entry)) ⌝ }
 {
@@ -72,9 +75,12 @@ pub fn read_float(token: &[u8]) -> Token
     pattern(text::numeral(16, token))
 }
 
-// Writes a float at the front of out, and answers how many bytes it took. x: the float. out: at least 20 bytes; in a
-// shorter one nothing is written, and the answer is 0. Example: -0.0 writes 8000000000000000 and answers 16, a NaN
-// writes nan and answers 3.
+// Writes a float at the front of out, and answers how many bytes it took.
+//
+// * `x` - the float.
+// * `out` - at least 20 bytes; in a shorter one nothing is written, and the answer is 0.
+//
+// -0.0 writes 8000000000000000 and answers 16, a NaN writes nan and answers 3.
 pub fn write_float(x: f64, out: &mut [u8]) -> usize
     ensures { λ r. ⌜ r ≡ writtenCount (floatText x) (now (out .entry)) ⌝ }
     ensures { λ r. ⌜ now (out .exit) ≡ writtenIn (floatText x) (now (out .entry)) ⌝ }

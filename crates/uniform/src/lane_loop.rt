@@ -26,8 +26,8 @@ fn average_lane(
     out: &mut [i64],
 )
     requires { ⌜ LineNeeds (borderOf mode) n stride base left right (now «data») (now line)
-        × MeanAxisNeeds (left + right + 1) (borderOf mode) (now «data») × (0 < stride) × (base
-        ≡ laneBase n stride lane) × (base + n * stride < length (now out) + stride) ⌝ }
+        × MeanAxisNeeds (left + right + 1) (borderOf mode) (now «data») × (0 < stride) × (base ≡ laneBase n stride lane)
+        × (base + n * stride < length (now out) + stride) ⌝ }
     ensures { λ _. ⌜ now (out .exit) ≡ withLane (pos 0) n stride lane
         (filteredLane (pos 0) (meansBy (left + right + 1)) (borderOf mode) left right
         (laneAt (pos 0) (now («data» .entry)) base stride n)) (now (out .entry)) ⌝ }

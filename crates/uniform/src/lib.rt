@@ -77,9 +77,8 @@ pub fn uniform_filter1d(
     out: &mut [i64],
 ) -> u8
     ensures { λ r. ⌜ Answers (uniform1dJudged (borderOf mode) size (now (shape .entry)) axis (now («data» .entry))
-        (length (now (out .entry))))
-        (uniform1d (borderOf mode) size (now (shape .entry)) axis (now («data» .entry))) (now (out .entry)) r
-        (now (out .exit)) ⌝ }
+        (length (now (out .entry)))) (uniform1d (borderOf mode) size (now (shape .entry)) axis (now («data» .entry)))
+        (now (out .entry)) r (now (out .exit)) ⌝ }
 {
     let refusal = judge::judge_uniform1d(data, shape, size, axis, mode, out.len());
     if refusal != 0 {

@@ -53,8 +53,8 @@ pub fn uniform_lane(
     base: usize,
     out: &mut [i64],
 )
-    requires { ⌜ MeanLineNeeds (now line) size n × (0 < n) × (0 < stride) × (base
-        ≡ laneBase n stride lane) × (base + n * stride < length (now out) + stride) ⌝ }
+    requires { ⌜ MeanLineNeeds (now line) size n × (0 < n) × (0 < stride) × (base ≡ laneBase n stride lane)
+        × (base + n * stride < length (now out) + stride) ⌝ }
     ensures { λ _. ⌜ now (out .exit) ≡ withLane (pos 0) n stride lane (means (now (line .entry)) size n)
         (now (out .entry)) ⌝ }
 {

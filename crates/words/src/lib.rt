@@ -23,8 +23,8 @@ const LINE_FEED: u8 = 10;
 // Whether the bytes from start to i are the token, with a space behind them.
 fn is_here(token: &[u8], table: &[u8], start: usize, i: usize) -> bool
     requires { ⌜ (start ≤ i) × (i < length (now table)) ⌝ }
-    ensures { λ r. ⌜ r ≡ eqb (getD (now (table .entry)) i 0) 32
-        && sameBytes (take (i - start) (drop start (now (table .entry)))) (now (token .entry)) ⌝ }
+    ensures { λ r. ⌜ r ≡ eqb (getD (now (table .entry)) i 0) 32 && sameBytes
+        (take (i - start) (drop start (now (table .entry)))) (now (token .entry)) ⌝ }
 {
     if table[i] != SPACE {
         return false;
@@ -70,8 +70,12 @@ fn start_behind(byte: u8, end: u8, other: u8, start: usize, i: usize) -> usize
     start
 }
 
-// Where a token stands among the words of a table. token: the bytes, whatever they are. table: as above. Example: wrap
-// is At 1 in `nearest wrap `, and wra is Nothing.
+// Where a token stands among the words of a table.
+//
+// * `token` - the bytes, whatever they are.
+// * `table` - a space behind each word.
+//
+// wrap is At 1 in `nearest wrap `, and wra is Nothing.
 pub fn find_word(token: &[u8], table: &[u8]) -> Found
     ensures { λ r. ⌜ r ≡ placeIn (wordsOf (now (table .entry))) (now (token .entry)) ⌝ }
 {
@@ -117,22 +121,22 @@ fn column_at(table: &[u8], end: u8, other: u8, place: usize) -> &[u8]
     &table[0..0]
 }
 
-// The word at a place of a table, counted from 0. past the last word it is no bytes. Example: at place 1 of `nearest
-// wrap ` stands wrap.
+// The word at a place of a table, counted from 0; past the last word no bytes. At place 1 of `nearest wrap ` stands
+// wrap.
 pub fn word_at(table: &[u8], place: usize) -> &[u8]
     ensures { λ r. ⌜ now r ≡ getD (wordsOf (now (table .entry))) place [] ⌝ }
 {
     column_at(table, SPACE, LINE_FEED, place)
 }
 
-// What stands behind the word on a line of a table, the line counted from 0. past the last line it is no bytes.
+// What stands behind the word on a line of a table, the line counted from 0; past the last line no bytes.
 pub fn rest_at(table: &[u8], place: usize) -> &[u8]
     ensures { λ r. ⌜ now r ≡ getD (restsOf (now (table .entry))) place [] ⌝ }
 {
     column_at(table, LINE_FEED, SPACE, place)
 }
 
-// The line of a text, counted from 0, without its line feed. past the last line feed it is no bytes.
+// The line of a text, counted from 0, without its line feed; past the last line feed no bytes.
 pub fn line_at(table: &[u8], place: usize) -> &[u8]
     ensures { λ r. ⌜ now r ≡ getD (linesOf (now (table .entry))) place [] ⌝ }
 {
