@@ -24,7 +24,7 @@ use Rattle.window.specs.Window.{kernelLeft, kernelRight, appliedOrigin, badEith
 use Rattle.correlate_judge.specs.Judge.{badWeight, appliedWeights}
 use Rattle.correlate_judge.proofs.Applied.{applied-length, applied-weights}
 use Rattle.window.proofs.Changed.{applied-range}
-use Rattle.correlate_grid.specs.Kernel.{Kernelled}
+use Rattle.correlate_grid.specs.Kernel.{KernelCallNeeds}
 use Rattle.correlate_judge.specs.KernelJudge.{kernelJudged}
 use Rattle.correlate_judge.proofs.Equal.{Equal, kernel-equal}
 
@@ -67,7 +67,7 @@ module _ {convolution : Bool} {b : Border ℤ} {o : ℤ} {sides : List ℕ} {w :
   fills : (a : ℕ) → a < length ns → (badPad b (lengthOf ns a) (kernelLeft side applied) ≡ false) × (badPad b (lengthOf ns a) (kernelRight side applied) ≡ false)
   fills a h = or-false _ _ (every-at (λ n. badEitherPad b (kernelLeft side applied) (kernelRight side applied) n ≡ false) ns 1 (any-none _ ns (P .reach)) a h)
 
-  pub kernelled-accepted : Kernelled b ns side (kernelLeft side applied) (kernelRight side applied) (appliedWeights convolution w) cells out
+  pub kernelled-accepted : KernelCallNeeds b ns side (kernelLeft side applied) (kernelRight side applied) (appliedWeights convolution w) cells out
   unfolding badWeight
   kernelled-accepted = record {
     shape = P .grid .shape;
@@ -91,7 +91,7 @@ module _ {convolution : Bool} {b : Border ℤ} {o : ℤ} {sides : List ℕ} {w :
 
   -- what the worker supposes, as the code hands it the side, the origin and the weights
   abbrev Suits : ℕ → ℤ → List ℤ → Type 0
-  Suits n x v = (badOrigin n x ≡ false) × Kernelled b ns n (kernelLeft n x) (kernelRight n x) v cells out
+  Suits n x v = (badOrigin n x ≡ false) × KernelCallNeeds b ns n (kernelLeft n x) (kernelRight n x) v cells out
 
   pub suits-as : {n : ℕ} {x : ℤ} {v : List ℤ} → n ≡ side → x ≡ applied → v ≡ appliedWeights convolution w → Suits n x v
   suits-as {n} {x} {v} p q r =
@@ -99,12 +99,12 @@ module _ {convolution : Bool} {b : Border ℤ} {o : ℤ} {sides : List ℕ} {w :
       (subst (λ (y : ℤ). Suits side y v) (sym q) (subst (λ (u : List ℤ). Suits side applied u) (sym r) (origin-applied, kernelled-accepted)))
 
 -- ---- the pads as the code hands them to the worker
-module _ {b : Border ℤ} {ns : List ℕ} {side left right : ℕ} {w cells out : List ℤ} (K : Kernelled b ns side left right w cells out) where
-  pub padded-as : {l r : ℕ} → l ≡ left → r ≡ right → Kernelled b ns side l r w cells out
-  padded-as {l} {r} p q = subst (λ (x : ℕ). Kernelled b ns side x r w cells out) (sym p) (subst (λ (y : ℕ). Kernelled b ns side left y w cells out) (sym q) K)
+module _ {b : Border ℤ} {ns : List ℕ} {side left right : ℕ} {w cells out : List ℤ} (K : KernelCallNeeds b ns side left right w cells out) where
+  pub padded-as : {l r : ℕ} → l ≡ left → r ≡ right → KernelCallNeeds b ns side l r w cells out
+  padded-as {l} {r} p q = subst (λ (x : ℕ). KernelCallNeeds b ns side x r w cells out) (sym p) (subst (λ (y : ℕ). KernelCallNeeds b ns side left y w cells out) (sym q) K)
 
   -- pads that are exchanged suit the worker too: it is the answer that tells them apart
-  pub exchanged : Kernelled b ns side right left w cells out
+  pub exchanged : KernelCallNeeds b ns side right left w cells out
   exchanged = record {
     shape = K .shape;
     count = K .count;

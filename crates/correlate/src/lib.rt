@@ -8,7 +8,7 @@ ghost use Rattle.border.specs.Modes.{borderOf};
 ghost use Rattle.window.specs.Origin.{badOrigin};
 ghost use Rattle.correlate_spec.specs.Kernel.{sidesOf, kernelAnswer, correlateZ, convolveZ};
 ghost use Rattle.window.specs.Window.{kernelLeft, kernelRight};
-ghost use Rattle.correlate_grid.specs.Kernel.{Kernelled};
+ghost use Rattle.correlate_grid.specs.Kernel.{KernelCallNeeds};
 ghost use Rattle.correlate_judge.specs.KernelJudge.{kernelJudged};
 use border::BorderMode;
 use window::Origin;
@@ -23,7 +23,7 @@ fn sum_windows(
     origin: isize,
     out: &mut [i64],
 )
-    requires { ⌜ (badOrigin side origin ≡ false) × Kernelled (borderOf mode) (now shape) side (kernelLeft side origin)
+    requires { ⌜ (badOrigin side origin ≡ false) × KernelCallNeeds (borderOf mode) (now shape) side (kernelLeft side origin)
         (kernelRight side origin) (now weights) (now «data») (now out) ⌝ }
     ensures { λ _. ⌜ now (out .exit) ≡ kernelAnswer (borderOf mode) (kernelLeft side origin)
         (sidesOf (now (shape .entry)) side) (now (weights .entry)) (now (shape .entry)) (now («data» .entry)) ⌝ }

@@ -21,7 +21,7 @@ use Rattle.border.specs.Reach.{badPad}
 use Rattle.correlate_spec.specs.Kernel.{sidesOf, kernelSum, kernelAnswer}
 use Rattle.correlate_grid.specs.declared.axes.Axes.{Axes}
 use Rattle.correlate_grid.specs.declared.axes.Axis.{Axis}
-use Rattle.correlate_grid.specs.Kernel.{Kernelled}
+use Rattle.correlate_grid.specs.Kernel.{KernelCallNeeds}
 use Rattle.correlate_grid.specs.Axes.{axisFrom, axesOf, Serves, KernelNeeds}
 use Rattle.correlate_grid.proofs.EveryRow.{sumAt}
 use Rattle.correlate_grid.proofs.ThreeAxes.{sumBy, count-three, sum-three, lifted, sum-lifted}
@@ -41,7 +41,7 @@ by-axes P one two more (b ∷ c ∷ []) s f = two b c
 by-axes P one two more (a ∷ b ∷ c ∷ []) s f = more a b c
 by-axes P one two more (a ∷ b ∷ c ∷ d ∷ ds) s f = absurd (omega arith)
 
-module _ {b : Border ℤ} {ns : List ℕ} {side left right : ℕ} {w cells out : List ℤ} (K : Kernelled b ns side left right w cells out) where
+module _ {b : Border ℤ} {ns : List ℕ} {side left right : ℕ} {w cells out : List ℤ} (K : KernelCallNeeds b ns side left right w cells out) where
   accepted : Accepted ns
   accepted = shape-accepted ns (K .shape)
 

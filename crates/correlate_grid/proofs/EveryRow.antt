@@ -22,12 +22,12 @@ use Rattle.border.specs.Border.{Border}
 use Rattle.correlate_spec.specs.Weighed.{summed}
 use Rattle.correlate_grid.specs.declared.axes.Axis.{Axis}
 use Rattle.correlate_grid.specs.Axes.{KernelNeeds}
-use Rattle.correlate_grid.specs.ByRows.{rowsTo, Summing}
+use Rattle.correlate_grid.specs.ByRows.{rowsTo, RowSumNeeds}
 
 -- ---- the first m kernel rows are summed
 module _ {b : Border ℤ} {x y z : Axis} {w cells : List ℤ} {r : ℕ} where
   pub summing-none : {line out : List ℤ} (out₀ : List ℤ) → length line ≡ z .left + z .len + z .right → length out₀ ≡ z .len → out ≡ replicate (length out₀) (pos 0)
-      → Summing b x y z w cells r (0 * y .side) line out
+      → RowSumNeeds b x y z w cells r (0 * y .side) line out
   unfolding rowsTo summed
   summing-none out₀ l o e = record {
     line-long = l;
@@ -38,14 +38,14 @@ module _ {b : Border ℤ} {x y z : Axis} {w cells : List ℤ} {r : ℕ} where
       none : 0 ≡ 0 * y .side
       none = omega arith
 
-  pub summing-length : {m : ℕ} {line out : List ℤ} → Summing b x y z w cells r m line out → length out ≡ z .len
+  pub summing-length : {m : ℕ} {line out : List ℤ} → RowSumNeeds b x y z w cells r m line out → length out ≡ z .len
   summing-length {m} S = ap length (S .sums) ∙ length-tabulate (rowsTo b x y z w cells r m) 0 (z .len)
 
-  pub summing-start : {m : ℕ} {line out : List ℤ} → Summing b x y z w cells r m line out → Summing b x y z w cells r (m + 0) line out
-  summing-start {m} {line} {out} S = subst (λ (k : ℕ). Summing b x y z w cells r k line out) (sym (add-zero m)) S
+  pub summing-start : {m : ℕ} {line out : List ℤ} → RowSumNeeds b x y z w cells r m line out → RowSumNeeds b x y z w cells r (m + 0) line out
+  summing-start {m} {line} {out} S = subst (λ (k : ℕ). RowSumNeeds b x y z w cells r k line out) (sym (add-zero m)) S
 
   -- the sums of as many kernel rows
-  pub summing-to : {m : ℕ} {line out : List ℤ} → Summing b x y z w cells r m line out → (k : ℕ) → m ≡ k → out ≡ tabulate (rowsTo b x y z w cells r k) 0 (z .len)
+  pub summing-to : {m : ℕ} {line out : List ℤ} → RowSumNeeds b x y z w cells r m line out → (k : ℕ) → m ≡ k → out ≡ tabulate (rowsTo b x y z w cells r k) 0 (z .len)
   summing-to S k e = S .sums ∙ ap (λ (m : ℕ). tabulate (rowsTo b x y z w cells r m) 0 (z .len)) e
 
 -- ---- the rows below r are stored

@@ -15,7 +15,7 @@ use Rattle.lanes.proofs.Cells.{step-le}
 use Rattle.border.specs.Border.{Border}
 use Rattle.correlate_spec.specs.Weighed.{summed}
 use Rattle.correlate_spec.proofs.Summed.{summed-agree}
-use Rattle.correlate_line.specs.Added.{addedTo, Addable}
+use Rattle.correlate_line.specs.Added.{addedTo, AddNeeds}
 use Rattle.correlate_grid.specs.declared.axes.Axis.{Axis}
 use Rattle.correlate_grid.specs.Axes.{KernelNeeds}
 use Rattle.correlate_grid.specs.ByRows.{rowLine, lineSum, Reading}
@@ -54,7 +54,7 @@ module _ {b : Border ℤ} {x y z : Axis} {w cells : List ℤ} (L : KernelNeeds b
 
     -- ---- s is the padded row
     module _ {s : List ℤ} (e : s ≡ rowLine b z (x .len * y .len) row cells) where
-      pub row-addable : Addable weightsOf s out
+      pub row-addable : AddNeeds weightsOf s out
       row-addable = record {
         line =
             row-weighable L (x .len * y .len) row weightsOf s (length out) weights-many

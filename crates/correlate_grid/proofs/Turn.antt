@@ -16,7 +16,7 @@ use Rattle.correlate_spec.proofs.Summed.{summed-agree, summed-more}
 use Rattle.correlate_spec.proofs.Computed.{read, computed-level, computed-read}
 use Rattle.correlate_grid.specs.declared.axes.Axis.{Axis}
 use Rattle.correlate_grid.specs.Axes.{readAt, sourceFor, KernelNeeds}
-use Rattle.correlate_grid.specs.ByRows.{three, rowFor, rowLine, lineSum, rowSum, rowsTo, Mapped, Summing, Reading}
+use Rattle.correlate_grid.specs.ByRows.{three, rowFor, rowLine, lineSum, rowSum, rowsTo, Mapped, RowSumNeeds, Reading}
 use Rattle.correlate_grid.proofs.RowLine.{row-level}
 use Rattle.correlate_grid.proofs.Sources.{Known, ReadsIn, reads-in, read-place, read-in, table-is, table-known, table-small}
 use Rattle.correlate_grid.proofs.SumSizes.{sums-small}
@@ -72,7 +72,7 @@ module _ {b : Border ℤ} {x y z : Axis} {w cells first second : List ℤ} (M : 
         (λ d. o (found ∙ d)))
 
     -- ---- what adding it supposes
-    pub reading : {line out : List ℤ} → Summing b x y z w cells r q line out → Reading x y z f q line out
+    pub reading : {line out : List ℤ} → RowSumNeeds b x y z w cells r q line out → Reading x y z f q line out
     reading S = record {
       inside = below;
       kernel = kernel-in;
@@ -97,8 +97,8 @@ module _ {b : Border ℤ} {x y z : Axis} {w cells first second : List ℤ} (M : 
     sum-is c h = summed-agree _+ℤ_ (pos 0) _ _ (z .side) (λ k l t. line-is c k h l t *ℤ getD w (q * z .side + k) (pos 0))
 
     -- one kernel row more
-    pub summing-more : {line line′ out new : List ℤ} → Summing b x y z w cells r q line out → length line′ ≡ length line
-        → new ≡ tabulate (λ c. getD out c (pos 0) +ℤ lineSum b x y z w cells f q c) 0 (z .len) → Summing b x y z w cells r (i * y .side + (j + 1)) line′ new
+    pub summing-more : {line line′ out new : List ℤ} → RowSumNeeds b x y z w cells r q line out → length line′ ≡ length line
+        → new ≡ tabulate (λ c. getD out c (pos 0) +ℤ lineSum b x y z w cells f q c) 0 (z .len) → RowSumNeeds b x y z w cells r (i * y .side + (j + 1)) line′ new
     unfolding rowsTo
     summing-more {out = out} S l a = record {
       line-long = l ∙ S .line-long;

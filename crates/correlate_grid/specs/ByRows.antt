@@ -9,7 +9,7 @@
 --   rowsTo b x y z w cells r m i     the sum of the first m kernel rows
 --   Mapped b x y z w cells first second    grid and kernel are laid on the axes, and the tables have the sources of
 --                                          planes and rows
---   Summing b x y z w cells r m line out   a row that holds the sums of the first m kernel rows on row r, and a buffer
+--   RowSumNeeds b x y z w cells r m line out   a row that holds the sums of the first m kernel rows on row r, and a buffer
 --                                          as long as the padded row
 --   Reading x y z row q line out           what one kernel row supposes: the row is in the grid or none, the buffers
 --                                          are as long as the padded row and the row,
@@ -70,7 +70,7 @@ pub record Mapped (b : Border ℤ) (x y z : Axis) (w cells first second : List �
   pub planes : Found b x first
   pub rows : Found b y second
 
-pub record Summing (b : Border ℤ) (x y z : Axis) (w cells : List ℤ) (r m : ℕ) (line out : List ℤ) : Type 0 where
+pub record RowSumNeeds (b : Border ℤ) (x y z : Axis) (w cells : List ℤ) (r m : ℕ) (line out : List ℤ) : Type 0 where
   pub line-long : length line ≡ z .left + z .len + z .right
   pub sums : out ≡ tabulate (rowsTo b x y z w cells r m) 0 (z .len)
 

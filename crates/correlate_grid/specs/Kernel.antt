@@ -1,5 +1,5 @@
 -- What the worker supposes of a kernel of as many axes as the grid, all sides equal.
---   Kernelled b ns side left right w cells out    an accepted grid, a kernel of side 1 to 7 with its weights, pads that
+--   KernelCallNeeds b ns side left right w cells out    an accepted grid, a kernel of side 1 to 7 with its weights, pads that
 --                                                 the border fills, levels and weights
 --                                                 within their limits
 use Prim.Native.Nat.{ℕ, _+_, _≤_, _<_}
@@ -18,7 +18,7 @@ use Rattle.border.specs.Modes.{badConstantBy}
 use Rattle.border.specs.Reach.{badPad}
 use Rattle.correlate_spec.specs.Kernel.{sidesOf}
 
-pub record Kernelled (b : Border ℤ) (ns : List ℕ) (side left right : ℕ) (w cells out : List ℤ) : Type 0 where
+pub record KernelCallNeeds (b : Border ℤ) (ns : List ℕ) (side left right : ℕ) (w cells out : List ℤ) : Type 0 where
   pub shape : badShape ns ≡ false
   pub count : length cells ≡ cellCount ns
   pub same : length out ≡ length cells

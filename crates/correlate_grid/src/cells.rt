@@ -6,7 +6,7 @@ ghost use lib.ListN.{length};
 ghost use Rattle.numbers.specs.Lists.{tabulate};
 ghost use Rattle.border.specs.Modes.{borderOf};
 ghost use Rattle.correlate_grid.specs.Axes.{KernelNeeds};
-ghost use Rattle.correlate_grid.specs.ByRows.{Mapped, rowsTo, Summing};
+ghost use Rattle.correlate_grid.specs.ByRows.{Mapped, rowsTo, RowSumNeeds};
 use crate::axes::Axes;
 use crate::axes::find_sources;
 use crate::row::add_kernel_row;
@@ -30,7 +30,7 @@ fn add_kernel_plane(
 )
     requires { ⌜ Mapped (borderOf mode) (axes .planes) (axes .rows) (axes .cells) (now weights) (now «data») (now first)
         (now second) × (p < axes .planes .len) × (s < axes .rows .len) × (i < axes .planes .side)
-        × Summing (borderOf mode) (axes .planes) (axes .rows) (axes .cells) (now weights) (now «data»)
+        × RowSumNeeds (borderOf mode) (axes .planes) (axes .rows) (axes .cells) (now weights) (now «data»)
         (p * axes .rows .len + s) (i * axes .rows .side) (now line) (now out) ⌝ }
     ensures { λ _. ⌜ now (out .exit) ≡ tabulate (rowsTo (borderOf mode) (axes .planes) (axes .rows) (axes .cells)
         (now (weights .entry)) (now («data» .entry)) (p * axes .rows .len + s) ((i + 1) * axes .rows .side)) 0

@@ -2,7 +2,7 @@
 ghost use mathlib.Core.Path.{_≡_};
 ghost use Rattle.border.specs.Modes.{borderOf};
 ghost use Rattle.correlate_spec.specs.Kernel.{sidesOf, kernelAnswer};
-ghost use Rattle.correlate_grid.specs.Kernel.{Kernelled};
+ghost use Rattle.correlate_grid.specs.Kernel.{KernelCallNeeds};
 ghost use Rattle.correlate_grid.specs.Rows.{CorrelateGridRows};
 use border::BorderMode;
 
@@ -22,7 +22,7 @@ pub fn correlate_cells(
     right: usize,
     out: &mut [i64],
 )
-    requires { ⌜ Kernelled (borderOf mode) (now shape) side left right (now weights) (now «data») (now out) ⌝ }
+    requires { ⌜ KernelCallNeeds (borderOf mode) (now shape) side left right (now weights) (now «data») (now out) ⌝ }
     ensures { λ _. ⌜ now (out .exit) ≡ kernelAnswer (borderOf mode) left (sidesOf (now (shape .entry)) side)
         (now (weights .entry)) (now (shape .entry)) (now («data» .entry)) ⌝ }
 {

@@ -12,7 +12,7 @@ use Rattle.symmetry_spec.specs.declared.SymmetryState.the-variants.{NonSymmetri
 use Rattle.correlate_spec.specs.Weighed.{wholeOps, plainAt, weighedLine}
 use Rattle.correlate_spec.specs.Sizes.{LineSumNeeds}
 use Rattle.correlate_spec.proofs.Terms.{weighable-kept}
-use Rattle.correlate_line.specs.Added.{addedTo, Addable}
+use Rattle.correlate_line.specs.Added.{addedTo, AddNeeds}
 
 zeros-small : (n : ℕ) → anyOf (outsideZ (negℤ (pos (2 ^ 61))) (pos (2 ^ 61))) (replicate n (pos 0)) ≡ false
 zeros-small zero = refl
@@ -27,7 +27,7 @@ module _ {w s : List ℤ} {n : ℕ} (W : LineSumNeeds w s n) {out : List ℤ} (e
   long : length out ≡ n
   long = ap length e ∙ length-replicate n (pos 0)
 
-  pub zero-addable : Addable w s out
+  pub zero-addable : AddNeeds w s out
   zero-addable = record { line = weighable-kept long W; small = ap (anyOf _) e ∙ zeros-small n }
 
   pub zero-added : {new : List ℤ} → new ≡ tabulate (addedTo out w s (length w)) 0 (length out) → new ≡ weighedLine wholeOps NonSymmetric w s n

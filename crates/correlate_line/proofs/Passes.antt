@@ -15,7 +15,7 @@ use Rattle.correlate_spec.specs.Weighed.{summed, wholeOps, cellTerm, plainTo}
 use Rattle.correlate_spec.proofs.Sizes.{size-plain}
 use Rattle.correlate_spec.proofs.Summed.{summed-more, summed-parts}
 use Rattle.correlate_spec.proofs.Terms.{weighable-kept, cell-size, weight-size}
-use Rattle.correlate_line.specs.Added.{plus, threeTerms, addedTo, Addable, Passed}
+use Rattle.correlate_line.specs.Added.{plus, threeTerms, addedTo, AddNeeds, Passed}
 
 -- the first n weights are added
 pub record Adding (w s held : List ℤ) (n : ℕ) (out : List ℤ) : Type 0 where
@@ -30,7 +30,7 @@ module _ {w s held : List ℤ} {n : ℕ} {out : List ℤ} (R : Adding w s held n
   adding-length = ap length (R .is) ∙ length-tabulate (addedTo held w s n) 0 (length held)
 
   -- what the next pass supposes
-  pub passed : Addable w s held → n ≤ length w → Passed w s out
+  pub passed : AddNeeds w s held → n ≤ length w → Passed w s out
   passed A b = record {
     line = weighable-kept adding-length (A .line);
     small = ap (anyOf _) (R .is) ∙ none-any _ (tabulate (addedTo held w s n) 0 (length held))

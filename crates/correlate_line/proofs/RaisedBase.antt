@@ -12,10 +12,10 @@ use Rattle.numbers.specs.Sums.{sumOf}
 use Rattle.numbers.proofs.Any.{none-any, every-imp}
 use Rattle.numbers.proofs.Size.{Size, Sized, size-zero, size-add, size-neg, size-mul, size-le, size-sum, inside-sized, tested-sized, fits-size}
 use Rattle.correlate_spec.specs.Sizes.{SumNeeds}
-use Rattle.correlate_line.specs.Raised.{raisedBase, Liftable}
+use Rattle.correlate_line.specs.Raised.{raisedBase, LiftNeeds}
 use Rattle.correlate_spec.proofs.Computed.{read, Computed, size-pos, computed-level, computed-read, computed}
 
-module _ {w : List ℤ} {by : ℕ} (L : Liftable by w) where
+module _ {w : List ℤ} {by : ℕ} (L : LiftNeeds by w) where
   sized : Sized 65535 w
   sized = tested-sized 65535 w (L .weights)
 

@@ -13,7 +13,7 @@ use Rattle.correlate_spec.specs.WindowSum.{windowSum}
 use Rattle.correlate_spec.proofs.Sliding.{sum-enters, sum-size}
 use Rattle.correlate_spec.specs.Sizes.{LineSumNeeds}
 use Rattle.correlate_line.specs.Narrow.{Raised, Narrow, raiseOf}
-use Rattle.correlate_line.specs.Raised.{raisedBase, raisedStart, Liftable, RaiseNeeds}
+use Rattle.correlate_line.specs.Raised.{raisedBase, raisedStart, LiftNeeds, RaiseNeeds}
 use Rattle.correlate_spec.proofs.Computed.{read, Computed, size-pos, computed-level, computed-read, computed}
 use Rattle.correlate_line.proofs.RaisedBase.{base-small}
 use Rattle.correlate_line.proofs.RaisedLists.{raise-low, raise-raised}
@@ -34,7 +34,7 @@ pub raisable-kept : {by m n : ℕ} {w s : List ℤ} → m ≡ n → RaiseNeeds b
 raisable-kept e A = record { weighable = weighable-kept e (A .weighable); low = A .low; weights = A .weights; cells = A .cells }
 
 module _ {by : ℕ} {w s : List ℤ} {n : ℕ} (A : RaiseNeeds by w s n) where
-  pub liftable : Liftable by w
+  pub liftable : LiftNeeds by w
   liftable = record { few = A .weighable .few; weights = A .weighable .weights; low = A .low }
 
   sized : Sized (2 ^ 38) s

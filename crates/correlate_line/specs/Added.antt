@@ -2,7 +2,7 @@
 --   plus held f i         cell i of what is held, plus f i
 --   threeTerms w s i j    the terms of cells j, j + 1 and j + 2 of the window of cell i, in one sum
 --   addedTo held w s n i  cell i of what is held, plus the first n terms of its window
---   Addable w s held      weights, line and row are as the sums ask, and the row holds at most 2^61 in size
+--   AddNeeds w s held      weights, line and row are as the sums ask, and the row holds at most 2^61 in size
 --   Passed w s out        the same for one pass along the row, which then holds at most 2^62
 use Prim.Native.Nat.{ℕ, _+_, _^_}
 use mathlib.Core.Path.{_≡_}
@@ -24,7 +24,7 @@ threeTerms w s i j = cellTerm wholeOps w s i j +ℤ cellTerm wholeOps w s i (j +
 abbrev pub addedTo : List ℤ → List ℤ → List ℤ → ℕ → ℕ → ℤ
 addedTo held w s n = plus held (plainTo wholeOps w s n)
 
-pub record Addable (w s held : List ℤ) : Type 0 where
+pub record AddNeeds (w s held : List ℤ) : Type 0 where
   pub line : LineSumNeeds w s (length held)
   pub small : anyOf (outsideZ (negℤ (pos (2 ^ 61))) (pos (2 ^ 61))) held ≡ false
 

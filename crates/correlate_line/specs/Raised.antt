@@ -6,7 +6,7 @@
 --                             taken away
 --   raisedTerm by w s i j     the window's cell j, raised, times weight j, raised
 --   raisedTo by w s n i       from the start, the first n terms
---   Liftable by w             how large the weights w and by may be
+--   LiftNeeds by w             how large the weights w and by may be
 --   RaiseNeeds by w s n         what the workers suppose: the weights w and the padded line s of n cells are weighable,
 --                               and may be raised
 use Prim.Native.Nat.{ℕ, _+_, _≤_}
@@ -36,7 +36,7 @@ raisedTerm by w s i j = (getD s (i + j) (pos 0) +ℤ pos 2147483648) *ℤ (getD 
 abbrev pub raisedTo : ℕ → List ℤ → List ℤ → ℕ → ℕ → ℤ
 raisedTo by w s n i = summed _+ℤ_ (raisedStart by w s i) (raisedTerm by w s i) n
 
-pub record Liftable (by : ℕ) (w : List ℤ) : Type 0 where
+pub record LiftNeeds (by : ℕ) (w : List ℤ) : Type 0 where
   pub few : length w ≤ longestWindow
   pub weights : anyOf (over largestWeight) w ≡ false
   pub low : by ≤ largestWeight

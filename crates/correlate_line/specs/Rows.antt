@@ -8,10 +8,10 @@ use mathlib.Core.List.{List, [], _∷_, map}
 use lib.IntN.{ℤ, pos, _-ℤ_}
 use lib.ListN.{replicate}
 use Rattle.numbers.specs.Rows.{minus, wholes}
-use Rattle.correlate_line.specs.Added.{plus, threeTerms, addedTo, Addable, Passed}
+use Rattle.correlate_line.specs.Added.{plus, threeTerms, addedTo, AddNeeds, Passed}
 use Rattle.correlate_line.specs.Narrow.{Raised, Narrow, raiseOf}
 use Rattle.correlate_line.specs.Products.{lowered, RaisedWeight, product, fourProducts}
-use Rattle.correlate_line.specs.Raised.{raisedBase, raisedStart, raisedTerm, raisedTo, Liftable, RaiseNeeds}
+use Rattle.correlate_line.specs.Raised.{raisedBase, raisedStart, raisedTerm, raisedTo, LiftNeeds, RaiseNeeds}
 
 abbrev pub two : List ℤ
 two = pos 2 ∷ minus 1 ∷ []
@@ -38,8 +38,8 @@ pub record CorrelateLineRows : Type 0 where
   pub added : map (λ n. addedTo (wholes (7 ∷ 8 ∷ [])) (wholes (1 ∷ 10 ∷ [])) (wholes (2 ∷ 3 ∷ 4 ∷ [])) n 1)
       (0 ∷ 1 ∷ 2 ∷ []) ≡ wholes (8 ∷ 11 ∷ 51 ∷ [])
   -- a row may hold 2^61 before the first pass and 2^62 before a later one, and no more
-  pub addable : Addable two (wholes (1 ∷ 2 ∷ [])) (pos (2 ^ 61) ∷ [])
-  pub addable-large : Addable two (wholes (1 ∷ 2 ∷ [])) (pos (2 ^ 61 + 1) ∷ []) → ⊥
+  pub addable : AddNeeds two (wholes (1 ∷ 2 ∷ [])) (pos (2 ^ 61) ∷ [])
+  pub addable-large : AddNeeds two (wholes (1 ∷ 2 ∷ [])) (pos (2 ^ 61 + 1) ∷ []) → ⊥
   pub passed : Passed two (wholes (1 ∷ 2 ∷ [])) (minus (2 ^ 62) ∷ [])
   pub passed-large : Passed two (wholes (1 ∷ 2 ∷ [])) (minus (2 ^ 62 + 1) ∷ []) → ⊥
   -- raised by 3, 2 −1 are 5 and 2: a sum starts from −7 · 2^31, and where its window is 4 9, from 39 less
@@ -58,10 +58,10 @@ pub record CorrelateLineRows : Type 0 where
   pub one-product : product (low 5 ∷ low 7 ∷ []) 1 3 ≡ pos 21
   pub four-products : fourProducts (low 9 ∷ low 1 ∷ low 2 ∷ low 3 ∷ low 4 ∷ []) 1 1000 100 10 1 ≡ pos 1234
   -- 65 weights within 65,535, raised by at most as much
-  pub liftable : Liftable 65535 (minus 65535 ∷ replicate 64 (pos 65535))
-  pub liftable-many : Liftable 0 (replicate 66 (pos 1)) → ⊥
-  pub liftable-large : Liftable 0 (pos 65536 ∷ []) → ⊥
-  pub liftable-far : Liftable 65536 two → ⊥
+  pub liftable : LiftNeeds 65535 (minus 65535 ∷ replicate 64 (pos 65535))
+  pub liftable-many : LiftNeeds 0 (replicate 66 (pos 1)) → ⊥
+  pub liftable-large : LiftNeeds 0 (pos 65536 ∷ []) → ⊥
+  pub liftable-far : LiftNeeds 65536 two → ⊥
   -- a raise that serves, and one that leaves −1 below 0
   pub raisable : RaiseNeeds 1 two (wholes (4 ∷ 9 ∷ [])) 1
   pub raisable-not : RaiseNeeds 0 two (wholes (4 ∷ 9 ∷ [])) 1 → ⊥

@@ -5,7 +5,7 @@ ghost use Prim.Native.Nat.{_+_, _≤_, _<_};
 ghost use lib.ListN.{length};
 ghost use Rattle.numbers.specs.Lists.{tabulate};
 ghost use Rattle.correlate_spec.specs.Weighed.{wholeOps, cellTerm};
-ghost use Rattle.correlate_line.specs.Added.{plus, threeTerms, addedTo, Passed, Addable};
+ghost use Rattle.correlate_line.specs.Added.{plus, threeTerms, addedTo, Passed, AddNeeds};
 
 // Adds to every cell the term of cell j of its window.
 fn add_row(weights: &[i64], line: &[i64], j: usize, out: &mut [i64])
@@ -48,7 +48,7 @@ fn add_three_rows(weights: &[i64], line: &[i64], j: usize, out: &mut [i64])
 
 // Adds the terms of three weights at a time while three are left, and says how many were taken.
 fn add_threes(weights: &[i64], line: &[i64], out: &mut [i64]) -> usize
-    requires { ⌜ Addable (now weights) (now line) (now out) ⌝ }
+    requires { ⌜ AddNeeds (now weights) (now line) (now out) ⌝ }
     ensures { λ r. ⌜ (r ≤ length (now (weights .entry)))
         × (now (out .exit) ≡ tabulate (addedTo (now (out .entry)) (now (weights .entry)) (now (line .entry)) r) 0
         (length (now (out .entry)))) ⌝ }
@@ -64,7 +64,7 @@ fn add_threes(weights: &[i64], line: &[i64], out: &mut [i64]) -> usize
 
 // Adds to each cell of out the weighted sum of its window of the padded line.
 pub fn add_line(weights: &[i64], line: &[i64], out: &mut [i64])
-    requires { ⌜ Addable (now weights) (now line) (now out) ⌝ }
+    requires { ⌜ AddNeeds (now weights) (now line) (now out) ⌝ }
     ensures { λ _. ⌜ now (out .exit) ≡ tabulate (addedTo (now (out .entry)) (now (weights .entry)) (now (line .entry))
         (length (now (weights .entry)))) 0 (length (now (out .entry))) ⌝ }
 {

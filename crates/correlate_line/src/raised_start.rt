@@ -2,14 +2,14 @@
 ghost use mathlib.Core.Path.{_≡_};
 ghost use lib.ListN.{length};
 ghost use Rattle.numbers.specs.Lists.{tabulate};
-ghost use Rattle.correlate_line.specs.Raised.{raisedBase, raisedStart, Liftable, RaiseNeeds};
+ghost use Rattle.correlate_line.specs.Raised.{raisedBase, raisedStart, LiftNeeds, RaiseNeeds};
 use crate::sums::sum_of;
 use array::fill;
 use window::window;
 
 // What raising the cells adds to a sum, taken from 0.
 fn base_of(weights: &[i64], by: u32) -> i64
-    requires { ⌜ Liftable by (now weights) ⌝ }
+    requires { ⌜ LiftNeeds by (now weights) ⌝ }
     ensures { λ r. ⌜ r ≡ raisedBase by (now (weights .entry)) ⌝ }
 {
     let n = weights.len();

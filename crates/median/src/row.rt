@@ -7,7 +7,7 @@ ghost use Prim.Native.Nat.{_+_, _*_, _≤_, _<_, min};
 ghost use lib.ListN.{length, getD};
 ghost use Rattle.numbers.specs.Limits.{mostCells};
 ghost use Rattle.median_spec.specs.Around.{one, medianAnswer};
-ghost use Rattle.median_spec.specs.ByRows.{spanOf, planeCount, columnCount, Reaches, Room, added, setRow, medianOfPlace, MaskNeeds, Blank};
+ghost use Rattle.median_spec.specs.ByRows.{spanOf, planeCount, columnCount, MaskRowNeeds, Room, added, setRow, medianOfPlace, MaskNeeds, Blank};
 use median_spec::Span;
 
 // One past the last coordinate around cell i, inside an axis of n cells.
@@ -48,7 +48,7 @@ fn add_row(row: &[bool], counts: &mut [u8])
 
 // Adds to each count how many of the rows ys of plane x are true there.
 fn add_plane(mask: &[bool], rows: usize, ys: Span, x: usize, counts: &mut [u8])
-    requires { ⌜ Reaches (now mask) (length (now counts)) (x * rows + ys .to)
+    requires { ⌜ MaskRowNeeds (now mask) (length (now counts)) (x * rows + ys .to)
         × Room (planeCount (now mask) rows (length (now counts)) ys x) (now counts) ⌝ }
     ensures { λ _. ⌜ now (counts .exit) ≡ added (planeCount (now (mask .entry)) rows (length (now (counts .entry))) ys
         x) (now (counts .entry)) ⌝ }
@@ -66,7 +66,7 @@ fn add_plane(mask: &[bool], rows: usize, ys: Span, x: usize, counts: &mut [u8])
 
 // Adds to each count how many of the rows ys of the planes xs are true there.
 fn add_planes(mask: &[bool], rows: usize, xs: Span, ys: Span, counts: &mut [u8])
-    requires { ⌜ Reaches (now mask) (length (now counts)) (xs .to * rows) × (1 ≤ rows) × (ys .to ≤ rows)
+    requires { ⌜ MaskRowNeeds (now mask) (length (now counts)) (xs .to * rows) × (1 ≤ rows) × (ys .to ≤ rows)
         × Room (columnCount (now mask) rows (length (now counts)) xs ys) (now counts) ⌝ }
     ensures { λ _. ⌜ now (counts .exit) ≡ added (columnCount (now (mask .entry)) rows (length (now (counts .entry))) xs
         ys) (now (counts .entry)) ⌝ }

@@ -9,14 +9,14 @@ use native.Mathlib.Omega.{arith}
 use lib.ListN.{length, getD, take, drop, length-drop}
 use lib.Seq.{getD-take, getD-drop, length-take-le}
 use Rattle.median_spec.specs.Around.{one}
-use Rattle.median_spec.specs.ByRows.{Reaches, Room, added}
+use Rattle.median_spec.specs.ByRows.{MaskRowNeeds, Room, added}
 use Rattle.median_spec.proofs.Adding.{added-agree}
 
 -- r rows and one more are at most m rows
 pub row-end : (n : ℕ) {r m : ℕ} → r < m → r * n + n ≤ m * n
 row-end n {r} {m} h = omega (arith, mul-le-mul h (le-refl n), suc-mul r n)
 
-module _ {mask : List Bool} {n last : ℕ} (R : Reaches mask n last) where
+module _ {mask : List Bool} {n last : ℕ} (R : MaskRowNeeds mask n last) where
   pub rows-few : last ≤ 8192
   rows-few = omega (arith, mul-le-mul (le-refl last) (R .some), R .reach, R .small)
 
@@ -50,11 +50,11 @@ module _ {mask : List Bool} {n last : ℕ} (R : Reaches mask n last) where
       part-added = added-agree _ _ c same
 
 -- ---- planes of rows
-module _ {mask : List Bool} {n rows last : ℕ} (R : Reaches mask n (last * rows)) where
+module _ {mask : List Bool} {n rows last : ℕ} (R : MaskRowNeeds mask n (last * rows)) where
   pub planes-few : 1 ≤ rows → last ≤ 8192
   planes-few h = omega (arith, mul-le-mul (le-refl last) h, rows-few R)
 
-  pub plane-reaches : (x to : ℕ) → x < last → to ≤ rows → Reaches mask n (x * rows + to)
+  pub plane-reaches : (x to : ℕ) → x < last → to ≤ rows → MaskRowNeeds mask n (x * rows + to)
   plane-reaches x to h t =
       let e : x * rows + to ≤ last * rows = omega (arith, row-end rows h) in
       record { some = R .some; small = R .small; reach = omega (arith, mul-le-mul e (le-refl n), R .reach) }

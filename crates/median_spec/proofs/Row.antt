@@ -8,7 +8,7 @@ use native.Mathlib.Omega.{arith}
 use lib.ListN.{length, getD}
 use Rattle.numbers.proofs.Stored.{stored-agree, stored-table, table-stored}
 use Rattle.median_spec.specs.declared.Span.{Span}
-use Rattle.median_spec.specs.ByRows.{spanOf, columnCount, Reaches, Room, added, votedAt, Counted, inRow, setRow, medianOfPlace, MaskNeeds, Blank}
+use Rattle.median_spec.specs.ByRows.{spanOf, columnCount, MaskRowNeeds, Room, added, votedAt, Counted, inRow, setRow, medianOfPlace, MaskNeeds, Blank}
 use Rattle.median_spec.proofs.Adding.{length-added}
 use Rattle.median_spec.proofs.Spans.{Short, span-short, around-some, around-few, blank-room, blank-added, added-few, plane-below, row-below, row-room, planes-reach}
 use Rattle.median_spec.proofs.ThreeAxes.{row-median}
@@ -30,7 +30,7 @@ module _ {planes rows : ℕ} {mask : List Bool} {c : List ℕ} (blank : Blank c)
   pub rows-nine : (xs .to - xs .from) * (ys .to - ys .from) ≤ 9
   rows-nine = around-few planes-short rows-short
 
-  pub row-adds : Reaches mask (length c) (xs .to * rows) × (1 ≤ rows) × (ys .to ≤ rows) × Room (columnCount mask rows (length c) xs ys) c
+  pub row-adds : MaskRowNeeds mask (length c) (xs .to * rows) × (1 ≤ rows) × (ys .to ≤ rows) × Room (columnCount mask rows (length c) xs ys) c
   row-adds = (planes-reach L planes-short, L .some-rows, rows-short .inside, blank-room planes-short rows-short mask blank)
 
   module _ {c′ : List ℕ} (e : c′ ≡ added (columnCount mask rows (length c) xs ys) c) where

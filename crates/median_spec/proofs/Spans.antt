@@ -11,7 +11,7 @@ use lib.Dec.{ltb}
 use lib.ListN.{length, getD, take, replicate, List·getD-eq-default}
 use Rattle.median_spec.specs.declared.Span.{Span}
 use Rattle.median_spec.specs.Around.{upTo, one}
-use Rattle.median_spec.specs.ByRows.{spanOf, cellOf, planeCount, columnCount, Reaches, Room, added, MaskNeeds, Blank}
+use Rattle.median_spec.specs.ByRows.{spanOf, cellOf, planeCount, columnCount, MaskRowNeeds, Room, added, MaskNeeds, Blank}
 use Rattle.median_spec.proofs.Totals.{length-upTo, total-bound}
 use Rattle.median_spec.proofs.Adding.{length-added, getD-added}
 use Rattle.median_spec.proofs.Reach.{row-end}
@@ -100,7 +100,7 @@ module _ {planes rows n : ℕ} {mask : List Bool} (L : MaskNeeds planes rows n m
     pub row-room : r * n + n ≤ length mask
     row-room = omega (arith, row-end n h, L .count)
 
-  pub planes-reach : {xs : Span} → Short planes xs → Reaches mask n (xs .to * rows)
+  pub planes-reach : {xs : Span} → Short planes xs → MaskRowNeeds mask n (xs .to * rows)
   planes-reach {xs} P =
       let e : xs .to * rows ≤ planes * rows = mul-le-mul (P .inside) (le-refl rows) in
       record { some = omega (arith, L .two); small = L .small; reach = omega (arith, mul-le-mul e (le-refl n), L .count) }

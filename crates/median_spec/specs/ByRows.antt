@@ -4,7 +4,7 @@
 --   cellOf mask rows n x y z    1 where cell z of row y of plane x is true, else 0; rows to a plane, n cells to a row
 --   planeCount ..           of rows ys of plane x, how many are true at place z
 --   columnCount ..          of rows ys of planes xs, how many are true at place z
---   Reaches mask n last     the mask has `last` rows of n cells, one or more, and at most 8,192 cells
+--   MaskRowNeeds mask n last     the mask has `last` rows of n cells, one or more, and at most 8,192 cells
 --   Room g counts           g fits into the counts: no sum is over 255
 --   added g counts          the counts, each with g of its place added
 --   votedAt counts m i      whether cell i is true: the counts of its m rows around, over cell i and its neighbours
@@ -38,7 +38,7 @@ planeCount mask rows n ys x z = total (λ y. cellOf mask rows n x y z) (upTo (ys
 abbrev pub columnCount : List Bool → ℕ → ℕ → Span → Span → ℕ → ℕ
 columnCount mask rows n xs ys z = total (λ x. planeCount mask rows n ys x z) (upTo (xs .from) (xs .to))
 
-pub record Reaches (mask : List Bool) (n last : ℕ) : Type 0 where
+pub record MaskRowNeeds (mask : List Bool) (n last : ℕ) : Type 0 where
   pub some : 1 ≤ n
   pub small : length mask ≤ 8192
   pub reach : last * n ≤ length mask

@@ -6,7 +6,7 @@ use native.Mathlib.Nat.{add-mul}
 use native.Mathlib.Omega.{arith}
 use Rattle.lanes.proofs.Cells.{step-le}
 use Rattle.border.specs.Modes.{borderOf}
-use Rattle.correlate_grid.specs.ByRows.{Summing}
+use Rattle.correlate_grid.specs.ByRows.{RowSumNeeds}
 use Rattle.correlate_grid.proofs.KernelRow.{rows-few, kernel-few}
 use Rattle.correlate_grid.proofs.Sources.{place-in, table-held}
 use Rattle.correlate_grid.proofs.Turn.{kernel-in, reading, summing-more}
@@ -17,7 +17,7 @@ use Rattle.correlate_grid.proofs.cells.add_kernel_plane.Tie as tie
 
 abbrev Inv-loop : tie.InvT-loop
 Inv-loop «data» weights mode axes first second p s i line₀ out₀ plane per none side q j₀ line out j =
-    (j ≤ axes .rows .side) × Summing (borderOf mode) (axes .planes) (axes .rows) (axes .cells) weights «data» (p * axes .rows .len + s) (i * axes .rows .side + j) line out
+    (j ≤ axes .rows .side) × RowSumNeeds (borderOf mode) (axes .planes) (axes .rows) (axes .cells) weights «data» (p * axes .rows .len + s) (i * axes .rows .side + j) line out
 
 abbrev μ-loop : tie.MeasureT-loop
 μ-loop «data» weights mode axes first second p s i line₀ out₀ plane per none side q j₀ line out j =

@@ -5,7 +5,7 @@ use Prim.Native.Nat.{ℕ, _+_, _-_, _*_, _≤_}
 use native.Mathlib.Omega.{arith}
 use denote.Ref.{now}
 use Rattle.border.specs.Modes.{borderOf}
-use Rattle.correlate_grid.specs.ByRows.{Summing}
+use Rattle.correlate_grid.specs.ByRows.{RowSumNeeds}
 use Rattle.correlate_grid.proofs.EveryRow.{summing-none, summing-length, summing-to}
 use borrow.Author.Needs.{needs}
 use Rattle.correlate_grid.proofs.cells.correlate_row.Statement.{statement}
@@ -13,7 +13,7 @@ use Rattle.correlate_grid.proofs.cells.correlate_row.Tie as tie
 
 abbrev Inv-loop : tie.InvT-loop
 Inv-loop «data» weights mode axes first second p s line₀ out₀ count i₀ line out i =
-    (i ≤ axes .planes .side) × Summing (borderOf mode) (axes .planes) (axes .rows) (axes .cells) weights «data» (p * axes .rows .len + s) (i * axes .rows .side) line out
+    (i ≤ axes .planes .side) × RowSumNeeds (borderOf mode) (axes .planes) (axes .rows) (axes .cells) weights «data» (p * axes .rows .len + s) (i * axes .rows .side) line out
 
 abbrev μ-loop : tie.MeasureT-loop
 μ-loop «data» weights mode axes first second p s line₀ out₀ count i₀ line out i =

@@ -5,7 +5,7 @@ use Prim.Native.Nat.{ℕ, _+_, _-_, _*_}
 use native.Mathlib.Omega.{arith}
 use denote.Ref.{now}
 use lib.ListN.{length}
-use Rattle.median_spec.specs.ByRows.{planeCount, Reaches, Room, added}
+use Rattle.median_spec.specs.ByRows.{planeCount, MaskRowNeeds, Room, added}
 use Rattle.median_spec.proofs.Reach.{planes-few, plane-reaches}
 use Rattle.median_spec.proofs.Adding.{Adding, adding-none, adding-room, adding-more, adding-all}
 use borrow.Author.Needs.{needs}
@@ -25,7 +25,7 @@ add-plane-requires : tie.Need-add-plane-requires Inv-loop μ-loop
 add-plane-requires c κs =
     let s = c .before .before .before .before .before in
     let l = c .before .before .loop in
-    subst (λ (n : ℕ). Reaches (now (s .args .mask)) n (l .x * s .args .rows + s .args .ys .to) × Room (planeCount (now (s .args .mask)) (s .args .rows) n (s .args .ys) (l .x)) (l .counts))
+    subst (λ (n : ℕ). MaskRowNeeds (now (s .args .mask)) n (l .x * s .args .rows + s .args .ys .to) × Room (planeCount (now (s .args .mask)) (s .args .rows) n (s .args .ys) (l .x)) (l .counts))
     (sym (l .inv .kept))
     (plane-reaches (s .pre .0) (l .x) (s .args .ys .to) (search needs) (s .pre .2), adding-room (l .inv) (search needs) (s .pre .3))
 
