@@ -14,7 +14,7 @@ ghost use Rattle.gradient_spec.specs.Gradient.{prewittWeights, sobelWeights, gr
 ghost use Rattle.gradient_spec.specs.Judge.{gradientJudged};
 ghost use Rattle.uniform_spec.specs.Uniform.{uniform as uniformOf};
 ghost use Rattle.uniform_spec.specs.Judge.{uniformJudged};
-ghost use Rattle.min_max.specs.Filters.{filterAnswer};
+ghost use Rattle.min_max_spec.specs.Filters.{filterAnswer};
 ghost use Rattle.codes.specs.Codes.{modeOf, unknownBorder, coded};
 
 // The sums of each window times the weights of a grid kernel; the call `correlate`.

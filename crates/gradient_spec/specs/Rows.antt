@@ -13,6 +13,7 @@ use Rattle.numbers.specs.Refusal.{refusalOf}
 use Rattle.numbers.specs.Rows.{minus, wholes}
 use Rattle.border.specs.Border.{Border, constant, along}
 use Rattle.border.specs.declared.CellBorder.the-variants.{Mirror, Nearest, Reflect, Wrap}
+use Rattle.correlate_spec.specs.Rows.{boxShape, boxLevels}
 use Rattle.gradient_spec.specs.Gradient.{difference, prewittWeights, sobelWeights, gradientTo, gradient}
 use Rattle.gradient_spec.specs.Judge.{passesJudged, badGradientSums, gradientJudged, ThreeSmall}
 
@@ -47,6 +48,18 @@ pub record GradientSpecRows : Type 0 where
   pub prewitt-first : box prewittWeights (constant (pos 1)) 0 ≡ wholes (10 ∷ 10 ∷ 4 ∷ 4 ∷ [])
   pub sobel-middle : box sobelWeights (constant (pos 1)) 1 ≡ wholes (4 ∷ 4 ∷ 4 ∷ 4 ∷ [])
   pub sobel-third : box sobelWeights (constant (pos 0)) 2 ≡ pos 16 ∷ minus 10 ∷ pos 20 ∷ minus 14 ∷ []
+  -- three axes, as SciPy answers: the box of 2 by 3 by 2 levels along each axis under Nearest
+  pub sobel-box : map (λ a. gradient sobelWeights (along Nearest) boxShape a boxLevels) (0 ∷ 1 ∷ 2 ∷ [])
+      ≡ (pos 11 ∷ pos 49 ∷ pos 11 ∷ pos 25 ∷ pos 2 ∷ minus 2 ∷ pos 11 ∷ pos 49 ∷ pos 11 ∷ pos 25 ∷ pos 2 ∷ minus 2 ∷ [])
+      ∷ (pos 15 ∷ minus 3 ∷ pos 53 ∷ pos 87 ∷ pos 38 ∷ pos 90 ∷ pos 21 ∷ minus 17 ∷ pos 47 ∷ pos 53 ∷ pos 26
+      ∷ pos 70 ∷ [])
+      ∷ (minus 17 ∷ minus 17 ∷ minus 9 ∷ minus 9 ∷ pos 34 ∷ pos 34 ∷ pos 21 ∷ pos 21 ∷ pos 5 ∷ pos 5 ∷ pos 30
+      ∷ pos 30 ∷ []) ∷ []
+  pub prewitt-box : map (λ a. gradient prewittWeights (along Nearest) boxShape a boxLevels) (0 ∷ 1 ∷ 2 ∷ [])
+      ≡ (pos 10 ∷ pos 23 ∷ pos 6 ∷ pos 12 ∷ pos 2 ∷ pos 1 ∷ pos 10 ∷ pos 23 ∷ pos 6 ∷ pos 12 ∷ pos 2 ∷ pos 1 ∷ [])
+      ∷ (pos 7 ∷ minus 1 ∷ pos 32 ∷ pos 43 ∷ pos 25 ∷ pos 44 ∷ pos 8 ∷ minus 5 ∷ pos 28 ∷ pos 32 ∷ pos 20 ∷ pos 37 ∷ [])
+      ∷ (minus 8 ∷ minus 8 ∷ pos 3 ∷ pos 3 ∷ pos 14 ∷ pos 14 ∷ pos 5 ∷ pos 5 ∷ pos 9 ∷ pos 9 ∷ pos 13
+      ∷ pos 13 ∷ []) ∷ []
   -- one axis has nothing to smooth
   pub one-axis : gradient sobelWeights (along Nearest) (3 ∷ []) 0 (wholes (1 ∷ 2 ∷ 4 ∷ []))
       ∷ gradient prewittWeights (along Mirror) (3 ∷ []) 0 (wholes (1 ∷ 2 ∷ 4 ∷ [])) ∷ []

@@ -2,5 +2,3 @@
 pub mod EveryAxis
 pub mod ByLanes
 pub mod OnePass
-pub mod EveryAxisRows
-pub mod OneAxisRows

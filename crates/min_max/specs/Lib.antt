@@ -1,6 +1,3 @@
--- The grid forms of the minimum and maximum filters.
-pub mod Filters
-pub mod EveryAxisRows
+-- One lane of the minimum and maximum filters.
 pub mod Lane
-pub mod OneAxisRows
 pub mod Rows

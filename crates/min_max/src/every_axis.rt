@@ -8,7 +8,7 @@ ghost use Rattle.numbers.specs.Order.{atLeast};
 ghost use Rattle.numbers.specs.Refusal.{refusalOf, ScratchAnswers};
 ghost use Rattle.min_max_judge.specs.Judge.{callOf, filterJudged};
 ghost use Rattle.min_max.specs.Lane.{orderOf};
-ghost use Rattle.min_max.specs.Filters.{filterAnswer};
+ghost use Rattle.min_max_spec.specs.Filters.{filterAnswer};
 use crate::extreme::Extreme;
 use border::BorderMode;
 

@@ -12,7 +12,7 @@ pub use every_axis::minimum_filter;
 pub use one_axis::maximum_filter1d;
 pub use one_axis::minimum_filter1d;
 
-// Worked rows of this crate's definitions: along one axis, along every axis.
+// Worked rows of this crate's definitions.
 pub fn rows()
     ensures { λ _. ⌜ MinMaxRows ⌝ }
 {}

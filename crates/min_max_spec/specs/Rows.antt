@@ -11,6 +11,7 @@ use Rattle.border.specs.Border.{Border, constant, along, extendedGrid}
 use Rattle.border.specs.declared.CellBorder.the-variants.{Nearest, Mirror, Reflect, Wrap}
 use Rattle.min_max_spec.specs.Call.{Call, firstIn, lastIn}
 use Rattle.min_max_spec.specs.Run.{run, numbers}
+use Rattle.min_max_spec.specs.Filters.{filterAnswer}
 use Rattle.min_max_spec.specs.Order.{cellAt, Sweeps, InBox, Extremum}
 
 abbrev pub call : List ℕ → ℕ → ℕ → Border ℤ → ℤ → List ℤ → Call
@@ -111,6 +112,15 @@ pub record MinMaxSpecRows : Type 0 where
       ≡ pos 1 ∷ pos 1 ∷ pos 4 ∷ pos 4 ∷ pos 1 ∷ pos 1 ∷ negsuc 6 ∷ negsuc 6 ∷ []
   pub cube-other : run leZ cube (onCube 2 2 (negsuc 0) ∷ onCube 1 1 (pos 99) ∷ onCube 0 2 (pos 0) ∷ [])
       ≡ pos 1 ∷ pos 1 ∷ pos 4 ∷ pos 4 ∷ pos 1 ∷ pos 1 ∷ negsuc 6 ∷ negsuc 6 ∷ []
+  -- the grid forms, minimum and maximum: T5; the cube with length 2 under Nearest, as SciPy answers; 2 by 2 by 1 cells,
+  -- whose third axis reads the constant 2
+  pub t5-grid : filterAnswer leZ up rows ∷ filterAnswer atLeast up rows ∷ []
+      ≡ t5 ∷ (pos 5 ∷ pos 5 ∷ pos 5 ∷ pos 9 ∷ []) ∷ []
+  pub cube-grid : filterAnswer leZ (onCube 0 2 (pos 0)) cube ∷ filterAnswer atLeast (onCube 0 2 (pos 0)) cube ∷ []
+      ≡ (pos 8 ∷ pos 1 ∷ pos 6 ∷ pos 1 ∷ pos 5 ∷ pos 1 ∷ pos 2 ∷ negsuc 6 ∷ [])
+      ∷ (pos 8 ∷ pos 8 ∷ pos 8 ∷ pos 8 ∷ pos 8 ∷ pos 9 ∷ pos 8 ∷ pos 9 ∷ []) ∷ []
+  pub third-axis : filterAnswer leZ (call (2 ∷ 2 ∷ 1 ∷ []) 2 0 (constant (pos 2)) (pos 0) rows) rows
+      ≡ pos 2 ∷ pos 2 ∷ pos 2 ∷ pos 2 ∷ []
   -- the rule on the order of axes speaks of T5, also with refused calls in the list, and of three axes
   pub speaks-of-t5 : Sweeps leZ square (constant (pos 0)) rows (up ∷ across ∷ [])
   -- and says what T5's last cell is: the least level of the box of its four neighbours 5 3 / 4 9 is 3

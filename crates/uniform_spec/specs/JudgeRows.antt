@@ -13,6 +13,7 @@ use Rattle.numbers.specs.Refusal.{refusalOf}
 use Rattle.numbers.specs.Rows.{minus, wholes}
 use Rattle.border.specs.Border.{Border, constant, along}
 use Rattle.border.specs.declared.CellBorder.the-variants.{Nearest, Mirror, Reflect, Wrap}
+use Rattle.correlate_spec.specs.Rows.{boxShape, boxLevels}
 use Rattle.uniform_spec.specs.Uniform.{windowSums, uniform1d, uniform}
 use Rattle.uniform_spec.specs.Judge.{badGridReach, badUniformSums, badUniformSumsFrom, uniform1dJudged, uniformJudged}
 
@@ -44,6 +45,13 @@ pub record JudgeRows : Type 0 where
   pub down : uniform1d (along Nearest) 2 (2 ∷ 2 ∷ []) 0 square ≡ pos 1 ∷ pos 2 ∷ pos 2 ∷ minus 2 ∷ []
   pub across : uniform1d (along Nearest) 2 (2 ∷ 2 ∷ []) 1 square ≡ pos 1 ∷ pos 1 ∷ pos 3 ∷ minus 1 ∷ []
   pub both : uniform (along Nearest) 2 (2 ∷ 2 ∷ []) square ≡ pos 1 ∷ pos 1 ∷ pos 2 ∷ pos 0 ∷ []
+  -- three axes, as SciPy answers: along each axis of the box of 2 by 3 by 2 levels with size 3, and the grid form
+  pub box : map (λ a. uniform1d (along Nearest) 3 boxShape a boxLevels) (0 ∷ 1 ∷ 2 ∷ [])
+      ≡ wholes (2 ∷ 2 ∷ 4 ∷ 1 ∷ 5 ∷ 8 ∷ 2 ∷ 4 ∷ 4 ∷ 2 ∷ 5 ∷ 8 ∷ [])
+      ∷ wholes (3 ∷ 1 ∷ 4 ∷ 3 ∷ 4 ∷ 6 ∷ 3 ∷ 5 ∷ 4 ∷ 5 ∷ 5 ∷ 6 ∷ [])
+      ∷ wholes (2 ∷ 1 ∷ 3 ∷ 2 ∷ 6 ∷ 7 ∷ 3 ∷ 4 ∷ 4 ∷ 3 ∷ 6 ∷ 7 ∷ []) ∷ []
+  pub box-grid : uniform (along Nearest) 3 boxShape boxLevels
+      ≡ wholes (1 ∷ 1 ∷ 3 ∷ 3 ∷ 4 ∷ 4 ∷ 2 ∷ 2 ∷ 3 ∷ 3 ∷ 4 ∷ 5 ∷ [])
   -- the caller's constant stands beside every pass: one cell 9 of the shape 1 1, size 3 under Constant 0: 9 over 3, and
   -- 3 over 3
   pub twice : uniform (constant (pos 0)) 3 (1 ∷ 1 ∷ []) (pos 9 ∷ []) ≡ pos 1 ∷ []

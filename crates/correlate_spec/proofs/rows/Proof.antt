@@ -27,6 +27,10 @@ returns c = record {
   t3 = refl;
   moved = refl;
   one-weight = refl;
+  box-correlated = refl;
+  box-convolved = refl;
+  odds-correlated = refl;
+  odds-convolved = refl;
   float = refl;
   near = refl;
   from-zero = refl;
@@ -38,6 +42,7 @@ returns c = record {
   t8 = refl;
   no-left = refl;
   three-axes = refl;
+  box-kernels = refl;
   one-cell = refl;
 }
 

@@ -16,6 +16,7 @@ use Rattle.border.specs.Border.{constant, cellFor, extendedLane}
 use Rattle.window.specs.Origin.{badOrigin}
 use Rattle.min_max_spec.specs.Call.{firstIn, lastIn, numberOf, gridNumber}
 use Rattle.min_max_spec.specs.Run.{answerOf, after, run, numbers, accepted}
+use Rattle.min_max_spec.specs.Filters.{filterAnswer}
 use Rattle.min_max_spec.specs.Order.{timesSwept, Sweeps}
 use Rattle.min_max_spec.specs.Rows.{rows, square, up, across, mixed, cube, onCube}
 use Rattle.min_max_spec.proofs.Perms.{order-for}
@@ -43,7 +44,7 @@ t5-sweeps = record {
 }
 
 returns : tie.Need-returns
-unfolding tabulate badShape gridCount badLevel placeOf coordinate cellFor extendedLane badOrigin firstIn lastIn numberOf gridNumber answerOf after run numbers accepted
+unfolding tabulate badShape gridCount badLevel placeOf coordinate cellFor extendedLane badOrigin firstIn lastIn numberOf gridNumber answerOf after run numbers accepted filterAnswer
 returns c = record {
   t5-up-across = refl;
   t5-across-up = refl;
@@ -62,6 +63,9 @@ returns c = record {
   origins = refl;
   cube-one = refl;
   cube-other = refl;
+  t5-grid = refl;
+  cube-grid = refl;
+  third-axis = refl;
   speaks-of-t5 = t5-sweeps;
   box-of-t5 = order-for leZ total-≤ .box square (constant (pos 0)) rows (up ∷ across ∷ []) t5-sweeps 3 (omega arith);
   speaks-of-mixed = record { grid = refl; named = (refl, (refl, tt)); shared = (refl, (refl, tt)); once = below-two (λ a. timesSwept a (accepted leZ rows mixed) ≡ 1) refl refl };
