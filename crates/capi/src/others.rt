@@ -3,7 +3,7 @@ ghost use mathlib.Core.Path.{_≡_};
 ghost use lib.ListN.{length};
 ghost use Rattle.numbers.specs.Refusal.{Answers};
 ghost use Rattle.median_spec.specs.Around.{medianAnswer};
-ghost use Rattle.median.specs.Judge.{medianJudged};
+ghost use Rattle.median_spec.specs.Judge.{medianJudged};
 ghost use Rattle.symmetry_spec.specs.Class.{classZ, classF};
 ghost use Rattle.codes.specs.Codes.{kernelOf, unknownKernel, coded, codeOf};
 ghost use Rattle.codes.specs.Cells.{kernelCells, cellsJudged};

@@ -25,7 +25,6 @@ fn rows() {
     uniform_spec::rows();
     uniform::rows();
     median_spec::rows();
-    median::rows();
     text_spec::rows();
     text_spec::reads_back();
     text_f64::rows();

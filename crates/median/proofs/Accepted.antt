@@ -20,7 +20,7 @@ use Rattle.array_spec.proofs.Judged.{lengths-passed}
 use Rattle.array_spec.proofs.Shapes.{Accepted, shape-accepted}
 use Rattle.median_spec.specs.Around.{medianAnswer}
 use Rattle.median_spec.specs.ByRows.{MaskNeeds}
-use Rattle.median.specs.Judge.{badSingle, medianJudged}
+use Rattle.median_spec.specs.Judge.{badSingle, medianJudged}
 
 -- ---- three axes
 three-axes : (ns : List ℕ) → length ns ≡ 3 → ns ≡ lengthOf ns 0 ∷ lengthOf ns 1 ∷ lengthOf ns 2 ∷ []

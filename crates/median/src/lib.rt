@@ -3,8 +3,7 @@ ghost use mathlib.Core.Path.{_≡_};
 ghost use lib.ListN.{length};
 ghost use Rattle.numbers.specs.Refusal.{refusalOf, Answers};
 ghost use Rattle.median_spec.specs.Around.{medianAnswer};
-ghost use Rattle.median.specs.Judge.{badAxes, badSingle, medianJudged};
-ghost use Rattle.median.specs.Rows.{MedianRows};
+ghost use Rattle.median_spec.specs.Judge.{badAxes, badSingle, medianJudged};
 
 mod row;
 mod votes;
@@ -84,8 +83,3 @@ pub fn median_filter(mask: &[bool], shape: &[usize], out: &mut [bool]) -> u8
     median_cells(mask, shape, out);
     numbers::ACCEPTED
 }
-
-// Worked rows of this crate's definitions.
-pub fn rows()
-    ensures { λ _. ⌜ MedianRows ⌝ }
-{}

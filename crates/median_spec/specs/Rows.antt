@@ -3,6 +3,7 @@
 --   at p            the coordinates in the list p
 --   cube t f        a mask of 3 by 3 by 3 cells: t true ones, then f false ones
 --   six             the mask 1 1 0 / 1 0 0 // 1 0 1 / 0 1 0, of 2 by 2 by 3 cells
+--   judgedOn ns len out   the number of a call
 --   MedianSpecRows   the rows
 use Prim.Native.Nat.{ℕ}
 use mathlib.Core.Path.{_≡_}
@@ -10,6 +11,8 @@ use mathlib.Core.Bool.{Bool, true, false}
 use mathlib.Core.List.{List, [], _∷_, map, _++_}
 use lib.Dec.{eqb}
 use lib.ListN.{getD, replicate}
+use Rattle.numbers.specs.Refusal.{refusalOf}
+use Rattle.median_spec.specs.Judge.{badAxes, badSingle, medianJudged}
 use Rattle.median_spec.specs.Around.{upTo, around, total, one, cellsAround, trueAround, medianAt, medianAnswer}
 use Rattle.median_spec.specs.ByRows.{spanOf, cellOf, planeCount, columnCount, added, votedAt, inRow, setRow}
 
@@ -24,6 +27,9 @@ cube t f = replicate t true ++ replicate f false
 
 abbrev pub six : List Bool
 six = bits (1 ∷ 1 ∷ 0 ∷ 1 ∷ 0 ∷ 0 ∷ 1 ∷ 0 ∷ 1 ∷ 0 ∷ 1 ∷ 0 ∷ [])
+
+abbrev pub judgedOn : List ℕ → ℕ → ℕ → ℕ
+judgedOn ns len out = refusalOf (medianJudged ns len out)
 
 pub record MedianSpecRows : Type 0 where
   -- the first, a middle and the last cell of an axis; the cells of an axis of two; the cell of an axis of one
@@ -54,3 +60,18 @@ pub record MedianSpecRows : Type 0 where
   pub sum : added (λ z. z) (5 ∷ 5 ∷ 5 ∷ []) ≡ 5 ∷ 6 ∷ 7 ∷ []
   pub place : map (inRow 2 3) (1 ∷ 2 ∷ 4 ∷ 5 ∷ []) ≡ false ∷ true ∷ true ∷ false ∷ []
   pub set : setRow 1 2 (λ k. true) (bits (0 ∷ 0 ∷ 0 ∷ 0 ∷ [])) ≡ bits (0 ∷ 1 ∷ 1 ∷ 0 ∷ [])
+  -- 1: no axis, two axes, four; 1,025 cells on an axis; over 8,192 cells
+  pub axes : map badAxes ([] ∷ (2 ∷ 2 ∷ []) ∷ (2 ∷ 2 ∷ 2 ∷ 2 ∷ []) ∷ (2 ∷ 2 ∷ 1025 ∷ []) ∷ (32 ∷ 32 ∷ 9 ∷ [])
+      ∷ (2 ∷ 2 ∷ 2 ∷ []) ∷ []) ≡ true ∷ true ∷ true ∷ true ∷ true ∷ false ∷ []
+  -- 4
+  pub single : map badSingle ((1 ∷ 1 ∷ 1 ∷ []) ∷ (2 ∷ 1 ∷ 2 ∷ []) ∷ (2 ∷ 2 ∷ 1 ∷ []) ∷ (2 ∷ 2 ∷ 2 ∷ []) ∷ [])
+      ≡ true ∷ true ∷ true ∷ false ∷ []
+  -- the numbers: two axes and four are 1; a mask or an output of 7 cells is 2; a single cell on every axis, or on one,
+  -- is 4
+  pub two-axes : judgedOn (2 ∷ 4 ∷ []) 8 8 ≡ 1
+  pub four-axes : judgedOn (2 ∷ 2 ∷ 2 ∷ 2 ∷ []) 16 16 ≡ 1
+  pub lengths : judgedOn (2 ∷ 2 ∷ 2 ∷ []) 7 8 ∷ judgedOn (2 ∷ 2 ∷ 2 ∷ []) 8 7 ∷ [] ≡ 2 ∷ 2 ∷ []
+  pub one-cell : judgedOn (1 ∷ 1 ∷ 1 ∷ []) 1 1 ∷ judgedOn (2 ∷ 1 ∷ 2 ∷ []) 4 4 ∷ [] ≡ 4 ∷ 4 ∷ []
+  -- the lowest of several: 1 before 2 and 4, 2 before 4
+  pub order : judgedOn (1 ∷ 2 ∷ []) 3 3 ∷ judgedOn (2 ∷ 1 ∷ 2 ∷ []) 5 4 ∷ [] ≡ 1 ∷ 2 ∷ []
+  pub accepted : judgedOn (2 ∷ 2 ∷ 2 ∷ []) 8 8 ≡ 0

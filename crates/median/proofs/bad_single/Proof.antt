@@ -7,7 +7,7 @@ use denote.Ref.{now}
 use lib.Dec.{eqb}
 use lib.ListN.{length, drop}
 use Rattle.numbers.proofs.Any.{any-hit, any-miss, any-end}
-use Rattle.median.specs.Judge.{badSingle}
+use Rattle.median_spec.specs.Judge.{badSingle}
 use borrow.Author.Needs.{needs}
 use Rattle.median.proofs.bad_single.Statement.{statement}
 use Rattle.median.proofs.bad_single.Tie as tie

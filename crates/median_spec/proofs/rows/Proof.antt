@@ -2,13 +2,14 @@
 -- Assumes nothing.
 use mathlib.Core.Path.{refl}
 use Rattle.numbers.specs.Lists.{tabulate}
+use Rattle.array_spec.specs.Conditions.{badShape, gridCount}
 use Rattle.array_spec.specs.Grid.{placeOf, coordinate}
 use Rattle.median_spec.specs.Around.{cellsAround, trueAround, medianAnswer}
 use Rattle.median_spec.proofs.rows.Statement.{statement}
 use Rattle.median_spec.proofs.rows.Tie as tie
 
 returns : tie.Need-returns
-unfolding tabulate placeOf coordinate cellsAround trueAround medianAnswer
+unfolding badShape gridCount tabulate placeOf coordinate cellsAround trueAround medianAnswer
 returns c = record {
   neighbours = refl;
   sums = refl;
@@ -27,6 +28,14 @@ returns c = record {
   sum = refl;
   place = refl;
   set = refl;
+  axes = refl;
+  single = refl;
+  two-axes = refl;
+  four-axes = refl;
+  lengths = refl;
+  one-cell = refl;
+  order = refl;
+  accepted = refl;
 }
 
 pub rows-spec : {M : Type 1} → statement M

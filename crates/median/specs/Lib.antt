@@ -1,3 +1,0 @@
--- The judge of the median.
-pub mod Judge
-pub mod Rows
