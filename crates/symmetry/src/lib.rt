@@ -69,10 +69,10 @@ fn check_pairs_f64(weights: &[f64], turned: bool, state: SymmetryState) -> Symme
     requires { ⌜ length (now weights) % 2 ≡ 1 ⌝ }
     ensures { λ r. ⌜ r ≡ cond (pairDiffers (differF turned) nan (now (weights .entry))) NonSymmetric state ⌝ }
 {
-    let half = weights.len() / 2;
+    let middle = weights.len() / 2;
     let mut found = state;
-    for i in 1..=half {
-        if differ_f64(weights[half + i], weights[half - i], turned) {
+    for i in 1..=middle {
+        if differ_f64(weights[middle + i], weights[middle - i], turned) {
             found = SymmetryState::NonSymmetric;
             break;
         }
