@@ -9,8 +9,10 @@ mod one_axis;
 
 pub use every_axis::maximum_filter;
 pub use every_axis::minimum_filter;
+pub use extreme::Extreme;
 pub use one_axis::maximum_filter1d;
 pub use one_axis::minimum_filter1d;
+pub use one_axis::pass;
 
 // Worked rows of this crate's definitions.
 pub fn rows()

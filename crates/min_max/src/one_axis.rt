@@ -12,13 +12,14 @@ use crate::extreme::Extreme;
 use border::BorderMode;
 use window::Origin;
 
-// Fills out with the answer of an accepted one-axis call; the grid forms make one pass for each axis.
+// Fills out with the answer of an accepted one-axis call; the grid forms make one pass for each axis, and a recipe one
+// for each step.
 //
 // * `extreme` - which level of a window is kept.
 // * `data`, `shape`, `size`, `axis`, `mode`, `origin`, `out` - as in `minimum_filter1d`.
 //
 // Supposes the number 0. 4 2 7 1 with Least and size 3 along axis 0 under Reflect and origin 0 gives 2 2 1 1.
-pub(crate) fn pass(
+pub fn pass(
     extreme: Extreme,
     data: &[i64],
     shape: &[usize],

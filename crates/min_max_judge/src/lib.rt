@@ -24,8 +24,20 @@ fn judge_size(size: usize, origin: isize) -> u8
     numbers::ACCEPTED
 }
 
-// Conditions 5, 7, 8, 9 and 11 of a window along one axis.
-fn judge_window(shape: &[usize], size: usize, axis: usize, mode: BorderMode, origin: isize) -> u8
+// Conditions 5, 7, 8, 9 and 11 of a window along one axis, in rising order: the number of the first that holds, or 0.
+//
+// * `shape` - the length of each axis.
+// * `size`, `axis`, `mode`, `origin` - as in `judge_call`.
+//
+// Refuses: 5 (kernel), 7 (origin), 8 (axis), 9 (constant), 11 (reach). Of 3 cells size 7 under Mirror and origin 0 gives
+// 11.
+pub fn judge_window(
+    shape: &[usize],
+    size: usize,
+    axis: usize,
+    mode: BorderMode,
+    origin: isize,
+) -> u8
     ensures { λ r. ⌜ r ≡ refusalOf (windowJudged (callOf (now (shape .entry)) size axis mode origin [])) ⌝ }
 {
     let refusal = judge_size(size, origin);

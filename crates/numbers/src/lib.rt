@@ -1,4 +1,4 @@
-// The refusal numbers and the limits of document 01 by name, and the size of a whole number. All else of this crate is
+// The refusal numbers and the limits of the papers by name, and the size of a whole number. All else of this crate is
 // definitions (specs/) and laws (proofs/).
 ghost use mathlib.Core.Path.{_≡_};
 ghost use lib.IntN.{natAbs};
@@ -38,6 +38,14 @@ pub const REACH: u8 = 11;
 // Caused by the arithmetic.
 // A whole-number sum outside signed 64 bits.
 pub const SUM: u8 = 12;
+
+// Caused by the file of a recipe.
+// Under 6 bytes, or another mark or version.
+pub const MARK: u8 = 13;
+// A count outside 1..16, or bytes of another length than the count asks for.
+pub const COUNT: u8 = 14;
+// A kind, border, constant or origin that no step has.
+pub const STEP: u8 = 15;
 
 // The limits of document 01.
 // Cells on an axis, and of a grid.

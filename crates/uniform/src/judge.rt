@@ -44,8 +44,13 @@ fn bad_grid(mode: BorderMode, shape: &[usize], size: usize) -> bool
     false
 }
 
-// Conditions 5, 8, 9 and 11 of a window along one axis.
-fn judge_along(shape: &[usize], size: usize, axis: usize, mode: BorderMode) -> u8
+// Conditions 5, 8, 9 and 11 of a window along one axis, in rising order: the number of the first that holds, or 0.
+//
+// * `shape` - the length of each axis.
+// * `size`, `axis`, `mode` - as in `uniform_filter1d`.
+//
+// Refuses: 5 (kernel), 8 (axis), 9 (constant), 11 (reach). Of 3 cells size 7 under Mirror gives 11.
+pub fn judge_along(shape: &[usize], size: usize, axis: usize, mode: BorderMode) -> u8
     ensures { λ r. ⌜ r ≡ refusalOf (uniformAlongJudged (borderOf mode) size (now (shape .entry)) axis) ⌝ }
 {
     if window::bad_size(size) {

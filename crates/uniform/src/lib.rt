@@ -15,11 +15,23 @@ use border::BorderMode;
 mod judge;
 mod lane_loop;
 
+pub use judge::judge_along;
 pub use judge::judge_uniform;
 pub use judge::judge_uniform1d;
 
-// Fills out with the means along the axis.
-fn pass(data: &[i64], shape: &[usize], size: usize, axis: usize, mode: BorderMode, out: &mut [i64])
+// Fills out with the means along the axis; `uniform_filter` makes one pass for each axis, and a recipe one for a step.
+//
+// * `data`, `shape`, `size`, `axis`, `mode`, `out` - as in `uniform_filter1d`.
+//
+// Supposes an accepted grid, size, axis and border. -1 -2 -4 with size 3 along axis 0 under Constant 0 gives -1 -2 -2.
+pub fn pass(
+    data: &[i64],
+    shape: &[usize],
+    size: usize,
+    axis: usize,
+    mode: BorderMode,
+    out: &mut [i64],
+)
     requires { ⌜ PassNeeds (borderOf mode) size (now shape) axis (now «data») (now out) ⌝ }
     ensures { λ _. ⌜ now (out .exit) ≡ uniform1d (borderOf mode) size (now (shape .entry)) axis
         (now («data» .entry)) ⌝ }

@@ -1,0 +1,107 @@
+// The numeric examples of recipe files, run and printed; `stdout` beside src/ has what they must be. The theorems about
+// recipes are called here, so that none can be dropped unnoticed.
+use recipe_spec::Step;
+
+// The minimum along axis 0 of windows of 2 cells under nearest.
+const LEAST: Step = Step {
+    kind: 0,
+    axis: 0,
+    length: 2,
+    origin: 0,
+    border: 2,
+    constant: 0,
+};
+
+// What is true of every file and of every list of steps.
+fn theorems() {
+    recipe_spec::rows();
+    recipe_spec::round_trips();
+    recipe_spec::judged_before();
+}
+
+// The length of a step's windows.
+fn length_of(s: Step) -> usize {
+    s.length as usize
+}
+
+// The count and the first length of document 02's example, and the number of a file without its last byte.
+fn reads() {
+    let recipe = recipe_file::read_recipe(&[76, 75, 83, 0, 1, 1, 0, 0, 2, 0, 2, 0, 0]);
+    let count = recipe.count;
+    examples_print::line(count as usize);
+    let steps = recipe.steps;
+    let first = steps[0];
+    examples_print::line(length_of(first));
+    let short = recipe_file::read_recipe(&[76, 75, 83, 0, 1, 1, 0, 0, 2, 0, 2, 0]);
+    let number = short.number;
+    examples_print::line(number as usize);
+}
+
+// The example written: whether its bytes are the file's, and the number where a byte too few is lent.
+fn writes() {
+    let steps = [LEAST; 16];
+    let mut out = [9; 13];
+    let accepted = recipe_file::write_recipe(1, steps, &mut out);
+    examples_print::line(accepted as usize);
+    examples_print::test(check::same(&out, &[76, 75, 83, 0, 1, 1, 0, 0, 2, 0, 2, 0, 0]));
+    let mut short = [9; 12];
+    let refused = recipe_file::write_recipe(1, steps, &mut short);
+    examples_print::line(refused as usize);
+    examples_print::test(check::same(&short, &[9; 12]));
+}
+
+// The example played over 4 2 7, and a file whose second step is refused: out and the second grid stay.
+fn plays() {
+    let mut out = [5; 3];
+    let mut second = [6; 3];
+    let accepted = recipe_play::play(
+        &[76, 75, 83, 0, 1, 1, 0, 0, 2, 0, 2, 0, 0],
+        &[4, 2, 7],
+        &[3],
+        &mut out,
+        &mut second,
+    );
+    examples_print::line(accepted as usize);
+    examples_print::levels(&out);
+    examples_print::levels(&second);
+    let mut kept = [5; 3];
+    let mut beside = [6; 3];
+    let refused = recipe_play::play(
+        &[
+            76,
+            75,
+            83,
+            0,
+            1,
+            2,
+            0,
+            0,
+            2,
+            0,
+            2,
+            0,
+            0,
+            0,
+            1,
+            2,
+            0,
+            2,
+            0,
+            0,
+        ],
+        &[4, 2, 7],
+        &[3],
+        &mut kept,
+        &mut beside,
+    );
+    examples_print::line(refused as usize);
+    examples_print::levels(&kept);
+    examples_print::levels(&beside);
+}
+
+fn main() {
+    theorems();
+    reads();
+    writes();
+    plays();
+}

@@ -1,0 +1,2 @@
+-- Laws of signed numbers in bytes.
+pub mod Complements

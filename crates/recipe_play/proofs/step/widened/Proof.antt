@@ -1,0 +1,18 @@
+-- `widened` meets its contract: what fits 16 bits fits 64.
+-- Assumes nothing.
+use mathlib.Core.Path.{_≡_}
+use borrow.Author.Needs.{needs}
+use mir.Syntax.{w16, w64}
+use mir.Val.{SFits, toZ, ofZ}
+use mir.Facts.{sfits-widen, toZ-ofZ}
+use Rattle.recipe_play.proofs.step.widened.Statement.{statement}
+use Rattle.recipe_play.proofs.step.widened.Tie as tie
+
+cast-result : tie.Need-cast-result
+cast-result c = let f : SFits w16 (c .args .z) = search needs in rw (toZ-ofZ f) (sfits-widen {w = w16} tt f)
+
+returns : tie.Need-returns
+returns c = let f : SFits w16 (c .args .z) = search needs in rw (toZ-ofZ f) (toZ-ofZ (sfits-widen {w = w16} {w′ = w64} tt f))
+
+pub widened-spec : {M : Type 1} → statement M
+widened-spec = tie.close (tie.spec cast-result returns)
