@@ -1,5 +1,5 @@
-// The numeric examples of recipe files, run and printed; `stdout` beside src/ has what they must be. The theorems about
-// recipes are called here, so that none can be dropped unnoticed.
+// The numeric examples of recipe files and of the text of a grid, run and printed; `stdout` beside src/ has what they
+// must be. The theorems about both are called here, so that none can be dropped unnoticed.
 use recipe_spec::Step;
 
 // The minimum along axis 0 of windows of 2 cells under nearest.
@@ -12,11 +12,13 @@ const LEAST: Step = Step {
     constant: 0,
 };
 
-// What is true of every file and of every list of steps.
+// What is true of every file, of every list of steps and of every text.
 fn theorems() {
     recipe_spec::rows();
     recipe_spec::round_trips();
     recipe_spec::judged_before();
+    grid_text_spec::rows();
+    grid_text_spec::grid_texts();
 }
 
 // The length of a step's windows.
@@ -99,9 +101,35 @@ fn plays() {
     examples_print::levels(&beside);
 }
 
+// The number of a text that is fed in one part.
+fn number_of(text: &[u8]) -> u8 {
+    let mut lengths = [0; 3];
+    let mut levels = [0; 1];
+    let start = grid_text::start();
+    let state = grid_text::feed(start, text, &mut lengths, &mut levels);
+    grid_text::finish(state)
+}
+
+// A text of three cells in two parts: the length and the levels that it stores, and its number; then the numbers of the
+// empty text and of the examples that are refused.
+fn texts() {
+    let mut lengths = [9; 3];
+    let mut levels = [9; 4];
+    let start = grid_text::start();
+    let half = grid_text::feed(start, b"1 3 4 -", &mut lengths, &mut levels);
+    let state = grid_text::feed(half, b"2 7\n", &mut lengths, &mut levels);
+    examples_print::line(lengths[0]);
+    examples_print::levels(&levels);
+    examples_print::line(grid_text::finish(state) as usize);
+    examples_print::line(number_of(b"") as usize);
+    examples_print::line(number_of(b"9 x") as usize);
+    examples_print::line(number_of(b"3 1024 1024") as usize);
+}
+
 fn main() {
     theorems();
     reads();
     writes();
     plays();
+    texts();
 }

@@ -3,6 +3,7 @@
 mod read;
 mod write;
 
+pub use read::digit;
 pub use read::numeral;
 pub use read::read_signed;
 pub use read::read_unsigned;

@@ -11,8 +11,8 @@ const LEAST: i64 = -9223372036854775808;
 // The size of LEAST.
 const HALF: u64 = 9223372036854775808;
 
-// The digit that a byte is, `0` to `9` and `a` to `f`, or 16 where it is none.
-fn digit(byte: u8) -> u64
+// The digit that a byte is, `0` to `9` and `a` to `f`, or 16 where it is none. 55 is 7, 97 is 10.
+pub fn digit(byte: u8) -> u64
     ensures { λ r. ⌜ r ≡ digitOf byte ⌝ }
 {
     let x = byte as u64;

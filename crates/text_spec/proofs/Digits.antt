@@ -34,7 +34,7 @@ digit-glyph d h = go (ltb d 10) refl
         )
         (omega arith)
 
-value-append : (b n : ℕ) (s t : List ℕ) → valueOf b n (s ++ t) ≡ valueOf b (valueOf b n s) t
+pub value-append : (b n : ℕ) (s t : List ℕ) → valueOf b n (s ++ t) ≡ valueOf b (valueOf b n s) t
 value-append b n [] t = refl
 value-append b n (x ∷ s) t = value-append b (n * b + digitOf x) s t
 
