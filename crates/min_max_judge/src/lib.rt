@@ -29,8 +29,8 @@ fn judge_size(size: usize, origin: isize) -> u8
 // * `shape` - the length of each axis.
 // * `size`, `axis`, `mode`, `origin` - as in `judge_call`.
 //
-// Refuses: 5 (kernel), 7 (origin), 8 (axis), 9 (constant), 11 (reach). Of 3 cells size 7 under Mirror and origin 0 gives
-// 11.
+// Refuses: 5 (kernel), 7 (origin), 8 (axis), 9 (constant), 11 (reach). Of 3 cells size 7 under Mirror and origin 0
+// gives 11.
 pub fn judge_window(
     shape: &[usize],
     size: usize,

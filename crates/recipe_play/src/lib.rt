@@ -8,8 +8,8 @@ ghost use Rattle.recipe_spec.specs.Player.{played, recipeSteps, playJudged};
 mod step;
 mod steps;
 
-// Plays the recipe of a file over a grid: its steps one after the other, each the call of its kind. All is judged before
-// a cell changes.
+// Plays the recipe of a file over a grid: its steps one after the other, each the call of its kind. All is judged
+// before a cell changes.
 //
 // * `file` - the bytes of the file, whatever they are.
 // * `data` - the cells of the grid, in row-major order.

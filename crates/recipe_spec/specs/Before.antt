@@ -21,7 +21,8 @@ use Rattle.recipe_spec.specs.Player.{isMean, stepMode, stepCall, stepJud
 
 abbrev pub windowOfStep : List ℕ → Step → Judged
 windowOfStep ns s =
-    cond (isMean s) (uniformAlongJudged (borderOf (stepMode s)) (s .length) ns (s .axis)) (windowJudged (stepCall ns s []))
+    cond (isMean s) (uniformAlongJudged (borderOf (stepMode s)) (s .length) ns (s .axis))
+    (windowJudged (stepCall ns s []))
 
 unfoldable pub windowsJudged : List ℕ → List Step → Judged
 windowsJudged ns [] = []

@@ -30,7 +30,8 @@ pub record FileRows : Type 0 where
   pub example-read : readOf (mark (1 ∷ 0 ∷ 0 ∷ 2 ∷ 0 ∷ 2 ∷ 0 ∷ 0 ∷ [])) ≡ record {
     number = 0;
     count = 1;
-    steps = record { kind = 0; axis = 0; length = 2; origin = pos 0; border = 2; constant = pos 0 } ∷ replicate 15 noStep;
+    steps = record { kind = 0; axis = 0; length = 2; origin = pos 0; border = 2; constant = pos 0 }
+        ∷ replicate 15 noStep;
   }
   -- −1 in a byte and −2 in two; −128, 127, −32,768 and 32,767
   pub signed : stepBytes (step 1 0 (minus 1) (minus 2)) ≡ 1 ∷ 7 ∷ 9 ∷ 255 ∷ 0 ∷ 255 ∷ 254 ∷ []
@@ -48,7 +49,8 @@ pub record FileRows : Type 0 where
   pub counts : map fileNumber (mark (0 ∷ []) ∷ mark (17 ∷ replicate 119 0) ∷ []) ≡ 14 ∷ 14 ∷ []
   pub lengths : map (λ n. fileNumber (mark (1 ∷ replicate n 0))) (6 ∷ 7 ∷ 8 ∷ []) ≡ 14 ∷ 0 ∷ 14 ∷ []
   pub longest : map (λ n. fileNumber (mark (16 ∷ replicate n 0))) (111 ∷ 112 ∷ 113 ∷ []) ≡ 14 ∷ 0 ∷ 14 ∷ []
-  -- 15: kinds 2 and 3, borders 4 and 5, a constant under Mirror and under Constant, an origin of a mean and of a maximum
+  -- 15: kinds 2 and 3, borders 4 and 5, a constant under Mirror and under Constant, an origin of a mean and of a
+  -- maximum
   pub kinds : map (λ k. badStep (step k 0 (pos 0) (pos 0))) (2 ∷ 3 ∷ 255 ∷ []) ≡ false ∷ true ∷ true ∷ []
   pub borders : map (λ b. badStep (step 0 b (pos 0) (pos 0))) (4 ∷ 5 ∷ 255 ∷ []) ≡ false ∷ true ∷ true ∷ []
   pub constants : map (λ b. badStep (step 0 b (pos 0) (minus 1))) (0 ∷ 1 ∷ 4 ∷ []) ≡ false ∷ true ∷ true ∷ []

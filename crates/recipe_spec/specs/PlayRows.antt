@@ -51,9 +51,11 @@ pub record PlayRows : Type 0 where
       ≡ 5 ∷ 8 ∷ 11 ∷ 0 ∷ []
   pub one-cell : refusalOf (playJudged (file (plain 2 0 5 2 ∷ [])) (1 ∷ []) (pos 9 ∷ []) 1 1) ≡ 0
   -- 13 to 15 come first, then 1, 2 (input, output, second grid) and 3, then the steps
-  pub file-first : refusalOf (playJudged [] [] [] 0 0) ∷ refusalOf (playJudged (file (plain 3 9 0 9 ∷ [])) [] [] 0 0) ∷ []
+  pub file-first : refusalOf (playJudged [] [] [] 0 0)
+      ∷ refusalOf (playJudged (file (plain 3 9 0 9 ∷ [])) [] [] 0 0) ∷ []
       ≡ 13 ∷ 15 ∷ []
-  pub grid-next : map (λ ns. refusalOf (playJudged (file (plain 0 9 0 1 ∷ [])) ns cells 3 3)) ([] ∷ (4 ∷ []) ∷ (3 ∷ []) ∷ [])
+  pub grid-next : map (λ ns. refusalOf (playJudged (file (plain 0 9 0 1 ∷ [])) ns cells 3 3))
+      ([] ∷ (4 ∷ []) ∷ (3 ∷ []) ∷ [])
       ≡ 1 ∷ 2 ∷ 5 ∷ []
   pub lent-next : refusalOf (playJudged (file (plain 0 9 0 1 ∷ [])) (3 ∷ []) cells 2 3)
       ∷ refusalOf (playJudged (file (plain 0 9 0 1 ∷ [])) (3 ∷ []) cells 3 4)

@@ -58,7 +58,8 @@ step-pass-requires-3 c κs =
     let g : gridNumber (a .shape .now) (a .«data» .now) ≡ 0 = search needs in
     let w : refusalOf (windowsJudged (a .shape .now) (take (a .n) (a .t2))) ≡ 0 = search needs in
     let more : 1 < a .n = omega (arith, c .before .before .before .before .before .before .if1 .left) in
-    let e = next-played (a .shape .now) (a .t2) (a .n) (a .«data» .now) few 0 (omega arith) (after-none (a .shape .now) (a .t2) (a .n) (a .«data» .now) few) (c .before .before .before .before .step-pass2 .ensures) in
+    let e = next-played (a .shape .now) (a .t2) (a .n) (a .«data» .now) few 0 (omega arith) (after-none (a .shape .now) (a .t2) (a .n) (a .«data» .now) few)
+    (c .before .before .before .before .step-pass2 .ensures) in
     (next-accepted (a .shape .now) (a .t2) (a .n) (a .«data» .now) few g w 1 more e, omega (arith, ap length e, length-after (a .shape .now) (a .t2) (a .n) (a .«data» .now) few 1))
 
 same-length-2 : tie.Need-same-length-2
@@ -73,7 +74,8 @@ returns-2 c =
     let a = s .args in
     let few : a .n ≤ length (a .t2) = omega (arith, s .good .1 .0 .1 .0 .1) in
     let more : 1 < a .n = omega (arith, c .before .before .before .before .before .before .before .before .if1 .left) in
-    let e = next-played (a .shape .now) (a .t2) (a .n) (a .«data» .now) few 0 (omega arith) (after-none (a .shape .now) (a .t2) (a .n) (a .«data» .now) few) (c .before .before .before .before .before .before .step-pass2 .ensures) in (
+    let e = next-played (a .shape .now) (a .t2) (a .n) (a .«data» .now) few 0 (omega arith) (after-none (a .shape .now) (a .t2) (a .n) (a .«data» .now) few)
+    (c .before .before .before .before .before .before .step-pass2 .ensures) in (
       omega arith,
       omega (arith, c .before .before .before .before .before .before .before .before .if1 .left),
       ap length e ∙ length-after (a .shape .now) (a .t2) (a .n) (a .«data» .now) few 1,

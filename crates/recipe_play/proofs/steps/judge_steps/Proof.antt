@@ -63,7 +63,12 @@ returns-2 : tie.Need-returns-2 Inv-loop μ-loop
 unfolding windowsJudged
 returns-2 c =
     let a = c .before .before .before .args in
-    sym (c .before .loop .inv .1 ∙ ap (λ l. refusalOf (windowsJudged (a .shape .now) l)) (drop-of-length-le (take (a .count) (a .t2)) {i = c .before .loop .k} (omega (arith, length-take (a .count) (a .t2), c .loop-test .left))))
+    sym (c .before .loop .inv .1 ∙ ap (λ l. refusalOf (windowsJudged (a .shape .now) l)) (drop-of-length-le (take (a .count) (a .t2)) {i = c .before .loop .k} (omega (
+      arith,
+      length-take
+          (a .count) (a .t2),
+      c .loop-test .left,
+    ))))
 
 pub judge-steps-spec : {M : Type 1} → statement M
 judge-steps-spec =

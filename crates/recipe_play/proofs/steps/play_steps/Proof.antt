@@ -46,8 +46,15 @@ step-pass-requires c κs =
     let few : a .count ≤ length (a .t2) = omega (arith, s .good .1 .0 .1 .0 .1) in
     let g : gridNumber (a .shape .now) (a .«data» .now) ≡ 0 = search needs in
     let w : refusalOf (windowsJudged (a .shape .now) (take (a .count) (a .t2))) ≡ 0 = search needs in
-    let l = c .before .before .before .before .loop in
-    (next-accepted (a .shape .now) (a .t2) (a .count) (a .«data» .now) few g w (l .k) (omega arith) (l .inv .5), omega (arith, ap length (l .inv .5), length-after (a .shape .now) (a .t2) (a .count) (a .«data» .now) few (l .k)))
+    let l = c .before .before .before .before .loop in (
+      next-accepted (a .shape .now) (a .t2) (a .count) (a .«data» .now) few g w (l .k) (omega arith) (l .inv .5),
+      omega (
+        arith,
+        ap length (l .inv .5),
+        length-after (a .shape .now) (a .t2)
+            (a .count) (a .«data» .now) few (l .k),
+      ),
+    )
 
 add-t : tie.Need-add-t Inv-loop μ-loop
 add-t c = search needs
@@ -67,8 +74,17 @@ step-pass-requires-2 c κs =
     let w : refusalOf (windowsJudged (a .shape .now) (take (a .count) (a .t2))) ≡ 0 = search needs in
     let l = c .before .before .before .before .before .before .before .before .before .loop in
     let more : l .k + 1 < a .count = omega (arith, l .inv .2) in
-    let e = next-played (a .shape .now) (a .t2) (a .count) (a .«data» .now) few (l .k) (omega arith) (l .inv .5) (c .before .before .before .before .step-pass .ensures) in
-    (next-accepted (a .shape .now) (a .t2) (a .count) (a .«data» .now) few g w (l .k + 1) more e, omega (arith, ap length e, length-after (a .shape .now) (a .t2) (a .count) (a .«data» .now) few (l .k + 1), ap length (l .inv .5), length-after (a .shape .now) (a .t2) (a .count) (a .«data» .now) few (l .k)))
+    let e = next-played (a .shape .now) (a .t2) (a .count) (a .«data» .now) few (l .k) (omega arith) (l .inv .5) (c .before .before .before .before .step-pass .ensures) in (
+      next-accepted (a .shape .now) (a .t2) (a .count) (a .«data» .now) few g w (l .k + 1) more e,
+      omega (
+        arith,
+        ap length e,
+        length-after (a .shape .now) (a .t2) (a .count)
+            (a .«data» .now) few (l .k + 1),
+        ap length (l .inv .5),
+        length-after (a .shape .now) (a .t2) (a .count) (a .«data» .now) few (l .k),
+      ),
+    )
 
 add-k : tie.Need-add-k Inv-loop μ-loop
 add-k c = search needs
@@ -85,7 +101,8 @@ loop-again c =
     let more : l .k + 1 < a .count = omega (arith, l .inv .2) in
     let e = next-played (a .shape .now) (a .t2) (a .count) (a .«data» .now) few (l .k) (omega arith) (l .inv .5) (c .before .before .before .before .before .before .step-pass .ensures) in
     let two : l .k + 1 + 1 ≡ l .k + 2 = omega arith in
-    let last = next-played (a .shape .now) (a .t2) (a .count) (a .«data» .now) few (l .k + 1) more e (c .before .step-pass2 .ensures) ∙ ap (after (a .shape .now) (a .t2) (a .count) (a .«data» .now) few) two in (
+    let last = next-played (a .shape .now) (a .t2) (a .count) (a .«data» .now) few (l .k + 1) more e (c .before .step-pass2 .ensures) ∙ ap (after (a .shape .now) (a .t2) (a .count)
+    (a .«data» .now) few) two in (
       search needs,
       omega arith,
       omega (arith, l .inv .2),
