@@ -179,7 +179,8 @@ module _ (ws : List (List ℕ)) (z : refusalOf (wordsJudged ws) ≡ 0) where
 pub text-grid : (l : List ℕ) (v : List ℤ) (t : List ℕ) → 3 ≤ length l → mostCells ≤ length v → refusalOf (textJudged t) ≡ 0
     → (fed (machine startState l v) (t ++ 10 ∷ []) .lengths ≡ textLengths (textWords t) ++ drop (axisCount (textWords t)) l)
     × (fed (machine startState l v) (t ++ 10 ∷ []) .levels ≡ textLevels (textWords t) ++ drop (cellCount (textLengths (textWords t))) v)
-text-grid l v t a b z = (ap (λ m. m .lengths) whole ∙ p, ap (λ m. m .levels) whole ∙ q)
+    × (fed (machine startState l v) (t ++ 10 ∷ []) .state .shape ≡ shapeOf (textWords t))
+text-grid l v t a b z = (ap (λ m. m .lengths) whole ∙ p, ap (λ m. m .levels) whole ∙ q, ap (λ m. m .state .shape) whole)
   where
     begun : machine startState l v ≡ holding l v a [] []
     begun = (λ i. machine (start-none i) (front (sizesHeld (sym (take-nil {A = List ℕ} (axisCount [])) i)) l) (front (levelsHeld (sym (drop-nil {A = List ℕ} (axisCount [])) i)) v))

@@ -7,3 +7,4 @@ pub mod Lexed
 pub mod Filled
 pub mod Grids
 pub mod Shaped
+pub mod Lined

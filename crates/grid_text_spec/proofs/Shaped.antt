@@ -1,6 +1,6 @@
 -- The shape of an accepted text.
 -- Assumes nothing.
-use Prim.Native.Nat.{ℕ, _≤_, _<_}
+use Prim.Native.Nat.{ℕ, _≤_, _<_, min}
 use native.Mathlib.Omega.{arith}
 use mathlib.Core.Path.{_≡_, refl, ap, _∙_}
 use mathlib.Core.Bool.{false, _||_}
@@ -17,8 +17,10 @@ use Rattle.numbers.proofs.Tests.{or-false, or-no}
 use Rattle.array_spec.specs.Conditions.{badShape}
 use Rattle.array_spec.specs.Grid.{cellCount}
 use Rattle.grid_text_spec.specs.Words.{notNumber, wordSize, badWord, wordOutside, countWord, axisCount, lengthWords, textLengths, badCellCount, wordsJudged}
+use Rattle.grid_text_spec.specs.Machine.{cellCap}
 use Rattle.grid_text_spec.proofs.Summary.{good-size}
-use Rattle.grid_text_spec.proofs.Verdict.{all-numbers}
+use Rattle.grid_text_spec.proofs.Shapes.{shapeOf}
+use Rattle.grid_text_spec.proofs.Verdict.{factors-whole, all-numbers}
 use Rattle.grid_text_spec.proofs.Grids.{sound, counted, no-more, lengths-count}
 
 inside : (lo hi n : ℕ) → lo ≤ n → n ≤ hi → outside lo hi n ≡ false
@@ -60,3 +62,12 @@ module _ (ws : List (List ℕ)) (z : refusalOf (wordsJudged ws) ≡ 0) where
       (or-no (outside 1 3 (length (textLengths ws))) (anyOf (outside 1 longestAxis) (textLengths ws))
       (ap (outside 1 3) (lengths-count ws z) ∙ inside 1 3 (axisCount ws) (a .0) (a .1)) (good-lengths (lengthWords ws) (all-numbers ws (sound ws z)) (p .1)))
       (le-ltb mostCells (cellCount (textLengths ws)) (no-more ws z))
+
+  -- the product that the machine keeps is whole
+  pub cells-whole : shapeOf ws .cells ≡ cellCount (textLengths ws)
+  cells-whole =
+      let p = or-false (wordOutside 1 3 (countWord ws)) (anyOf (wordOutside 1 longestAxis) (lengthWords ws)) (parts .0) in
+      ap (λ n. min n cellCap) (factors-whole (lengthWords ws) (all-numbers ws (sound ws z)) (p .1)) ∙ uncut (cellCount (textLengths ws)) (no-more ws z)
+    where
+      uncut : (n : ℕ) → n ≤ mostCells → min n cellCap ≡ n
+      uncut n h = omega arith

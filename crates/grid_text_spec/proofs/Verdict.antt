@@ -42,7 +42,7 @@ factors-none (w ∷ l) e = go (factors-none l) (notNumber w) refl e
     go f true p q = ap (λ n. n * factors l) (factor-none w p) ∙ zero-mul (factors l)
     go f false p q = ap (λ n. factor w * n) (f q) ∙ mul-zero (factor w)
 
-factors-whole : (l : List (List ℕ)) → anyOf notNumber l ≡ false → anyOf (wordOutside 1 longestAxis) l ≡ false → factors l ≡ cellCount (map wordSize l)
+pub factors-whole : (l : List (List ℕ)) → anyOf notNumber l ≡ false → anyOf (wordOutside 1 longestAxis) l ≡ false → factors l ≡ cellCount (map wordSize l)
 factors-whole [] e f = refl
 factors-whole (w ∷ l) e f =
     let p = or-false (notNumber w) (anyOf notNumber l) e in

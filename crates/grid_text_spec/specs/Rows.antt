@@ -13,6 +13,7 @@ use Rattle.numbers.specs.Rows.{minus}
 use Rattle.words.specs.Words.{bytesOf, wordList}
 use Rattle.grid_text_spec.specs.Words.{textWords, textLengths, textLevels, textJudged}
 use Rattle.grid_text_spec.specs.Machine.{machine, startState, fed, finishOf}
+use Rattle.grid_text_spec.specs.Lines.{levelLines, linesIn, linesCount}
 
 abbrev pub zerosBefore : ℕ → List ℕ → List ℕ
 zerosBefore n t = replicate n 48 ++ t
@@ -80,3 +81,9 @@ pub record GridTextSpecRows : Type 0 where
   -- a level too few, one too many
   pub too-few : numberFor (bytesOf "1 2 5") ≡ 2
   pub too-many : numberFor (bytesOf "1 1 5 5") ≡ 2
+  -- levels as lines: −7, 0 and 12; in 21 bytes and in 20
+  pub lines : levelLines (minus 7 ∷ pos 0 ∷ pos 12 ∷ []) ≡ bytesOf "-7\n0\n12\n"
+  pub lines-in : linesIn (pos 4 ∷ []) (replicate 21 9) ≡ 52 ∷ 10 ∷ replicate 19 9
+  pub lines-count : linesCount (pos 4 ∷ []) (replicate 21 9) ≡ 2
+  pub lines-kept : linesIn (pos 4 ∷ []) (replicate 20 9) ≡ replicate 20 9
+  pub lines-no-room : linesCount (pos 4 ∷ []) (replicate 20 9) ≡ 0

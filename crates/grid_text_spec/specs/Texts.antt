@@ -1,6 +1,7 @@
 -- What the machine says of every text, and what an accepted text is.
 --   GridTexts   fed in any cut it ends in the same place; its number is that of the words; an accepted text leaves its
---               lengths and its levels, has a shape that condition 1 accepts and as many levels as cells
+--               lengths and its levels, and how many they are; it has a shape that condition 1 accepts and as many
+--               levels as cells
 use Prim.Native.Nat.{ℕ, _≤_}
 use mathlib.Core.Path.{_≡_}
 use mathlib.Core.Bool.{false}
@@ -28,6 +29,12 @@ pub record GridTexts : Type 0 where
       → refusalOf (textJudged t) ≡ 0
       → fed (machine startState l v) (t ++ 10 ∷ []) .levels
       ≡ textLevels (textWords t) ++ drop (cellCount (textLengths (textWords t))) v
+  pub axes-kept : (l : List ℕ) (v : List ℤ) (t : List ℕ) → 3 ≤ length l → mostCells ≤ length v
+      → refusalOf (textJudged t) ≡ 0
+      → fed (machine startState l v) (t ++ 10 ∷ []) .state .shape .axes ≡ axisCount (textWords t)
+  pub cells-kept : (l : List ℕ) (v : List ℤ) (t : List ℕ) → 3 ≤ length l → mostCells ≤ length v
+      → refusalOf (textJudged t) ≡ 0
+      → fed (machine startState l v) (t ++ 10 ∷ []) .state .shape .cells ≡ cellCount (textLengths (textWords t))
   pub axes : (t : List ℕ) → refusalOf (textJudged t) ≡ 0
       → length (textLengths (textWords t)) ≡ axisCount (textWords t)
   pub shape : (t : List ℕ) → refusalOf (textJudged t) ≡ 0 → badShape (textLengths (textWords t)) ≡ false

@@ -1,13 +1,14 @@
 -- `rows` meets its contract: every row holds by computing.
 -- Assumes nothing.
 use mathlib.Core.Path.{refl}
+use Rattle.text_spec.specs.Writing.{placesOf}
 use Rattle.grid_text_spec.specs.Words.{notNumber, badWord, wordOutside, axisCount}
 use Rattle.grid_text_spec.specs.Machine.{nextByte, brokenWord, wrongWord, outWord, axesAfter, cellsAfter, wordEnd, lengthsAfter, levelsAfter, stateAfter, byteFed, largeShape, finishOf}
 use Rattle.grid_text_spec.proofs.rows.Statement.{statement}
 use Rattle.grid_text_spec.proofs.rows.Tie as tie
 
 returns : tie.Need-returns
-unfolding notNumber badWord wordOutside axisCount nextByte brokenWord wrongWord outWord axesAfter cellsAfter wordEnd lengthsAfter levelsAfter stateAfter byteFed largeShape finishOf
+unfolding placesOf notNumber badWord wordOutside axisCount nextByte brokenWord wrongWord outWord axesAfter cellsAfter wordEnd lengthsAfter levelsAfter stateAfter byteFed largeShape finishOf
 returns c =
     record {
       example = refl;
@@ -56,6 +57,11 @@ returns c =
       nineteen-fed = refl;
       too-few = refl;
       too-many = refl;
+      lines = refl;
+      lines-in = refl;
+      lines-count = refl;
+      lines-kept = refl;
+      lines-no-room = refl;
     }
 
 pub rows-spec : {M : Type 1} → statement M
