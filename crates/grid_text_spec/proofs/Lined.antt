@@ -20,8 +20,11 @@ text-most : (z : ℤ) → length (signedText z) ≤ 20
 text-most (pos n) = omega (arith, digits-length 10 (placesOf 18 n) n, places-most 18 n)
 text-most (negsuc n) = omega (arith, digits-length 10 (placesOf 18 (suc n)) (suc n), places-most 18 (suc n))
 
+one-more : (l : List ℕ) (x : ℕ) → length (l ++ x ∷ []) ≡ suc (length l)
+one-more l x = length-append l (x ∷ []) ∙ add-one (length l)
+
 line-length : (z : ℤ) → length (lineOf z) ≡ suc (length (signedText z))
-line-length z = length-append (signedText z) (10 ∷ []) ∙ add-one (length (signedText z))
+line-length z = one-more (signedText z) _
 
 pub line-most : (z : ℤ) → length (lineOf z) ≤ 21
 line-most z = omega (arith, line-length z, text-most z)

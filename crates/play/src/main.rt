@@ -62,17 +62,17 @@ fn show(text: &[u8], n: usize) {
     io::write_all(STDOUT_FILENO, &text[..n]);
 }
 
-// 119 bytes of the file are enough, as `play_text::first_bytes` says, and 21 bytes for a line.
+// 119 bytes of the file are enough, as `play_text::first_bytes` says. One buffer serves for the parts that are read and
+// for what is printed, with 21 bytes for a line: each page more costs as much as some hundred levels.
 fn main() {
     let mut file = [0u8; 119];
-    let mut part = [0u8; 65536];
     let mut lengths = [0usize; 3];
     let mut levels = [0i64; 8192];
     let mut out = [0i64; 8192];
     let mut second = [0i64; 8192];
     let mut text = [0u8; 172032];
     let n = read_file(&mut file);
-    let state = read_text(&mut part, &mut lengths, &mut levels);
+    let state = read_text(&mut text, &mut lengths, &mut levels);
     let printed = play_text::respond(
         &file[..n],
         state,

@@ -57,6 +57,10 @@ refused f t out second {r} e h = record {
 abbrev pub restJudged : List Step → List ℕ → Judged
 restJudged ss t = (anyOf badLevel (textLevels (textWords t)), 3) ∷ stepsJudged (textLengths (textWords t)) ss (textLevels (textWords t))
 
+-- the file's number, where it is refused
+file-number : (f t : List ℕ) {r : ℕ} → r ≡ refusalOf (fileJudged f) → (r ≡ 0 → ⊥) → r ≡ refusalOf (playTextJudged f t)
+file-number f t p h = chain-stops (fileJudged f) (textJudged t ++ restJudged (recipeSteps f) t) (tt, (tt, (tt, tt))) p h
+
 -- the player's number, where the file and the text are accepted
 player-number : (f t : List ℕ) → refusalOf (fileJudged f) ≡ 0 → (z : refusalOf (textJudged t) ≡ 0)
     → refusalOf (playJudged f (textLengths (textWords t)) (textLevels (textWords t)) (cellCount (textLengths (textWords t))) (cellCount (textLengths (textWords t)))) ≡ refusalOf (playTextJudged f t)
@@ -81,7 +85,7 @@ player-number f t y z =
 module _ (f t l : List ℕ) (v : List ℤ) (s : TextState) (l′ : List ℕ) (v′ : List ℤ) (e : machine s l′ v′ ≡ fed (machine startState l v) (t ++ 10 ∷ [])) (a : 3 ≤ length l)
     (b : mostCells ≤ length v) (z : refusalOf (textJudged t) ≡ 0) where
   pub played-count : length (playedText f t) ≡ cellCount (textLengths (textWords t))
-  played-count = length-played (textLengths (textWords t)) (recipeSteps f) (textLevels (textWords t)) ∙ levels-count (textWords t) z
+  played-count = length-played (textLengths (textWords t)) _ (textLevels (textWords t)) ∙ levels-count (textWords t) z
 
   pub cells-played : s .shape .cells ≡ length (playedText f t)
   cells-played = cells-fed t l v s l′ v′ e a b z ∙ sym played-count
@@ -89,7 +93,7 @@ module _ (f t l : List ℕ) (v : List ℤ) (s : TextState) (l′ : List ℕ) (v�
 -- ---- the returns
 module _ (f : List ℕ) (s : TextState) (l′ : List ℕ) (v′ out second : List ℤ) {r : ℕ} (p : r ≡ refusalOf (fileJudged f)) where
   pub from-file : (r ≡ 0 → ⊥) → PlayedFrom f (machine s l′ v′) out second r out second
-  from-file h = record { texts = λ t l v a b c d e. refused f t out second (chain-stops (fileJudged f) (textJudged t ++ restJudged (recipeSteps f) t) (tt, (tt, (tt, tt))) p h) h }
+  from-file h = record { texts = λ t l v a b c d e. refused f t out second (file-number f t p h) h }
 
   module _ (z : r ≡ 0) {g : ℕ} (q : g ≡ finishOf s) where
     pub from-text : (g ≡ 0 → ⊥) → PlayedFrom f (machine s l′ v′) out second g out second
