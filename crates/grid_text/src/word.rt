@@ -1,7 +1,7 @@
 // A word of the text, byte by byte: a minus or none, then digits.
 ghost use mathlib.Core.Path.{_≡_};
 ghost use mathlib.Core.Bool.{_||_};
-ghost use Prim.Native.Nat.{_+_, _*_, _≤_, min};
+ghost use Prim.Native.Nat.{_+_, min};
 ghost use Rattle.grid_text_spec.specs.Words.{gapByte};
 ghost use Rattle.grid_text_spec.specs.Machine.{digitCap, capped, emptyWord, isEmpty, startsMinus, nextByte};
 ghost use Rattle.grid_text_spec.specs.Machine.{brokenWord, wrongWord, outWord};
@@ -9,9 +9,6 @@ use grid_text_spec::TextWord;
 
 // 10^18: a number of up to 18 digits is below it.
 const SIZE_CAP: u64 = 1000000000000000000;
-
-// 10^16: a smaller size needs no cap with one digit more.
-const SMALL_SIZE: u64 = 10000000000000000;
 
 // The digits that a number may have.
 const MOST_DIGITS: u8 = 18;
@@ -98,17 +95,6 @@ fn more_digits(digits: u8) -> u8
     DIGIT_CAP
 }
 
-// A size with one digit more, at most 10^18. The caps wait for each other, so a small size goes without.
-fn longer_size(size: u64, digit: u64) -> u64
-    requires { ⌜ digit ≤ 16 ⌝ }
-    ensures { λ r. ⌜ r ≡ capped (capped size * 10 + digit) ⌝ }
-{
-    if size < SMALL_SIZE {
-        return size * 10 + digit;
-    }
-    capped_size(capped_size(size) * 10 + digit)
-}
-
 // The word after one byte more.
 pub(crate) fn next_byte(word: TextWord, byte: u8) -> TextWord
     ensures { λ r. ⌜ r ≡ nextByte word byte ⌝ }
@@ -124,7 +110,7 @@ pub(crate) fn next_byte(word: TextWord, byte: u8) -> TextWord
     let d = text::digit(byte);
     let odd = either(word.odd, 10 <= d);
     let digits = more_digits(word.digits);
-    let size = longer_size(word.size, d);
+    let size = capped_size(capped_size(word.size) * 10 + d);
     TextWord {
         minus: word.minus,
         odd,

@@ -24,12 +24,21 @@ either-requires c κs = search needs
 more-digits-requires : tie.Need-more-digits-requires
 more-digits-requires c κs = search needs
 
-longer-size-requires : tie.Need-longer-size-requires
-longer-size-requires c κs = omega (arith, c .before .before .digit .ensures, digit-most (c .before .before .before .before .before .args .byte))
+capped-size-requires : tie.Need-capped-size-requires
+capped-size-requires c κs = search needs
+
+mul-capped-size : tie.Need-mul-capped-size
+mul-capped-size c = search needs
+
+add-capped-size : tie.Need-add-capped-size
+add-capped-size c = omega (arith, c .before .before .before .digit .ensures, c .capped-size .ensures, digit-most (c .before .before .before .before .before .before .args .byte))
+
+capped-size-requires-2 : tie.Need-capped-size-requires-2
+capped-size-requires-2 c κs = search needs
 
 returns-2 : tie.Need-returns-2
 unfolding nextByte
-returns-2 c = rw (sym (c .before .before .before .before .before .starts-minus .ensures) ∙ c .before .before .before .before .if1 .left) (cc)
+returns-2 c = rw (sym (c .before .before .before .before .before .before .starts-minus .ensures) ∙ c .before .before .before .before .before .if1 .left) (cc)
 
 pub next-byte-spec : {M : Type 1} → statement M
 next-byte-spec =
@@ -40,5 +49,8 @@ next-byte-spec =
     digit-requires
     either-requires
     more-digits-requires
-    longer-size-requires
+    capped-size-requires
+    mul-capped-size
+    add-capped-size
+    capped-size-requires-2
     returns-2)
