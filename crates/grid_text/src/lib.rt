@@ -2,6 +2,7 @@
 // and levels written as lines.
 mod lines;
 mod machine;
+mod plain;
 mod shape;
 mod store;
 mod word;

@@ -2,6 +2,8 @@
 // Fed the whole text and one line feed more, it has stored every length and every level.
 ghost use mathlib.Core.Path.{_≡_};
 ghost use Rattle.grid_text_spec.specs.Machine.{startState, machine, byteFed, fed, finishOf};
+use crate::plain::is_plain;
+use crate::plain::plain_byte;
 use crate::shape::judge_shape;
 use crate::shape::word_end;
 use crate::store::store_length;
@@ -37,6 +39,13 @@ fn step(state: TextState, byte: u8, lengths: &mut [usize], levels: &mut [i64]) -
 {
     let word = state.word;
     let shape = state.shape;
+    if is_plain(word, byte) {
+        let longer = plain_byte(word, byte);
+        return TextState {
+            word: longer,
+            shape,
+        };
+    }
     if is_gap(byte) {
         if is_empty(word) {
             return state;

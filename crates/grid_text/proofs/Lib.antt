@@ -1,0 +1,2 @@
+-- Laws of digits that reach no cap.
+pub mod Digit
