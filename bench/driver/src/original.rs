@@ -1,5 +1,6 @@
 //! A case put to the original Rust. Its calls allocate what they return.
 use crate::cases::{Call, Case};
+use crate::timing::Repeated;
 use ndarray::{Array, Array1, Axis, Dimension, Ix1, Ix2, Ix3};
 use ndarray_ndimage as nd;
 
@@ -48,9 +49,6 @@ macro_rules! repeated {
         })
     };
 }
-
-/// Runs the case so often, and gives the bits of the last answer.
-pub type Repeated = Box<dyn FnMut(usize) -> Vec<u64>>;
 
 pub fn of(case: &Case) -> Repeated {
     match case.shape.len() {

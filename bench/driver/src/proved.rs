@@ -1,6 +1,6 @@
 //! A case put to the proved library, through the Rust bindings. Its calls fill what is lent; nothing is cleared between two calls.
 use crate::cases::{Call, Case};
-use crate::original::Repeated;
+use crate::timing::Repeated;
 use suvvokal as sv;
 use suvvokal::Refusal;
 
