@@ -93,8 +93,8 @@ class Maker:
     def near_step(self, shape):
         """A step that 15 accepts; on the shape 01 accepts most of them."""
         kind, border = self.random.randrange(3), self.random.randrange(5)
-        axis = self.random.randrange(len(shape)) if shape and self.chance(0.97) else self.random.randrange(4)
-        length = self.random.randint(1, 9) if self.chance(0.7) else self.random.randint(0, 67)
+        axis = self.random.randrange(len(shape)) if shape and self.chance(0.9) else self.pick((0, 1, 2, 3, 255))
+        length = self.pick((self.random.randint(1, 9),) * 6 + (self.random.randint(0, 67),) * 2 + (0, 64, 65, 66, 127))
         origin = 0 if kind == UNIFORM or self.chance(0.4) else self.random.randint(-(length // 2) - 1, (length + 1) // 2)
         constant = self.pick((0, 5, -32768, 32767, self.level(30000))) if border == CONSTANT else 0
         return Step(kind, axis, length, origin, border, constant)
@@ -236,6 +236,8 @@ class Maker:
         """Count, steps and lent bytes of a request `write_recipe`; steps past the count may be bad."""
         steps = self.steps(self.shape(0))
         count = len(steps)
+        if self.chance(0.15):
+            steps[self.random.randrange(count)] = self.any_step()
         if self.chance(0.3):
             steps = (steps + [self.any_step() for _ in range(self.random.randrange(4))])[:STEPS]
         if self.chance(0.1):
