@@ -17,6 +17,10 @@ EDGES = (MOST_LEVEL, -MOST_LEVEL, MOST_LEVEL - 1, 0, 1, -1)
 BAD_LEVELS = (MOST_LEVEL + 1, -MOST_LEVEL - 1, 2**32, 2**32 + 1, 2**63 - 1, -2**63)
 # Bytes that are no part of a number, or a gap where none should be.
 ODD_BYTES = (0, 9, 10, 11, 12, 13, 27, 32, 43, 45, 46, 47, 48, 57, 58, 95, 120, 127, 128, 133, 160, 178, 255)
+# Versions of two bytes, high byte first.
+VERSIONS = (b"\x00\x00", b"\x00\x02", b"\x01\x00", b"\x01\x01", b"\x02\x00", b"\xff\xff", b"\x31\x00", b"\x00\x31")
+# Lengths whose products lie on both sides of 8,192.
+LENGTHS = (b"1", b"2", b"8", b"9", b"90", b"91", b"92", b"128", b"1024", b"1024", b"1025")
 # Words for every place of a text: good ones, limits, and numbers that wrap round to good ones in 32, 64 or 128 bits.
 ODD_WORDS = (b"0", b"1", b"2", b"3", b"4", b"-0", b"-1", b"-3", b"00", b"01", b"-01", b"1024", b"1025", b"8192", b"8193",
              b"2147483647", b"2147483648", b"-2147483647", b"-2147483648", b"4294967295", b"4294967297", b"4294967299",
@@ -125,7 +129,7 @@ class Maker:
     def damaged_file(self, file):
         """A file cut, longer, or with bytes changed, put in or taken out."""
         byte, place = self.random.randrange(256), self.random.randrange(len(file) + 1)
-        damage = self.random.randrange(9)
+        damage = self.random.randrange(10)
         if damage == 0:
             return file[:place]
         if damage == 1:
@@ -139,6 +143,8 @@ class Maker:
         if damage == 5:
             return bytes(self.random.randrange(256) for _ in range(self.random.randrange(120)))
         if damage == 6:
+            return file[:3] + self.pick(VERSIONS) + file[5:]
+        if damage == 7:
             place = self.random.randrange(6)
         return file[:place] + bytes([self.pick((byte, 0, 1, 2, 3, 4, 5, 127, 128, 255))]) + file[place + 1:]
 
@@ -162,10 +168,18 @@ class Maker:
 
     def damaged_text(self, text):
         """A text cut, longer, with bytes or words changed, put in, taken out or turned round."""
-        damage = self.random.randrange(11)
+        damage = self.random.randrange(12)
         if damage < 5:
             return self.damaged_bytes(text, damage)
+        if damage == 11:
+            return self.shape_text()
         return self.joined(self.damaged_words([word for word in text.replace(b"\n", b" ").split(b" ") if word], damage))
+
+    def shape_text(self):
+        """A text of a count and lengths with few or no levels: what is wrong with the shape decides."""
+        count = self.pick((b"1", b"2", b"2", b"3", b"3", self.pick(ODD_WORDS)))
+        lengths = [self.pick((self.pick(LENGTHS),) * 5 + (self.pick(ODD_WORDS),)) for _ in range(self.random.randrange(5))]
+        return self.joined([count] + lengths)
 
     def damaged_bytes(self, text, damage):
         """A text with a fault in its bytes."""
