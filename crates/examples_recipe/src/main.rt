@@ -17,6 +17,7 @@ fn theorems() {
     recipe_spec::rows();
     recipe_spec::round_trips();
     recipe_spec::judged_before();
+    recipe_fields::rows();
     grid_text_spec::rows();
     grid_text_spec::grid_texts();
 }
@@ -50,6 +51,34 @@ fn writes() {
     let refused = recipe_file::write_recipe(1, steps, &mut short);
     examples_print::line(refused as usize);
     examples_print::test(check::same(&short, &[9; 12]));
+    let enough = recipe_file::judge_recipe(1, steps, 13);
+    examples_print::line(enough as usize);
+    let few = recipe_file::judge_recipe(1, steps, 12);
+    examples_print::line(few as usize);
+}
+
+// The example as numbers: read into 97 cells, and refused where a cell less is lent; written from its six numbers, and
+// refused where a kind is 256.
+fn fields() {
+    let mut out = [9; 97];
+    let accepted = recipe_fields::read_fields(
+        &[76, 75, 83, 0, 1, 1, 0, 0, 2, 0, 2, 0, 0],
+        &mut out,
+    );
+    examples_print::line(accepted as usize);
+    examples_print::levels(&out);
+    let mut short = [9; 96];
+    let refused = recipe_fields::read_fields(
+        &[76, 75, 83, 0, 1, 1, 0, 0, 2, 0, 2, 0, 0],
+        &mut short,
+    );
+    examples_print::line(refused as usize);
+    let mut file = [9; 13];
+    let written = recipe_fields::write_fields(1, &[0, 0, 2, 0, 2, 0], &mut file);
+    examples_print::line(written as usize);
+    examples_print::test(check::same(&file, &[76, 75, 83, 0, 1, 1, 0, 0, 2, 0, 2, 0, 0]));
+    let unheld = recipe_fields::write_fields(1, &[256, 0, 2, 0, 2, 0], &mut file);
+    examples_print::line(unheld as usize);
 }
 
 // The example played over 4 2 7, and a file whose second step is refused: out and the second grid stay.
@@ -130,6 +159,7 @@ fn main() {
     theorems();
     reads();
     writes();
+    fields();
     plays();
     texts();
 }

@@ -3,7 +3,9 @@ ghost use mathlib.Core.Path.{_≡_};
 ghost use Prim.Native.Nat.{_≤_};
 ghost use lib.ListN.{take};
 ghost use Rattle.numbers.specs.Lists.{anyOf};
+ghost use Rattle.numbers.specs.Refusal.{refusalOf};
 ghost use Rattle.recipe_spec.specs.Recipes.{badMark, badStepCount, badStepConstant, badStepOrigin, badStep};
+ghost use Rattle.recipe_spec.specs.Recipes.{recipeJudged};
 use recipe_spec::Step;
 
 // Condition 13: under 6 bytes, or another mark or version than LKS and 1.
@@ -92,4 +94,23 @@ pub(crate) fn bad_steps(count: u8, steps: [Step; 16]) -> bool
         k += 1;
     }
     false
+}
+
+// The number that writing a recipe gets: `write_recipe` without its bytes.
+//
+// * `count` - how many of the steps the recipe has.
+// * `steps` - the steps; those past the count are not looked at.
+// * `len` - how many bytes are lent.
+//
+// Refuses: 14 (count), 15 (step). Of one step 0 0 2 0 2 0 it is 0 where 13 bytes are lent, 14 where 12 are.
+pub fn judge_recipe(count: u8, steps: [Step; 16], len: usize) -> u8
+    ensures { λ r. ⌜ r ≡ refusalOf (recipeJudged count steps len) ⌝ }
+{
+    if bad_step_count(count, len) {
+        return numbers::COUNT;
+    }
+    if bad_steps(count, steps) {
+        return numbers::STEP;
+    }
+    numbers::ACCEPTED
 }

@@ -6,8 +6,7 @@ ghost use Rattle.numbers.specs.Refusal.{Answers};
 ghost use Rattle.recipe_spec.specs.Recipes.{stepBytes, fileOf, recipeJudged};
 use crate::bits::bits16;
 use crate::bits::byte8;
-use crate::conditions::bad_step_count;
-use crate::conditions::bad_steps;
+use crate::conditions::judge_recipe;
 use recipe_spec::Step;
 
 // Byte j of a step, 0 past the seventh.
@@ -64,11 +63,9 @@ pub fn write_recipe(count: u8, steps: [Step; 16], out: &mut [u8]) -> u8
     ensures { λ r. ⌜ Answers (recipeJudged count steps (length (now (out .entry)))) (fileOf count steps)
         (now (out .entry)) r (now (out .exit)) ⌝ }
 {
-    if bad_step_count(count, out.len()) {
-        return numbers::COUNT;
-    }
-    if bad_steps(count, steps) {
-        return numbers::STEP;
+    let refusal = judge_recipe(count, steps, out.len());
+    if refusal != 0 {
+        return refusal;
     }
     let mut i = 0;
     while i < out.len() {

@@ -1,0 +1,4 @@
+-- Laws of recipes as plain numbers.
+pub mod Places
+pub mod Held
+pub mod Judge

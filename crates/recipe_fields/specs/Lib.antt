@@ -1,0 +1,3 @@
+-- Recipes as plain numbers.
+pub mod Fields
+pub mod Rows
