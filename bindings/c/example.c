@@ -1,4 +1,4 @@
-/* Worked examples from C: T2, T4, T7, T8 and T9 of the scope, and refused calls. bindings/c/run builds and runs it. */
+/* Worked examples from C: T2, T4, T7, T8 and T9 of the scope, document 02's recipe, and refused calls. bindings/c/run builds and runs it. */
 #include "suvvokal.h"
 
 #include <inttypes.h>
@@ -18,6 +18,24 @@ static void show_mask(const char *name, uint8_t refusal, const bool *cells, size
     printf("%s: %u:", name, (unsigned)refusal);
     for (size_t i = 0; i < len; i++) {
         printf(" %d", (int)cells[i]);
+    }
+    printf("\n");
+}
+
+static void show_bytes(const char *name, uint8_t refusal, const uint8_t *bytes, size_t len) {
+    printf("%s: %u:", name, (unsigned)refusal);
+    for (size_t i = 0; i < len; i++) {
+        printf(" %u", (unsigned)bytes[i]);
+    }
+    printf("\n");
+}
+
+static void show_recipe(const char *name, uint8_t refusal, const struct suvvokal_recipe *recipe) {
+    printf("%s: %u: %u", name, (unsigned)refusal, (unsigned)recipe->count);
+    for (size_t k = 0; k < recipe->count; k++) {
+        const struct suvvokal_step *step = &recipe->steps[k];
+        printf(", %u %u %u %d %u %d", (unsigned)step->kind, (unsigned)step->axis, (unsigned)step->length, (int)step->origin, (unsigned)step->border,
+               (int)step->constant);
     }
     printf("\n");
 }
@@ -109,12 +127,48 @@ static void refused(void) {
     show("refused, no axes", r, NULL, 0);
 }
 
+/* document 02's recipe, the minimum of 2 cells under nearest: read, written with a step more, played; and refused ones */
+static void recipes(void) {
+    const uint8_t file[] = {'L', 'K', 'S', 0, 1, 1, 0, 0, 2, 0, 2, 0, 0};
+    struct suvvokal_recipe recipe = {0};
+    uint8_t r = suvvokal_recipe_read(file, LEN(file), &recipe);
+    show_recipe("recipe_read", r, &recipe);
+
+    const struct suvvokal_step widest = {SUVVOKAL_STEP_MAXIMUM, 2, 255, -128, SUVVOKAL_CONSTANT, -2};
+    uint8_t written[20] = {0};
+    recipe.count = 2;
+    recipe.steps[1] = widest;
+    r = suvvokal_recipe_write(&recipe, written, LEN(written));
+    show_bytes("recipe_write, two steps", r, written, LEN(written));
+    struct suvvokal_recipe again = {0};
+    r = suvvokal_recipe_read(written, LEN(written), &again);
+    show_recipe("recipe_read of them", r, &again);
+
+    const int64_t data[] = {4, 2, 7};
+    const size_t shape[] = {3};
+    int64_t second[3] = {5, 5, 5}, out[3] = {7, 7, 7};
+    r = suvvokal_play(file, LEN(file), data, LEN(data), shape, LEN(shape), out, LEN(out), second, LEN(second));
+    show("play", r, out, LEN(out));
+    show("play, the second grid", r, second, LEN(second));
+
+    r = suvvokal_recipe_read(file, LEN(file) - 1, &again);
+    show_recipe("refused, a byte too few", r, &again);
+    r = suvvokal_recipe_write(&recipe, written, LEN(written) - 1);
+    show_bytes("refused, a byte too few lent", r, written, LEN(written));
+    const int64_t fields[] = {0, 0, 256, 0, 2, 0};
+    r = suvvokal_write_recipe(1, fields, LEN(fields), written, 13);
+    show_bytes("refused, a length of 256", r, written, LEN(written));
+    r = suvvokal_play(written, LEN(written), data, LEN(data), shape, LEN(shape), out, LEN(out), second, LEN(second));
+    show("refused, a step of 255 cells", r, out, LEN(out));
+}
+
 int main(void) {
     t2();
     t4();
     t7_t8();
     t9();
     others();
+    recipes();
     refused();
     return 0;
 }

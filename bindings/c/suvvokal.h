@@ -1,12 +1,12 @@
-/* Suvvokal: filters and padding of grids of one to three axes, from C.
+/* Suvvokal: filters and padding of grids of one to three axes, and recipes of them, from C.
  *
  * A slice is a pointer and a number of elements (NULL with 0 is fine). Lent outputs must not overlap each other or any input. A bool is one byte,
  * 0 or 1: any other byte behind a bool is undefined.
  *
  * A grid's cells stand in row-major order, the last axis fastest; `shape` has the length of each axis.
  *
- * Every call that returns an enum suvvokal_refusal number gives 0 where it filled its outputs, or the lowest number of a condition that holds, and
- * then every lent output is as it was. No call keeps a pointer, allocates, or fails in another way.
+ * Every call that returns an enum suvvokal_refusal number gives 0 where it filled its outputs, or the lowest number of a condition that holds (of a
+ * recipe file 13 to 15 before any other), and then every lent output is as it was. No call keeps a pointer, allocates, or fails in another way.
  *
  * Floats: all NaNs count as one. Where an answer is a NaN the cell is a NaN and its bits are open; what is promised of a lent cell that held
  * a NaN and is left as it was is that it is a NaN.
@@ -51,7 +51,7 @@ enum suvvokal_refusal {
     SUVVOKAL_ACCEPTED = 0,
     /* caused by whoever owns the grid */
     SUVVOKAL_SHAPE = 1,       /* not 1 to 3 axes (median: not 3), a length outside 1..1,024, or over 8,192 cells */
-    SUVVOKAL_LENGTH = 2,      /* a lent grid whose length is not the cell count (of a kernel: not 27) */
+    SUVVOKAL_LENGTH = 2,      /* a lent grid whose length is not the cell count (of a kernel: not 27, of a recipe's numbers: not 97) */
     SUVVOKAL_LEVEL = 3,       /* an input level outside -(2^31 - 1)..2^31 - 1, or a float one that is not finite */
     SUVVOKAL_SINGLE_CELL = 4, /* median: an axis of one cell */
     /* caused by the kernel's author */
@@ -65,8 +65,12 @@ enum suvvokal_refusal {
     SUVVOKAL_REACH = 11,   /* a pad that reaches past what the border can fill */
     /* caused by the arithmetic */
     SUVVOKAL_SUM = 12, /* a whole-number sum outside signed 64 bits */
+    /* caused by the recipe's author */
+    SUVVOKAL_MARK = 13,  /* under 6 bytes, or another mark or version */
+    SUVVOKAL_COUNT = 14, /* a count outside 1..16, or bytes of another length than 6 + 7 * count */
+    SUVVOKAL_STEP = 15,  /* a kind, border, constant or uniform origin that no step has */
     /* caused by the caller of this interface; judged last */
-    SUVVOKAL_UNKNOWN_CODE = 100 /* a code that names no border, padding mode or kernel */
+    SUVVOKAL_UNKNOWN_CODE = 100 /* a code that names no border, padding mode or kernel; a recipe's number that its field cannot hold */
 };
 
 /* What suvvokal_symmetry_state_i64 and suvvokal_symmetry_state_f64 return. */
@@ -169,6 +173,79 @@ uint8_t suvvokal_symmetry_state_f64(const double *weights, size_t weights_len);
 
 /* Fills out, 27 cells, with a kernel of 3 by 3 by 3, an enum suvvokal_kernel, the last axis fastest. */
 uint8_t suvvokal_kernel3d(uint8_t kernel, bool *out, size_t out_len);
+
+/* ---- Recipes: files of 1 to 16 steps, and their player. */
+
+/* Which call a step is. */
+enum suvvokal_step_kind {
+    SUVVOKAL_STEP_MINIMUM = 0, /* suvvokal_minimum_filter1d */
+    SUVVOKAL_STEP_MAXIMUM = 1, /* suvvokal_maximum_filter1d */
+    SUVVOKAL_STEP_UNIFORM = 2  /* suvvokal_uniform_filter1d */
+};
+
+/* One step of a recipe. */
+struct suvvokal_step {
+    uint8_t kind;     /* an enum suvvokal_step_kind */
+    uint8_t axis;     /* the axis that is swept */
+    uint8_t length;   /* the cells of a window */
+    int8_t origin;    /* how far the window is moved; 0 of a uniform step */
+    uint8_t border;   /* an enum suvvokal_border */
+    int16_t constant; /* 0 under every border but SUVVOKAL_CONSTANT */
+};
+
+/* A recipe; steps past the count are read as 0 and are not written. */
+struct suvvokal_recipe {
+    uint8_t count;
+    struct suvvokal_step steps[16];
+};
+
+/* Reads a recipe file into fields, 97 numbers: the count, then the six fields of each of 16 steps in the order of struct suvvokal_step. */
+uint8_t suvvokal_read_recipe(const uint8_t *file, size_t file_len, int64_t *fields, size_t fields_len);
+
+/* Writes the recipe file of count steps to out, 6 + 7 * count bytes. fields has the six numbers of each step; missing ones are 0. */
+uint8_t suvvokal_write_recipe(uint8_t count, const int64_t *fields, size_t fields_len, uint8_t *out, size_t out_len);
+
+/* Plays a recipe file over a grid: its steps one after the other, all judged before a cell changes. second is a second grid as long as data; an
+ * accepted call leaves zeros in it. 4 2 7 under the one step 0 0 2 0 2 0 gives 4 2 2. */
+uint8_t suvvokal_play(const uint8_t *file, size_t file_len, const int64_t *data, size_t data_len, const size_t *shape, size_t axes, int64_t *out,
+                      size_t out_len, int64_t *second, size_t second_len);
+
+/* Reads a recipe file; a refused one leaves the recipe as it was. */
+static inline uint8_t suvvokal_recipe_read(const uint8_t *file, size_t file_len, struct suvvokal_recipe *recipe) {
+    int64_t fields[97] = {0};
+    const uint8_t refusal = suvvokal_read_recipe(file, file_len, fields, 97);
+    if (refusal != SUVVOKAL_ACCEPTED) {
+        return refusal;
+    }
+    recipe->count = (uint8_t)fields[0];
+    for (size_t k = 0; k < 16; k++) {
+        const int64_t *six = fields + 1 + 6 * k;
+        struct suvvokal_step *step = &recipe->steps[k];
+        step->kind = (uint8_t)six[0];
+        step->axis = (uint8_t)six[1];
+        step->length = (uint8_t)six[2];
+        step->origin = (int8_t)six[3];
+        step->border = (uint8_t)six[4];
+        step->constant = (int16_t)six[5];
+    }
+    return SUVVOKAL_ACCEPTED;
+}
+
+/* Writes the file of a recipe to out, 6 + 7 * count bytes. */
+static inline uint8_t suvvokal_recipe_write(const struct suvvokal_recipe *recipe, uint8_t *out, size_t out_len) {
+    int64_t fields[96] = {0};
+    for (size_t k = 0; k < 16; k++) {
+        const struct suvvokal_step *step = &recipe->steps[k];
+        int64_t *six = fields + 6 * k;
+        six[0] = step->kind;
+        six[1] = step->axis;
+        six[2] = step->length;
+        six[3] = step->origin;
+        six[4] = step->border;
+        six[5] = step->constant;
+    }
+    return suvvokal_write_recipe(recipe->count, fields, 96, out, out_len);
+}
 
 #ifdef __cplusplus
 }

@@ -71,4 +71,10 @@ extern "C" {
     pub fn suvvokal_symmetry_state_i64(weights: *const i64, weights_len: usize) -> u8;
     pub fn suvvokal_symmetry_state_f64(weights: *const f64, weights_len: usize) -> u8;
     pub fn suvvokal_kernel3d(kernel: u8, out: *mut bool, out_len: usize) -> u8;
+    pub fn suvvokal_read_recipe(file: *const u8, file_len: usize, fields: *mut i64, fields_len: usize) -> u8;
+    pub fn suvvokal_write_recipe(count: u8, fields: *const i64, fields_len: usize, out: *mut u8, out_len: usize) -> u8;
+    pub fn suvvokal_play(
+        file: *const u8, file_len: usize, data: *const i64, data_len: usize, shape: *const usize, axes: usize, out: *mut i64, out_len: usize,
+        second: *mut i64, second_len: usize,
+    ) -> u8;
 }

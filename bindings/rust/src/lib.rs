@@ -1,7 +1,7 @@
-//! Filters and padding of grids of one to three axes: the proved library Suvvokal, from Rust.
+//! Filters and padding of grids of one to three axes, and recipes of them: the proved library Suvvokal, from Rust.
 //!
 //! A grid is a slice of levels in row-major order, the last axis fastest, and the length of each axis. A call fills the lent output and
-//! gives `Ok`, or gives the one [`Refusal`] and leaves every lent cell as it was; it never panics and never allocates.
+//! gives `Ok`, or gives the one [`Refusal`] and leaves every lent cell as it was; it never panics, and only [`Recipe`] allocates.
 //!
 //! ```
 //! use suvvokal::{correlate1d, BorderMode};
@@ -17,6 +17,7 @@ mod kernels;
 mod lines;
 mod modes;
 mod pads;
+mod recipes;
 mod refusal;
 
 pub use grids::{convolve, correlate, maximum_filter, median_filter, minimum_filter, prewitt, sobel, uniform_filter};
@@ -26,4 +27,5 @@ pub use lines::{
 };
 pub use modes::{BorderMode, Kernel3d, PadMode, SymmetryState};
 pub use pads::{pad, pad_to};
+pub use recipes::{play, read_recipe, write_recipe, Recipe, Step, StepKind};
 pub use refusal::Refusal;

@@ -25,6 +25,17 @@ impl<T: Default> BorderMode<T> {
             BorderMode::Wrap => (4, T::default()),
         }
     }
+
+    /// The border of a code that the archive has judged.
+    pub(crate) fn of(code: u8, level: T) -> BorderMode<T> {
+        match code {
+            0 => BorderMode::Constant(level),
+            1 => BorderMode::Mirror,
+            2 => BorderMode::Nearest,
+            3 => BorderMode::Reflect,
+            _ => BorderMode::Wrap,
+        }
+    }
 }
 
 /// What a grid is padded with. The pictures show the cells 1 2 3 with pads of 2.

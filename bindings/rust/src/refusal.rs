@@ -1,7 +1,7 @@
 //! Why a call was refused.
 use std::fmt;
 
-/// The lowest number of a condition that holds: a refused call has changed no lent cell.
+/// The lowest number of a condition that holds (of a recipe file `Mark`, `Count` and `Step` first): a refused call has changed no lent cell.
 ///
 /// ```
 /// use suvvokal::{correlate1d, BorderMode, Refusal};
@@ -16,7 +16,7 @@ use std::fmt;
 pub enum Refusal {
     /// Not 1 to 3 axes (median: not 3), a length outside 1..1,024, or over 8,192 cells.
     Shape = 1,
-    /// A lent grid whose length is not the cell count (of a kernel: not 27).
+    /// A lent grid whose length is not the cell count (of a kernel: not 27, of a recipe's numbers: not 97).
     Length = 2,
     /// An input level outside -(2^31 - 1)..2^31 - 1, or a float one that is not finite.
     Level = 3,
@@ -38,12 +38,18 @@ pub enum Refusal {
     Reach = 11,
     /// A whole-number sum outside signed 64 bits.
     Sum = 12,
-    /// A code that names nothing. The functions of this crate send none.
+    /// A recipe file of under 6 bytes, or of another mark or version.
+    Mark = 13,
+    /// Not 1 to 16 steps of a recipe, or bytes of another length than 6 + 7 × count.
+    Count = 14,
+    /// A kind, border, constant or uniform origin that no step of a recipe has.
+    Step = 15,
+    /// A number that its field of a step cannot hold ([`write_recipe`](crate::write_recipe) alone sends one), or a code that names nothing.
     UnknownCode = 100,
 }
 
 impl Refusal {
-    /// The number of document 01, or 100.
+    /// The number of documents 01 and 02, or 100.
     pub const fn number(self) -> u8 {
         self as u8
     }
@@ -62,7 +68,10 @@ impl Refusal {
             Refusal::Pads => "pads: their count or size, or an output of another length",
             Refusal::Reach => "reach: a pad reaches past what the border can fill",
             Refusal::Sum => "sum: outside signed 64 bits",
-            Refusal::UnknownCode => "unknown code",
+            Refusal::Mark => "mark: no recipe file of version 1",
+            Refusal::Count => "count: not 1 to 16 steps, or bytes of another length",
+            Refusal::Step => "step: a kind, border, constant or origin that no step has",
+            Refusal::UnknownCode => "unknown code, or a number that its field cannot hold",
         }
     }
 }
@@ -91,6 +100,9 @@ pub(crate) fn answer(number: u8) -> Result<(), Refusal> {
         10 => Refusal::Pads,
         11 => Refusal::Reach,
         12 => Refusal::Sum,
+        13 => Refusal::Mark,
+        14 => Refusal::Count,
+        15 => Refusal::Step,
         _ => Refusal::UnknownCode,
     })
 }

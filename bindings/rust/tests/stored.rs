@@ -42,6 +42,17 @@ fn pads_of_four_axes() {
     assert_eq!(requests::answer("pad 1 3 3 1 2 3 reflect 4 1 1 1 1 1 1 1 1 5"), "refused 10");
 }
 
+/// Document 02's recipe as requests: read, written, played, and refused.
+#[test]
+fn recipes_as_requests() {
+    assert_eq!(requests::answer("read_recipe 4c4b5300010100000200020000"), "1 0 0 2 0 2 0");
+    assert_eq!(requests::answer("read_recipe -"), "refused 13");
+    assert_eq!(requests::answer("write_recipe 1 1 0 0 2 0 2 0 13"), "4c4b5300010100000200020000");
+    assert_eq!(requests::answer("write_recipe 1 1 0 0 2 0 2 0 12"), "refused 14");
+    assert_eq!(requests::answer("play 4c4b5300010100000200020000 1 3 3 4 2 7 3 3"), "4 2 2");
+    assert_eq!(requests::answer("play 4c4b5300010100000200020000 1 3 3 4 2 7 3 2"), "refused 2");
+}
+
 /// A call that breaks its promise on lent cells is told apart from one that keeps it.
 #[test]
 fn broken_promises_are_seen() {

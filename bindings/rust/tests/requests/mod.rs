@@ -66,6 +66,22 @@ impl Level for bool {
     }
 }
 
+/// A byte of a recipe file.
+impl Level for u8 {
+    fn read(token: &str) -> u8 {
+        u8::from_str_radix(token, 16).unwrap()
+    }
+    fn show(self, text: &mut String) {
+        write!(text, "{self:02x}").unwrap()
+    }
+    fn bits(self) -> u64 {
+        self as u64
+    }
+    fn pattern(place: usize) -> u8 {
+        0x5a ^ place as u8
+    }
+}
+
 pub fn patterned<T: Level>(length: usize) -> Vec<T> {
     (0..length.min(MOST_CELLS + 1)).map(T::pattern).collect()
 }
@@ -138,6 +154,12 @@ impl<'a> Request<'a> {
         let count: usize = self.number();
         (0..count).map(|_| [self.number(), self.number()]).collect()
     }
+    fn bytes(&mut self) -> Vec<u8> {
+        match self.word() {
+            "-" => Vec::new(),
+            digits => (0..digits.len()).step_by(2).map(|at| u8::read(&digits[at..at + 2])).collect(),
+        }
+    }
     fn lent<T: Level>(&mut self) -> Vec<T> {
         patterned(self.number())
     }
@@ -187,7 +209,29 @@ pub fn answer(line: &str) -> String {
             let (shape, mask) = (r.counts(), r.list::<bool>());
             filled(r.lent(), |out| suvvokal::median_filter(&mask, &shape, out))
         }
+        "read_recipe" | "write_recipe" | "play" => recipe_of(name, r),
         _ => grid_of(name, r),
+    }
+}
+
+fn recipe_of(name: &str, mut r: Request) -> String {
+    match name {
+        "read_recipe" => {
+            let file = r.bytes();
+            let text = filled(patterned(97), |out| suvvokal::read_recipe(&file, out));
+            let Some(Ok(count)) = text.split(' ').next().map(str::parse::<usize>) else { return text };
+            text.split(' ').take(1 + 6 * count).collect::<Vec<_>>().join(" ")
+        }
+        "write_recipe" => {
+            let (count, steps): (u8, usize) = (r.number(), r.number());
+            let fields: Vec<i64> = (0..6 * steps).map(|_| r.number()).collect();
+            let text = filled(r.lent(), |out| suvvokal::write_recipe(count, &fields, out));
+            if text.starts_with("refused") { text } else { text.replace(' ', "") }
+        }
+        _ => {
+            let (file, shape, data) = (r.bytes(), r.counts(), r.list());
+            filled_over(r.lent(), r.lent(), |second, out| suvvokal::play(&file, &data, &shape, second, out))
+        }
     }
 }
 
