@@ -18,6 +18,7 @@ fn theorems() {
     recipe_spec::round_trips();
     recipe_spec::judged_before();
     recipe_fields::rows();
+    recipe_fields::fields_back();
     grid_text_spec::rows();
     grid_text_spec::grid_texts();
 }

@@ -1,3 +1,4 @@
 -- Recipes as plain numbers.
 pub mod Fields
+pub mod Back
 pub mod Rows

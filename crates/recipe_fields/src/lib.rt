@@ -7,7 +7,13 @@ mod writer;
 
 pub use reader::read_fields;
 pub use writer::write_fields;
+ghost use Rattle.recipe_fields.specs.Back.{FieldsBack};
 ghost use Rattle.recipe_fields.specs.Rows.{RecipeFieldsRows};
+
+// Writing the numbers that were read from a file gives the file again.
+pub fn fields_back()
+    ensures { λ _. ⌜ FieldsBack ⌝ }
+{}
 
 // Worked rows of this crate's definitions.
 pub fn rows()

@@ -1,7 +1,6 @@
 -- `byte_of` meets its contract: 0, or the number itself.
 -- Assumes nothing.
-use mathlib.Core.Path.{_≡_, sym, _∙_}
-use mathlib.Core.Bool.{false}
+use mathlib.Core.Path.{sym, _∙_}
 use borrow.Author.Needs.{needs}
 use lib.IntN.{natAbs}
 use Rattle.numbers.proofs.Tests.{cond-yes, cond-no}

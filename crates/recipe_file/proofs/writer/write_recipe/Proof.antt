@@ -52,7 +52,8 @@ loop-less c = search needs
 loop-again : tie.Need-loop-again Inv-loop μ-loop
 loop-again c =
     let a = c .before .before .before .before .before .before .args in
-    (search needs, search needs, search needs, front-more 0 (λ k. getD (fileOf (a .count) (a .steps)) k 0) (c .file-byte .result) (omega arith) (c .before .before .loop .inv .3) (c .file-byte .ensures))
+    let S = c .before .before .loop .inv .3 in
+    (search needs, search needs, search needs, front-more 0 (λ k. getD (fileOf (a .count) (a .steps)) k 0) (c .file-byte .result) (omega arith) S (c .file-byte .ensures))
 
 same-length : tie.Need-same-length Inv-loop μ-loop
 same-length c = search needs
