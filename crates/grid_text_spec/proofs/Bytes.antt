@@ -1,38 +1,16 @@
 -- Bounds of the machine's numbers, and bytes fed one after another, in any cut.
 -- Assumes nothing.
-use Prim.Native.Nat.{ℕ, _+_, _-_, _*_, _≤_, _<_}
+use Prim.Native.Nat.{ℕ, _+_, _*_, _≤_, _<_}
 use native.Mathlib.Nat.{mul-le-mul}
-use native.Mathlib.Omega.{arith}
 use mathlib.Core.Path.{_≡_, refl, sym, ap, _∙_}
-use mathlib.Core.Bool.{Bool, true, false, cond}
+use mathlib.Core.Bool.{true, false}
 use mathlib.Core.List.{List, [], _∷_, _++_}
-use borrow.Author.Tests.{ltb-true, eq-eqb, ne-eqb}
-use lib.Dec.{ltb}
+use borrow.Author.Tests.{eq-eqb, ne-eqb}
 use lib.ListN.{length, getD, drop, drop-of-length-le}
 use Rattle.numbers.proofs.Index.{drop-next}
 use Rattle.numbers.specs.Refusal.{refusalOf}
-use Rattle.text_spec.specs.Reading.{digitOf}
 use Rattle.grid_text_spec.specs.declared.TextShape.{TextShape}
 use Rattle.grid_text_spec.specs.Machine.{Machine, byteFed, fed, largeShape, shapeJudged}
-
-pub digit-most : (x : ℕ) → digitOf x ≤ 16
-digit-most x = first (ltb x 48)
-  where
-    fourth : (t : Bool) → ltb x 103 ≡ t → cond t (x - 87) 16 ≤ 16
-    fourth true e = omega (arith, ltb-true x 103 e)
-    fourth false e = omega arith
-
-    third : (t : Bool) → cond t 16 (cond (ltb x 103) (x - 87) 16) ≤ 16
-    third true = omega arith
-    third false = fourth (ltb x 103) refl
-
-    second : (t : Bool) → ltb x 58 ≡ t → cond t (x - 48) (cond (ltb x 97) 16 (cond (ltb x 103) (x - 87) 16)) ≤ 16
-    second true e = omega (arith, ltb-true x 58 e)
-    second false e = third (ltb x 97)
-
-    first : (t : Bool) → cond t 16 (cond (ltb x 58) (x - 48) (cond (ltb x 97) 16 (cond (ltb x 103) (x - 87) 16))) ≤ 16
-    first true = omega arith
-    first false = second (ltb x 58) refl
 
 pub product-most : (a b m n : ℕ) → a ≤ m → b ≤ n → a * b ≤ m * n
 product-most a b m n h l = mul-le-mul h l

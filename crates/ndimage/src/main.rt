@@ -7,6 +7,7 @@ use ndimage_read::cursor;
 use ndimage_read::state::Buffer;
 use ndimage_read::state::FAULT;
 use ndimage_read::state::FORM;
+use ndimage_read::state::File;
 use ndimage_read::state::Floats;
 use ndimage_read::state::LEN;
 use ndimage_read::state::Levels;
@@ -18,19 +19,20 @@ mod filter_f64;
 mod kernel;
 mod mask;
 mod padding;
+mod recipe;
 mod request;
 
 type Out = [i64; 32769];
 
 // The answer to what was read; what is wrong with it, 0 for nothing.
-fn answer(state: &State, levels: &Levels, floats: &Floats, out: &mut Out) -> usize {
+fn answer(state: &State, levels: &Levels, floats: &Floats, file: &File, out: &mut Out) -> usize {
     if state[FAULT] != 0 {
         return state[FAULT];
     }
     if ndimage_arguments::is_whole(state[REQUEST], state[FORM]) {
-        return request::whole(state, levels, out);
+        return request::whole(state, levels, file, out);
     }
-    request::other(state, levels, floats)
+    request::other(state, levels, floats, file)
 }
 
 // What is wrong with the line, where something is.
@@ -47,26 +49,35 @@ fn serve(
     state: &mut State,
     levels: &mut Levels,
     floats: &mut Floats,
+    file: &mut File,
     out: &mut Out,
 ) {
-    ndimage_read::read(buffer, state, levels, floats);
+    ndimage_read::read(buffer, state, levels, floats, file);
     if cursor::past(state) {
         return;
     }
-    let fault = answer(state, levels, floats, out);
+    let fault = answer(state, levels, floats, file, out);
     report(buffer, state, fault);
 }
 
 // The arrays are made once.
 fn main() {
-    let mut buffer = [0u8; 65600];
+    let mut buffer = [0u8; 65792];
     let mut state = [0usize; 48];
-    let mut levels = [0i64; 41308];
+    let mut levels = [0i64; 41404];
     let mut floats = [0.0; 8538];
+    let mut file = [0u8; 128];
     let mut out = [0i64; 32769];
     let mut turns = u64::MAX;
     while turns > 0 {
-        serve(&mut buffer, &mut state, &mut levels, &mut floats, &mut out);
+        serve(
+            &mut buffer,
+            &mut state,
+            &mut levels,
+            &mut floats,
+            &mut file,
+            &mut out,
+        );
         if cursor::over(&state) {
             break;
         }

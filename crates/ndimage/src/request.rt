@@ -4,6 +4,7 @@ use crate::filter_f64;
 use crate::kernel;
 use crate::mask;
 use crate::padding;
+use crate::recipe;
 use ndimage_read::requests::CONVOLVE;
 use ndimage_read::requests::CONVOLVE1D;
 use ndimage_read::requests::CORRELATE;
@@ -15,8 +16,12 @@ use ndimage_read::requests::MEDIAN;
 use ndimage_read::requests::MINIMUM1D;
 use ndimage_read::requests::PAD;
 use ndimage_read::requests::PAD_TO;
+use ndimage_read::requests::PLAY;
+use ndimage_read::requests::READ_RECIPE;
 use ndimage_read::requests::SYMMETRY;
 use ndimage_read::requests::UNIFORM1D;
+use ndimage_read::requests::WRITE_RECIPE;
+use ndimage_read::state::File;
 use ndimage_read::state::Floats;
 use ndimage_read::state::Levels;
 use ndimage_read::state::ORIGIN_AT;
@@ -25,7 +30,7 @@ use ndimage_read::state::REQUEST;
 use ndimage_read::state::State;
 
 // The call, and its number.
-fn apply(state: &State, levels: &[i64], out: &mut [i64]) -> u8 {
+fn apply(state: &State, levels: &[i64], file: &File, out: &mut [i64]) -> u8 {
     let shape = ndimage_arguments::shape(state);
     let data = ndimage_arguments::data(state, levels);
     let request = state[REQUEST];
@@ -36,6 +41,7 @@ fn apply(state: &State, levels: &[i64], out: &mut [i64]) -> u8 {
         UNIFORM1D => crate::filter::uniform1d(state, levels, data, shape, out),
         PAD | PAD_TO => crate::padding::padding(state, levels, data, shape, out),
         MEDIAN => crate::mask::median(data, shape, out),
+        PLAY => crate::recipe::play(state, file, data, shape, out),
         _ => crate::filter::every_axis(state, levels, data, shape, out),
     }
 }
@@ -54,22 +60,22 @@ fn answered(refusal: u8, out: &[i64]) -> usize {
 }
 
 // The call and its answer.
-fn answer(state: &State, levels: &[i64], out: &mut [i64]) -> usize {
-    let refusal = apply(state, levels, out);
+fn answer(state: &State, levels: &[i64], file: &File, out: &mut [i64]) -> usize {
+    let refusal = apply(state, levels, file, out);
     answered(refusal, out)
 }
 
 // A request with an output of whole levels; what is wrong with it, 0 for nothing.
-pub(crate) fn whole(state: &State, levels: &[i64], out: &mut [i64]) -> usize {
+pub(crate) fn whole(state: &State, levels: &[i64], file: &File, out: &mut [i64]) -> usize {
     let n = ndimage_arguments::lent(
         ndimage_arguments::lent(state[OUT], ndimage_arguments::most_out(state[REQUEST])),
         out.len(),
     );
-    answer(state, levels, &mut out[0..n])
+    answer(state, levels, file, &mut out[0..n])
 }
 
 // Any other request; what is wrong with it, 0 for nothing.
-pub(crate) fn other(state: &State, levels: &Levels, floats: &Floats) -> usize {
+pub(crate) fn other(state: &State, levels: &Levels, floats: &Floats, file: &File) -> usize {
     let request = state[REQUEST];
     match request {
         SYMMETRY => crate::kernel::symmetry(state, levels, floats),
@@ -77,6 +83,11 @@ pub(crate) fn other(state: &State, levels: &Levels, floats: &Floats) -> usize {
             crate::kernel::show(state);
             0
         }
+        READ_RECIPE => {
+            crate::recipe::read(state, file);
+            0
+        }
+        WRITE_RECIPE => crate::recipe::write(state, levels),
         HELP => {
             ndimage_write::show_help();
             0

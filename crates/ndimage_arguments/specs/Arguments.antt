@@ -9,17 +9,20 @@
 --   paddingIn s l      the padding mode
 --   padsIn s           three pairs of pads
 --   mostOut n          how many cells are lent as the output of request n at most: one more than any call takes
---   isWhole n form     whether request n has an output of whole levels: all but symmetry, kernel3d and help, under
---                      any form but f, whose code is 1
+--   isWhole n form     whether request n has an output of whole levels: all before symmetry, under any form but f, whose
+--                      code is 1
+--   fileIn s f         the bytes of a recipe file
+--   stepNumbersIn s l  the numbers of its steps, six of each, of at most 16 steps
+--   recipeCountIn s    the count that is written to a file; 255, which has the same refusal, beyond that
 --   levelOfMark b      a mark of a mask as a level
 --   badMark z          whether a level of a mask is neither 0 nor 1
 --   marksBy l m        as many marks as levels, each whether its level is above 0; m where there are not as many
 --   levelsBy m l       as many levels as marks; l where there are not as many
 --   kernelLevels k     the 27 cells of a kernel as levels, the last axis fastest
-use Prim.Native.Nat.{ℕ, min}
+use Prim.Native.Nat.{ℕ, _*_, min}
 use mathlib.Core.Bool.{Bool, false, cond, not, _&&_, _||_}
 use mathlib.Core.List.{List, [], _∷_}
-use lib.Dec.{eqb}
+use lib.Dec.{eqb, ltb}
 use lib.Ieee.{Float, nan}
 use lib.IntN.{ℤ, pos}
 use lib.Signed.{ltZ}
@@ -72,7 +75,16 @@ abbrev pub mostOut : ℕ → ℕ
 mostOut n = cond (eqb n 12 || eqb n 13) 32769 8193
 
 abbrev pub isWhole : ℕ → ℕ → Bool
-isWhole n form = not (eqb form 1) && not (eqb n 15 || (eqb n 16 || eqb n 17))
+isWhole n form = not (eqb form 1) && ltb n 16
+
+abbrev pub fileIn : List ℕ → List ℕ → List ℕ
+fileIn s f = cellsFrom 0 (getD s 19 0) f
+
+abbrev pub stepNumbersIn : List ℕ → List ℤ → List ℤ
+stepNumbersIn s l = cellsFrom 41308 (6 * min (getD s 35 0) 16) l
+
+abbrev pub recipeCountIn : List ℕ → ℕ
+recipeCountIn s = min (getD s 34 0) 255
 
 abbrev pub levelOfMark : Bool → ℤ
 levelOfMark b = cond b (pos 1) (pos 0)

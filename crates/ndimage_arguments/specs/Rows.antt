@@ -8,19 +8,20 @@ use lib.IntN.{pos, natAbs}
 use lib.ListN.{replicate}
 use Rattle.ndimage_arguments.specs.Arguments.{cellsFrom, shapeIn, sidesIn, codeIn, borderIn, paddingIn, padsIn}
 use Rattle.ndimage_arguments.specs.Arguments.{mostOut, isWhole, levelOfMark, badMark, marksBy, levelsBy}
-use Rattle.ndimage_arguments.specs.Arguments.{kernelLevels}
+use Rattle.ndimage_arguments.specs.Arguments.{kernelLevels, fileIn, stepNumbersIn, recipeCountIn}
 use Rattle.codes.specs.Codes.{kernelOf}
 use Rattle.border.specs.declared.BorderMode.the-variants as Whole
 use Rattle.border.specs.declared.PadMode.the-variants as Pad
 
 -- a state after reading: slots 0 to 7; no form, two axes, six cells, five sides; no weights, size and axis, code c;
--- two pairs, an output; lengths 2 and 3
+-- two pairs, an output, no second grid, a file of 3 bytes; lengths 2 and 3; a recipe's count of 300, one step
 abbrev pub read : ℕ → List ℕ
 read c =
     replicate 8 0
-    ++ (0 ∷ 2 ∷ 6 ∷ 5 ∷ 0 ∷ 0 ∷ 0 ∷ c ∷ 2 ∷ 6 ∷ 0 ∷ 0 ∷ [])
+    ++ (0 ∷ 2 ∷ 6 ∷ 5 ∷ 0 ∷ 0 ∷ 0 ∷ c ∷ 2 ∷ 6 ∷ 0 ∷ 3 ∷ [])
     ++ (2 ∷ 3 ∷ 0 ∷ 0 ∷ 7 ∷ 8 ∷ 9 ∷ 10 ∷ 1 ∷ 4 ∷ 2 ∷ 5 ∷ [])
-    ++ replicate 16 0
+    ++ (0 ∷ 0 ∷ 300 ∷ 1 ∷ [])
+    ++ replicate 12 0
 
 pub record NdimageArgumentsRows : Type 0 where
   -- as many cells as asked, or as there are
@@ -45,7 +46,12 @@ pub record NdimageArgumentsRows : Type 0 where
   pub sobel-out : mostOut 11 ≡ 8193
   pub correlate1d-whole : isWhole 2 0 ≡ true
   pub correlate1d-float : isWhole 2 1 ≡ false
-  pub symmetry-other : isWhole 15 0 ≡ false
+  pub play-whole : isWhole 15 0 ≡ true
+  pub symmetry-other : isWhole 16 0 ≡ false
+  -- a file of three bytes; no numbers of a step where there are no levels; a count beyond a byte
+  pub file : fileIn (read 0) (76 ∷ 75 ∷ 83 ∷ 0 ∷ 1 ∷ []) ≡ 76 ∷ 75 ∷ 83 ∷ []
+  pub no-step-numbers : stepNumbersIn (read 0) [] ≡ []
+  pub count-lent : recipeCountIn (read 0) ≡ 255
   pub marked : levelOfMark true ≡ pos 1
   pub two-odd : badMark (pos 2) ≡ true
   pub one-mark : badMark (pos 1) ≡ false

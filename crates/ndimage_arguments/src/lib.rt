@@ -5,8 +5,6 @@ use border::BorderMode;
 use border::BorderModeF64;
 use border::PadMode;
 use kernel3d::Kernel3d;
-use ndimage_read::requests::HELP;
-use ndimage_read::requests::KERNEL3D;
 use ndimage_read::requests::PAD;
 use ndimage_read::requests::PAD_TO;
 use ndimage_read::requests::SYMMETRY;
@@ -16,12 +14,16 @@ use ndimage_read::state::CELLS;
 use ndimage_read::state::CONSTANT_AT;
 use ndimage_read::state::COUNT;
 use ndimage_read::state::DATA_AT;
+use ndimage_read::state::FILE;
 use ndimage_read::state::Floats;
 use ndimage_read::state::KERNEL_AT;
 use ndimage_read::state::LENGTHS_AT;
 use ndimage_read::state::ORIGIN_AT;
 use ndimage_read::state::PADS_AT;
+use ndimage_read::state::RECIPE_COUNT;
 use ndimage_read::state::SIDES;
+use ndimage_read::state::STEPS;
+use ndimage_read::state::STEPS_AT;
 use ndimage_read::state::State;
 use ndimage_read::state::WEIGHTS_AT;
 use pad_spec::Pair;
@@ -33,6 +35,7 @@ ghost use lib.ListN.{length, getD};
 ghost use Rattle.ndimage_arguments.specs.Arguments.{cellsFrom, shapeIn, sidesIn, dataIn, weightsIn, codeIn};
 ghost use Rattle.ndimage_arguments.specs.Arguments.{borderIn, borderInF64, paddingIn, padsIn, mostOut, isWhole};
 ghost use Rattle.ndimage_arguments.specs.Arguments.{levelOfMark, badMark, marksBy, levelsBy, kernelLevels};
+ghost use Rattle.ndimage_arguments.specs.Arguments.{fileIn, recipeCountIn, stepNumbersIn};
 ghost use Rattle.numbers.specs.Lists.{anyOf};
 ghost use Rattle.ndimage_arguments.specs.Rows.{NdimageArgumentsRows};
 
@@ -75,6 +78,15 @@ pub fn floats(cells: &[f64], from: usize, n: usize) -> &[f64]
 
 // The same of marks.
 pub fn marks(cells: &[bool], from: usize, n: usize) -> &[bool]
+    ensures { λ r. ⌜ now r ≡ cellsFrom from n (now (cells .entry)) ⌝ }
+{
+    let start = lent(from, cells.len());
+    let count = lent(n, cells.len() - start);
+    &cells[start..start + count]
+}
+
+// The same of bytes.
+pub fn bytes(cells: &[u8], from: usize, n: usize) -> &[u8]
     ensures { λ r. ⌜ now r ≡ cellsFrom from n (now (cells .entry)) ⌝ }
 {
     let start = lent(from, cells.len());
@@ -132,6 +144,27 @@ pub fn weights_f64<'a>(state: &State, cells: &'a [f64]) -> &'a [f64]
     ensures { λ r. ⌜ now r ≡ weightsIn (now (state .entry)) (now (cells .entry)) ⌝ }
 {
     floats(cells, WEIGHTS_AT, lent(state[COUNT], 344))
+}
+
+// The bytes of a recipe file.
+pub fn file<'a>(state: &State, cells: &'a [u8]) -> &'a [u8]
+    ensures { λ r. ⌜ now r ≡ fileIn (now (state .entry)) (now (cells .entry)) ⌝ }
+{
+    bytes(cells, 0, state[FILE])
+}
+
+// The numbers of the steps, six of each.
+pub fn step_numbers<'a>(state: &State, cells: &'a [i64]) -> &'a [i64]
+    ensures { λ r. ⌜ now r ≡ stepNumbersIn (now (state .entry)) (now (cells .entry)) ⌝ }
+{
+    levels(cells, STEPS_AT, 6 * lent(state[STEPS], 16))
+}
+
+// The count that is written to a recipe file; one beyond a byte as 255, which has the same refusal.
+pub fn recipe_count(state: &State) -> u8
+    ensures { λ r. ⌜ r ≡ recipeCountIn (now (state .entry)) ⌝ }
+{
+    lent(state[RECIPE_COUNT], 255) as u8
 }
 
 // The code that a word was read as.
@@ -213,13 +246,7 @@ pub fn is_whole(request: usize, form: usize) -> bool
     if form == 1 {
         return false;
     }
-    if request == SYMMETRY {
-        return false;
-    }
-    if request == KERNEL3D {
-        return false;
-    }
-    request != HELP
+    request < SYMMETRY
 }
 
 // 1 for true, 0 for false.

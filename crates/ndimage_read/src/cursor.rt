@@ -14,7 +14,7 @@ ghost use mathlib.Core.Path.{_≡_};
 ghost use Rattle.ndimage_spec.specs.Reading.{inputEnded, noLine, endBehind};
 
 // How many bytes of a token are kept, in front of what was read.
-const KEPT: usize = 64;
+const KEPT: usize = 256;
 
 // In a token or before it; the token is whole; the line has ended; the input has ended.
 const OPEN: usize = 0;
@@ -117,7 +117,7 @@ fn advance(buffer: &mut Buffer, state: &mut State) -> usize {
         fill(buffer, state);
         return NONE;
     }
-    if at >= 65600 {
+    if at >= 65792 {
         state[STAGE] = INPUT_END;
         return NONE;
     }

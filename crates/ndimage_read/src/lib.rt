@@ -2,7 +2,7 @@
 //
 // What parts a request has, and what is read for each, is promised (requests.rt, parts.rt), and so is what a token
 // is. These promise nothing but that they are safe and end: `bring` and `fill`, which read; and what steps the state,
-// the levels and the floats that are lent: in cursor.rt `begin_line`, `faulty`, `lengthen`, `advance`, `keep`,
+// the levels, the floats and the file that are lent: in cursor.rt `begin_line`, `faulty`, `lengthen`, `advance`, `keep`,
 // `take`, `turn`, `run`, `next`, `expect_end`, `measure` and `finish`, in number.rt `keep` and what begins with
 // `take_`, and here `clear`, `begin`, `open`, `take`, `read_token`, `read_part`, `read_parts` and `read`.
 use ndimage_spec::Kind;
@@ -10,6 +10,7 @@ use ndimage_spec::Part;
 use state::Buffer;
 use state::FAULT;
 use state::FORM;
+use state::File;
 use state::Floats;
 use state::LAST;
 use state::LEN;
@@ -19,6 +20,7 @@ use state::State;
 use words::Found;
 
 pub mod cursor;
+mod hexadecimal;
 mod number;
 mod parts;
 pub mod requests;
@@ -56,7 +58,14 @@ fn open(buffer: &mut Buffer, state: &mut State, table: &[u8]) {
 }
 
 // A token of a kind that is no float, to its slot.
-fn take(buffer: &[u8], state: &mut State, levels: &mut Levels, kind: Kind, at: usize) {
+fn take(
+    buffer: &[u8],
+    state: &mut State,
+    levels: &mut Levels,
+    file: &mut File,
+    kind: Kind,
+    at: usize,
+) {
     match kind {
         Kind::Form => number::take_word(buffer, state, kind, at),
         Kind::Border => number::take_word(buffer, state, kind, at),
@@ -65,6 +74,7 @@ fn take(buffer: &[u8], state: &mut State, levels: &mut Levels, kind: Kind, at: u
         Kind::Count => number::take_count(buffer, state, at),
         Kind::Whole => number::take_level(buffer, state, levels, at),
         Kind::Level => number::take_level(buffer, state, levels, at),
+        Kind::Bytes => number::take_bytes(buffer, state, file, at),
     }
 }
 
@@ -74,6 +84,7 @@ fn read_token(
     state: &mut State,
     levels: &mut Levels,
     floats: &mut Floats,
+    file: &mut File,
     part: Part,
     i: usize,
 ) {
@@ -88,7 +99,7 @@ fn read_token(
         number::take_float(buffer, state, floats, at);
         return;
     }
-    take(buffer, state, levels, kind, at);
+    take(buffer, state, levels, file, kind, at);
 }
 
 // The tokens of a part.
@@ -97,6 +108,7 @@ fn read_part(
     state: &mut State,
     levels: &mut Levels,
     floats: &mut Floats,
+    file: &mut File,
     part: Part,
 ) {
     let rule = part.1;
@@ -106,7 +118,7 @@ fn read_part(
         if state[FAULT] != 0 {
             break;
         }
-        read_token(buffer, state, levels, floats, part, i);
+        read_token(buffer, state, levels, floats, file, part, i);
         i += 1;
     }
 }
@@ -117,6 +129,7 @@ fn read_parts(
     state: &mut State,
     levels: &mut Levels,
     floats: &mut Floats,
+    file: &mut File,
     letters: &[u8],
 ) {
     let mut i = 0;
@@ -124,16 +137,29 @@ fn read_parts(
         if state[FAULT] != 0 {
             break;
         }
-        read_part(buffer, state, levels, floats, parts::part_of(letters[i]));
+        read_part(
+            buffer,
+            state,
+            levels,
+            floats,
+            file,
+            parts::part_of(letters[i]),
+        );
         i += 1;
     }
 }
 
 // A line: its request, with the parts that it has.
-pub fn read(buffer: &mut Buffer, state: &mut State, levels: &mut Levels, floats: &mut Floats) {
+pub fn read(
+    buffer: &mut Buffer,
+    state: &mut State,
+    levels: &mut Levels,
+    floats: &mut Floats,
+    file: &mut File,
+) {
     let table = requests::table();
     open(buffer, state, &table);
     let letters = words::rest_at(&table, state[REQUEST]);
-    read_parts(buffer, state, levels, floats, letters);
+    read_parts(buffer, state, levels, floats, file, letters);
     cursor::finish(buffer, state);
 }

@@ -1,7 +1,9 @@
 // Numbers out of tokens, each straight to its slot in what is lent. What is taken steps the state, or levels and
 // floats: only the token itself is promised.
 use crate::cursor;
+use crate::hexadecimal;
 use crate::parts;
+use crate::state::File;
 use crate::state::Floats;
 use crate::state::LAST;
 use crate::state::LEN;
@@ -19,7 +21,7 @@ ghost use Rattle.ndimage_spec.specs.Reading.{tokenIn};
 pub(crate) fn shown(buffer: &[u8], len: usize) -> &[u8]
     ensures { λ r. ⌜ now r ≡ tokenIn (now (buffer .entry)) len ⌝ }
 {
-    if len > 64 {
+    if len > 256 {
         return &buffer[0..0];
     }
     if len > buffer.len() {
@@ -46,7 +48,7 @@ pub(crate) fn take_count(buffer: &[u8], state: &mut State, at: usize) {
 
 pub(crate) fn take_level(buffer: &[u8], state: &mut State, levels: &mut Levels, at: usize) {
     if let Signed::Is(z) = text::read_signed(shown(buffer, state[LEN])) {
-        if at < 41308 {
+        if at < 41404 {
             levels[at] = z;
         }
         return;
@@ -62,6 +64,22 @@ pub(crate) fn take_float(buffer: &[u8], state: &mut State, floats: &mut Floats, 
         return;
     }
     crate::cursor::faulty(state, ndimage_write::NUMBER);
+}
+
+// The bytes of a token to the file, and their number to a slot.
+pub(crate) fn take_bytes(buffer: &[u8], state: &mut State, file: &mut File, at: usize) {
+    let len = state[LEN];
+    if len > 256 {
+        crate::cursor::faulty(state, ndimage_write::MANY_BYTES);
+        return;
+    }
+    let token = shown(buffer, len);
+    if crate::hexadecimal::bad_bytes(token) {
+        crate::cursor::faulty(state, ndimage_write::BYTES);
+        return;
+    }
+    crate::hexadecimal::fill_bytes(token, file);
+    keep(state, at, crate::hexadecimal::byte_count(token));
 }
 
 // The code of a word.

@@ -6,6 +6,7 @@ use crate::state::CELLS;
 use crate::state::CONSTANT_AT;
 use crate::state::COUNT;
 use crate::state::DATA_AT;
+use crate::state::FILE;
 use crate::state::FORM;
 use crate::state::HELD_AT;
 use crate::state::KERNEL_AT;
@@ -14,9 +15,12 @@ use crate::state::ORIGIN_AT;
 use crate::state::OUT;
 use crate::state::PADS_AT;
 use crate::state::PAIRS;
+use crate::state::RECIPE_COUNT;
 use crate::state::SECOND;
 use crate::state::SIDES;
 use crate::state::SIZE;
+use crate::state::STEPS;
+use crate::state::STEPS_AT;
 use crate::state::WEIGHTS_AT;
 use ndimage_spec::Kind;
 use ndimage_spec::Part;
@@ -57,6 +61,10 @@ pub(crate) fn part_of(letter: u8) -> Part
         b'E' => Part(Kind::Count, Times::Once, OUT, 1),
         b'H' => Part(Kind::Whole, Times::Last, HELD_AT, 32769),
         b'T' => Part(Kind::Count, Times::Once, SECOND, 1),
+        b'G' => Part(Kind::Bytes, Times::Once, FILE, 1),
+        b'J' => Part(Kind::Count, Times::Once, RECIPE_COUNT, 1),
+        b'Y' => Part(Kind::Count, Times::Once, STEPS, 1),
+        b'U' => Part(Kind::Whole, Times::SixLast, STEPS_AT, 96),
         _ => Part(Kind::Count, Times::Once, NOWHERE, 0),
     }
 }
@@ -70,6 +78,15 @@ fn twice(n: usize) -> usize
     2 * n
 }
 
+fn six_times(n: usize) -> usize
+    ensures { λ r. ⌜ r ≡ min (6 * n) 18446744073709551615 ⌝ }
+{
+    if n > 3074457345618258602 {
+        return NOWHERE;
+    }
+    6 * n
+}
+
 // How many tokens a part has.
 pub(crate) fn times(rule: Times, last: usize) -> usize
     ensures { λ r. ⌜ r ≡ timesOf rule last ⌝ }
@@ -78,6 +95,7 @@ pub(crate) fn times(rule: Times, last: usize) -> usize
         Times::Once => 1,
         Times::Last => last,
         Times::TwiceLast => twice(last),
+        Times::SixLast => six_times(last),
     }
 }
 
@@ -93,6 +111,7 @@ pub(crate) fn is_float(kind: Kind, form: usize) -> bool
         Kind::Count => false,
         Kind::Whole => false,
         Kind::Level => form == 1,
+        Kind::Bytes => false,
     }
 }
 
@@ -121,6 +140,7 @@ pub(crate) fn code_of(kind: Kind, token: &[u8]) -> Found
         Kind::Count => Found::Nothing,
         Kind::Whole => Found::Nothing,
         Kind::Level => Found::Nothing,
+        Kind::Bytes => Found::Nothing,
     }
 }
 
@@ -136,6 +156,7 @@ pub(crate) fn fault_of(kind: Kind) -> usize
         Kind::Count => ndimage_write::NUMBER,
         Kind::Whole => ndimage_write::NUMBER,
         Kind::Level => ndimage_write::NUMBER,
+        Kind::Bytes => ndimage_write::BYTES,
     }
 }
 

@@ -32,14 +32,20 @@ pub const PAD_TO: usize = 13;
 
 pub const MEDIAN: usize = 14;
 
-pub const SYMMETRY: usize = 15;
+pub const PLAY: usize = 15;
 
-pub const KERNEL3D: usize = 16;
+pub const SYMMETRY: usize = 16;
 
-pub const HELP: usize = 17;
+pub const KERNEL3D: usize = 17;
+
+pub const READ_RECIPE: usize = 18;
+
+pub const WRITE_RECIPE: usize = 19;
+
+pub const HELP: usize = 20;
 
 // A line for each request: its word, and the letters of its parts in the order of reading, which parts.rt explains.
-pub(crate) fn table() -> [u8; 370]
+pub(crate) fn table() -> [u8; 415]
     ensures { λ r. ⌜ RequestTable r ⌝ }
 {
     *b"\
@@ -58,7 +64,10 @@ sobel ALCDXBVET
 pad ALCDPVRQE
 pad_to ALCDPVRQEH
 median_filter ALCDE
+play GALCDET
 symmetry FCD
 kernel3d M
+read_recipe G
+write_recipe JYUE
 help \n"
 }

@@ -3,14 +3,17 @@
 // and the places where lists start.
 
 // The token in front, what was read behind it.
-pub type Buffer = [u8; 65600];
+pub type Buffer = [u8; 65792];
 
 // The levels of a grid, its weights, a constant, an origin and what an output holds before, each with one cell more
-// than any call takes.
-pub type Levels = [i64; 41308];
+// than any call takes; then the numbers of 16 steps.
+pub type Levels = [i64; 41404];
 
 // The floats of a grid, its weights and a constant.
 pub type Floats = [f64; 8538];
+
+// The bytes of a file, as many as a token can stand for.
+pub type File = [u8; 128];
 
 pub type State = [usize; 48];
 
@@ -61,12 +64,19 @@ pub const OUT: usize = 17;
 
 pub const SECOND: usize = 18;
 
+pub const FILE: usize = 19;
+
 // Where lists of counts start.
 pub const LENGTHS_AT: usize = 20;
 
 pub const KERNEL_AT: usize = 24;
 
 pub const PADS_AT: usize = 28;
+
+// The count that is written to a file, and how many steps follow.
+pub const RECIPE_COUNT: usize = 34;
+
+pub const STEPS: usize = 35;
 
 // Where the lists and single levels start among the levels; the floats start at the same places.
 pub const DATA_AT: usize = 0;
@@ -78,3 +88,5 @@ pub const CONSTANT_AT: usize = 8537;
 pub const ORIGIN_AT: usize = 8538;
 
 pub const HELD_AT: usize = 8539;
+
+pub const STEPS_AT: usize = 41308;

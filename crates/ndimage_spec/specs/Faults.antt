@@ -11,7 +11,7 @@ use lib.Dec.{eqb, ltb}
 use lib.ListN.{length, getD}
 use Rattle.words.specs.Words.{wordList}
 use Rattle.ndimage_spec.specs.declared.Kind.{Kind}
-use Rattle.ndimage_spec.specs.declared.Kind.the-variants.{Form, Border, Padding, Kernel, Count, Whole, Level}
+use Rattle.ndimage_spec.specs.declared.Kind.the-variants.{Form, Border, Padding, Kernel, Count, Whole, Level, Bytes}
 
 abbrev pub faultTexts : List (List ℕ)
 faultTexts = wordList (
@@ -27,6 +27,10 @@ faultTexts = wordList (
     ∷ "line too long"
     ∷ "a cell of a mask is neither 0 nor 1"
     ∷ "empty line"
+    ∷ "not bytes in hexadecimal: "
+    ∷ "too many bytes"
+    ∷ "too many steps"
+    ∷ "a number of a step is beyond its field"
     ∷ [])
 
 abbrev pub textOf : ℕ → List ℕ
@@ -43,6 +47,7 @@ faultOf Kernel = 7
 faultOf Count = 4
 faultOf Whole = 4
 faultOf Level = 4
+faultOf Bytes = 12
 
 abbrev pub visibleOf : ℕ → ℕ
 visibleOf x = cond (ltb x 33 || ltb 126 x) 63 x

@@ -3,4 +3,5 @@ pub mod Requests
 pub mod Parts
 pub mod Faults
 pub mod Reading
+pub mod Hexadecimal
 pub mod Rows

@@ -1,5 +1,5 @@
 -- What is read for a part of a request: tokens of which kind, how many, and where the numbers go. Counts and words go
--- to slots of the reader's state, levels to places among the levels or floats.
+-- to slots of the reader's state, levels to places among the levels or floats, and of bytes their number to a slot.
 --   nowhere             the slot of a number that is not kept: beyond every array
 --   partTable           a line for each part, by its letter
 --   partOf letter       its part; of a letter that names none, one whose number is not kept
@@ -16,9 +16,9 @@ use lib.Dec.{eqb, ltb}
 use Rattle.words.specs.Words.{wordList}
 use Rattle.codes.specs.Words.{borderWords, padWords, kernelWords}
 use Rattle.ndimage_spec.specs.declared.Kind.{Kind}
-use Rattle.ndimage_spec.specs.declared.Kind.the-variants.{Form, Border, Padding, Kernel, Count, Whole, Level}
+use Rattle.ndimage_spec.specs.declared.Kind.the-variants.{Form, Border, Padding, Kernel, Count, Whole, Level, Bytes}
 use Rattle.ndimage_spec.specs.declared.Times.{Times}
-use Rattle.ndimage_spec.specs.declared.Times.the-variants.{Once, Last, TwiceLast}
+use Rattle.ndimage_spec.specs.declared.Times.the-variants.{Once, Last, TwiceLast, SixLast}
 use Rattle.ndimage_spec.specs.declared.Part.{Part}
 
 abbrev pub nowhere : ℕ
@@ -59,6 +59,11 @@ partTable =
     ∷ ("E", part Count Once 17 1)
     ∷ ("H", part Whole Last 8539 32769)
     ∷ ("T", part Count Once 18 1)
+    -- the bytes of a recipe file; the count that is written to one, how many steps follow, and their numbers
+    ∷ ("G", part Bytes Once 19 1)
+    ∷ ("J", part Count Once 34 1)
+    ∷ ("Y", part Count Once 35 1)
+    ∷ ("U", part Whole SixLast 41308 96)
     ∷ []
 
 abbrev pub partIn : List (Char × Part) → ℕ → Part
@@ -72,6 +77,7 @@ abbrev pub timesOf : Times → ℕ → ℕ
 timesOf Once last = 1
 timesOf Last last = last
 timesOf TwiceLast last = min (2 * last) nowhere
+timesOf SixLast last = min (6 * last) nowhere
 
 abbrev pub isFloat : Kind → ℕ → Bool
 isFloat Form form = false
@@ -81,6 +87,7 @@ isFloat Kernel form = false
 isFloat Count form = false
 isFloat Whole form = false
 isFloat Level form = eqb form 1
+isFloat Bytes form = false
 
 abbrev pub slotOf : ℕ → ℕ → ℕ → ℕ
 slotOf start most i = cond (ltb i most) (min (start + i) nowhere) nowhere
@@ -96,6 +103,7 @@ wordsFor Kernel = kernelWords
 wordsFor Count = []
 wordsFor Whole = []
 wordsFor Level = []
+wordsFor Bytes = []
 
 abbrev pub lastAfter : ℕ → ℕ
 lastAfter c = cond (eqb c 0) 1 0

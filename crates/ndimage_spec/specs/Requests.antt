@@ -30,8 +30,11 @@ requestTable =
     ∷ ("pad", "ALCDPVRQE")
     ∷ ("pad_to", "ALCDPVRQEH")
     ∷ ("median_filter", "ALCDE")
+    ∷ ("play", "GALCDET")
     ∷ ("symmetry", "FCD")
     ∷ ("kernel3d", "M")
+    ∷ ("read_recipe", "G")
+    ∷ ("write_recipe", "JYUE")
     ∷ ("help", "")
     ∷ []
 

@@ -17,6 +17,8 @@ pub enum Kind {
     Whole,
     // A signed number, or a float under f.
     Level,
+    // Bytes in hexadecimal.
+    Bytes,
 }
 
 // How many tokens a part has.
@@ -26,6 +28,8 @@ pub enum Times {
     Last,
     // Twice as many.
     TwiceLast,
+    // Six times as many.
+    SixLast,
 }
 
 // What is read for a part: of which kind and how often; then the slot of its first number, and how many of its

@@ -6,6 +6,7 @@ pub fn show_help() {
     filters();
     sums();
     others();
+    recipes();
 }
 
 // What the names stand for.
@@ -17,6 +18,8 @@ BORDER = constant LEVEL, mirror, nearest, reflect or wrap
 MODE = constant LEVEL, edge, maximum, mean, median, minimum, reflect, symmetric or wrap
 PAIRS = number, left and right of each; OUT, SECOND = how many cells are lent
 levels are whole, or with f 16 hexadecimal digits of the bits, or nan
+FILE = the bytes of a recipe file, two hexadecimal digits each, or -
+STEPS = number, then of each step: kind, axis, length, origin, border, constant
 ",
     );
 }
@@ -63,6 +66,19 @@ symmetry i|f WEIGHTS:LIST
     symmetry i 3 1 2 1
 kernel3d star|ball|full
     kernel3d star
+",
+    );
+}
+
+fn recipes() {
+    say(
+        b"\
+read_recipe FILE
+    read_recipe 4c4b5300010100000200020000
+write_recipe COUNT STEPS LENT (how many bytes are lent)
+    write_recipe 1 1 0 0 2 0 2 0 13
+play FILE GRID OUT SECOND
+    play 4c4b5300010100000200020000 1 3 3 4 2 7 3 3
 ",
     );
 }

@@ -1,7 +1,7 @@
 // What the program `ndimage` writes. Answers go through a buffer, which is written out when it is full and at the end
 // of the line. No contract can say what is written, so these promise nothing but that they are safe and end: `flush`,
-// `make_room`, `put_level`, `put_level_f64`, `between`, `end`, `levels`, `levels_f64`, `say`, `refused`, `echo`,
-// `error`, and `show_help` with what it calls.
+// `make_room`, `put_level`, `put_level_f64`, `put_byte`, `between`, `end`, `levels`, `levels_f64`, `bytes`, `say`,
+// `refused`, `echo`, `error`, and `show_help` with what it calls.
 ghost use mathlib.Core.Path.{_≡_};
 ghost use mathlib.Core.Bool.{cond};
 ghost use Prim.Native.Nat.{_+_, _-_};
@@ -37,6 +37,14 @@ pub const LONG: usize = 9;
 pub const MASK: usize = 10;
 
 pub const EMPTY: usize = 11;
+
+pub const BYTES: usize = 12;
+
+pub const MANY_BYTES: usize = 13;
+
+pub const MANY_STEPS: usize = 14;
+
+pub const FIELD: usize = 15;
 
 // Writes out the first `at` bytes.
 fn flush(answer: &[u8], at: usize) {
@@ -98,6 +106,18 @@ fn put_level_f64(answer: &mut [u8], at: usize, x: f64) -> usize {
     sum(here, n)
 }
 
+fn put_byte(answer: &mut [u8], at: usize, byte: u8) -> usize {
+    if answer.len() < 2 {
+        return at;
+    }
+    let here = make_room(answer, at);
+    if here > answer.len() - 2 {
+        return here;
+    }
+    text::spell(byte as u64, 16, 2, &mut answer[here..]);
+    sum(here, 2)
+}
+
 // The byte between level i and the one before it.
 fn between(answer: &mut [u8], at: usize, i: usize) -> usize {
     if i == 0 {
@@ -134,6 +154,18 @@ pub fn levels_f64(cells: &[f64]) {
     while i < cells.len() {
         at = between(&mut answer, at, i);
         at = put_level_f64(&mut answer, at, cells[i]);
+        i += 1;
+    }
+    end(&mut answer, at);
+}
+
+// Bytes, two hexadecimal digits each.
+pub fn bytes(cells: &[u8]) {
+    let mut answer = [0u8; 4096];
+    let mut at = 0;
+    let mut i = 0;
+    while i < cells.len() {
+        at = put_byte(&mut answer, at, cells[i]);
         i += 1;
     }
     end(&mut answer, at);
@@ -182,7 +214,7 @@ fn echo(token: &[u8], len: usize) {
 }
 
 // The texts of the faults, a line each, from 0 on, which is no fault.
-fn texts() -> [u8; 186]
+fn texts() -> [u8; 282]
     ensures { λ r. ⌜ linesOf r ≡ faultTexts ⌝ }
 {
     *b"\
@@ -197,7 +229,11 @@ unknown kernel: \n\
 too many weights\n\
 line too long\n\
 a cell of a mask is neither 0 nor 1\n\
-empty line\n"
+empty line\n\
+not bytes in hexadecimal: \n\
+too many bytes\n\
+too many steps\n\
+a number of a step is beyond its field\n"
 }
 
 // Whether the token that is wrong stands behind a text: behind one that ends in a space.

@@ -7,14 +7,34 @@ use native.Mathlib.Omega.{arith}
 use mathlib.Core.Path.{_≡_, refl, sym, ap, _∙_}
 use mathlib.Core.Bool.{Bool, true, false, _||_, cond}
 use mathlib.Core.List.{List, [], _∷_}
-use borrow.Author.Tests.{le-leb, lt-leb}
-use lib.Dec.{leb}
+use borrow.Author.Tests.{le-leb, lt-leb, ltb-true}
+use lib.Dec.{leb, ltb}
 use lib.ListN.{length, getD, drop}
 use lib.Seq.{drop-cons, drop-length}
 use Rattle.numbers.specs.Lists.{anyOf}
 use Rattle.text_spec.specs.Reading.{digitOf, noDigit, valueOf, numeralFrom}
 use Rattle.text_spec.specs.declared.Unsigned.{Unsigned}
 use Rattle.text_spec.specs.declared.Unsigned.the-variants as Whole
+
+-- a byte that is no digit counts as 16
+pub digit-most : (x : ℕ) → digitOf x ≤ 16
+digit-most x = first (ltb x 48)
+  where
+    fourth : (t : Bool) → ltb x 103 ≡ t → cond t (x - 87) 16 ≤ 16
+    fourth true e = omega (arith, ltb-true x 103 e)
+    fourth false e = omega arith
+
+    third : (t : Bool) → cond t 16 (cond (ltb x 103) (x - 87) 16) ≤ 16
+    third true = omega arith
+    third false = fourth (ltb x 103) refl
+
+    second : (t : Bool) → ltb x 58 ≡ t → cond t (x - 48) (cond (ltb x 97) 16 (cond (ltb x 103) (x - 87) 16)) ≤ 16
+    second true e = omega (arith, ltb-true x 58 e)
+    second false e = third (ltb x 97)
+
+    first : (t : Bool) → cond t 16 (cond (ltb x 58) (x - 48) (cond (ltb x 97) 16 (cond (ltb x 103) (x - 87) 16))) ≤ 16
+    first true = omega arith
+    first false = second (ltb x 58) refl
 
 value-grows : (b n : ℕ) (t : List ℕ) → 0 < b → n ≤ valueOf b n t
 value-grows b n [] h = le-refl n

@@ -5,10 +5,10 @@ use Rattle.ndimage.proofs.main.Statement.{statement}
 use Rattle.ndimage.proofs.main.Tie as tie
 
 abbrev Inv-loop : tie.InvT-loop
-Inv-loop buffer₀ state₀ levels₀ floats₀ out₀ turns₀ buffer state levels floats out turns = Unit {0}
+Inv-loop buffer₀ state₀ levels₀ floats₀ file₀ out₀ turns₀ buffer state levels floats file out turns = Unit {0}
 
 abbrev μ-loop : tie.MeasureT-loop
-μ-loop buffer₀ state₀ levels₀ floats₀ out₀ turns₀ buffer state levels floats out turns = turns
+μ-loop buffer₀ state₀ levels₀ floats₀ file₀ out₀ turns₀ buffer state levels floats file out turns = turns
 
 loop-holds : tie.Need-loop-holds Inv-loop μ-loop
 loop-holds c = search needs

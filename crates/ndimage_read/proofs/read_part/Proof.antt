@@ -6,10 +6,10 @@ use Rattle.ndimage_read.proofs.read_part.Statement.{statement}
 use Rattle.ndimage_read.proofs.read_part.Tie as tie
 
 abbrev Inv-loop : tie.InvT-loop
-Inv-loop buffer₀ state₀ levels₀ floats₀ part times i₀ buffer state levels floats i = times < 2 ^ 64
+Inv-loop buffer₀ state₀ levels₀ floats₀ file₀ part times i₀ buffer state levels floats file i = times < 2 ^ 64
 
 abbrev μ-loop : tie.MeasureT-loop
-μ-loop buffer₀ state₀ levels₀ floats₀ part times i₀ buffer state levels floats i = times - i
+μ-loop buffer₀ state₀ levels₀ floats₀ file₀ part times i₀ buffer state levels floats file i = times - i
 
 element-copy-out-times : tie.Need-element-copy-out-times Inv-loop μ-loop
 element-copy-out-times c = search needs

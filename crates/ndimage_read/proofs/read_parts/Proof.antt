@@ -7,10 +7,10 @@ use Rattle.ndimage_read.proofs.read_parts.Statement.{statement}
 use Rattle.ndimage_read.proofs.read_parts.Tie as tie
 
 abbrev Inv-loop : tie.InvT-loop
-Inv-loop buffer₀ state₀ levels₀ floats₀ letters i₀ buffer state levels floats i = Unit {0}
+Inv-loop buffer₀ state₀ levels₀ floats₀ file₀ letters i₀ buffer state levels floats file i = Unit {0}
 
 abbrev μ-loop : tie.MeasureT-loop
-μ-loop buffer₀ state₀ levels₀ floats₀ letters i₀ buffer state levels floats i = length letters - i
+μ-loop buffer₀ state₀ levels₀ floats₀ file₀ letters i₀ buffer state levels floats file i = length letters - i
 
 loop-holds : tie.Need-loop-holds Inv-loop μ-loop
 loop-holds c = search needs

@@ -1,13 +1,14 @@
 -- `rows` meets its contract: every row holds by computing.
 -- Assumes nothing.
 use mathlib.Core.Path.{refl}
+use Rattle.numbers.specs.Lists.{tabulate}
 use Rattle.words.specs.Words.{placeIn}
 use Rattle.ndimage_spec.specs.Parts.{partOf}
 use Rattle.ndimage_spec.proofs.rows.Statement.{statement}
 use Rattle.ndimage_spec.proofs.rows.Tie as tie
 
 returns : tie.Need-returns
-unfolding placeIn partOf
+unfolding placeIn partOf tabulate
 returns c = record {
   correlate = refl;
   convolve = refl;
@@ -24,8 +25,11 @@ returns c = record {
   pad = refl;
   pad-to = refl;
   median = refl;
+  play = refl;
   symmetry = refl;
   kernel3d = refl;
+  read-recipe = refl;
+  write-recipe = refl;
   help = refl;
   parts-no-word = refl;
   longer = refl;
@@ -34,7 +38,9 @@ returns c = record {
   minimum1d-parts = refl;
   sobel-parts = refl;
   pad-to-parts = refl;
+  play-parts = refl;
   symmetry-parts = refl;
+  write-recipe-parts = refl;
   help-parts = refl;
   no-request = refl;
   lengths-part = refl;
@@ -44,10 +50,13 @@ returns c = record {
   constant-part = refl;
   origin-part = refl;
   pads-part = refl;
+  file-part = refl;
+  steps-part = refl;
   no-part = refl;
   three-lengths = refl;
   two-pairs = refl;
   most-pairs = refl;
+  two-steps = refl;
   after-constant = refl;
   after-mirror = refl;
   level-f = refl;
@@ -65,6 +74,8 @@ returns c = record {
   no-kernel = refl;
   no-form = refl;
   empty = refl;
+  no-bytes = refl;
+  many-steps = refl;
   mode-shown = refl;
   missing-bare = refl;
   tab-shown = refl;
@@ -77,6 +88,16 @@ returns c = record {
   last-line = refl;
   behind-last = refl;
   empty-line = refl;
+  two-bytes = refl;
+  last-byte = refl;
+  short-list = refl;
+  good-bytes = refl;
+  no-bytes-dash = refl;
+  dash-count = refl;
+  two-count = refl;
+  odd-digit = refl;
+  large-letter = refl;
+  two-dashes = refl;
 }
 
 pub rows-spec : {M : Type 1} → statement M

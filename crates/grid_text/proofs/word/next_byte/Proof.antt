@@ -3,7 +3,7 @@
 use native.Mathlib.Omega.{arith}
 use mathlib.Core.Path.{refl, sym, _∙_}
 use borrow.Author.Needs.{needs}
-use Rattle.grid_text_spec.proofs.Bytes.{digit-most}
+use Rattle.text_spec.proofs.Numerals.{digit-most}
 use Rattle.grid_text_spec.specs.Machine.{nextByte}
 use Rattle.grid_text.proofs.word.next_byte.Statement.{statement}
 use Rattle.grid_text.proofs.word.next_byte.Tie as tie

@@ -42,6 +42,9 @@ enum-told-6 c = search needs
 enum-told-7 : tie.Need-enum-told-7
 enum-told-7 c = search needs
 
+enum-told-8 : tie.Need-enum-told-8
+enum-told-8 c = search needs
+
 returns : tie.Need-returns
 unfolding columnFrom
 returns c = rw (c .before .before .enum-told .given .1) (c .find-word .ensures)
@@ -67,6 +70,10 @@ returns-7 : tie.Need-returns-7
 unfolding placeIn
 returns-7 c = rw (c .enum-told7 .given .1) refl
 
+returns-8 : tie.Need-returns-8
+unfolding placeIn
+returns-8 c = rw (c .enum-told8 .given .1) refl
+
 pub code-of-spec : {M : Type 1} → statement M
 code-of-spec =
     tie.close
@@ -83,10 +90,12 @@ code-of-spec =
     enum-told-5
     enum-told-6
     enum-told-7
+    enum-told-8
     returns
     returns-2
     returns-3
     returns-4
     returns-5
     returns-6
-    returns-7)
+    returns-7
+    returns-8)

@@ -91,7 +91,23 @@ unfolding partOf
 returns-21 c = rw (c .match .keys21) refl
 
 returns-22 : tie.Need-returns-22
-returns-22 c = sym (part-none (c .before .args .letter) (c .match .rest))
+unfolding partOf
+returns-22 c = rw (c .match .keys22) refl
+
+returns-23 : tie.Need-returns-23
+unfolding partOf
+returns-23 c = rw (c .match .keys23) refl
+
+returns-24 : tie.Need-returns-24
+unfolding partOf
+returns-24 c = rw (c .match .keys24) refl
+
+returns-25 : tie.Need-returns-25
+unfolding partOf
+returns-25 c = rw (c .match .keys25) refl
+
+returns-26 : tie.Need-returns-26
+returns-26 c = sym (part-none (c .before .args .letter) (c .match .rest))
 
 pub part-of-spec : {M : Type 1} → statement M
 part-of-spec =
@@ -118,4 +134,8 @@ part-of-spec =
     returns-19
     returns-20
     returns-21
-    returns-22)
+    returns-22
+    returns-23
+    returns-24
+    returns-25
+    returns-26)
