@@ -147,7 +147,7 @@ static void recipes(void) {
     const int64_t data[] = {4, 2, 7};
     const size_t shape[] = {3};
     int64_t second[3] = {5, 5, 5}, out[3] = {7, 7, 7};
-    r = suvvokal_play(file, LEN(file), data, LEN(data), shape, LEN(shape), out, LEN(out), second, LEN(second));
+    r = suvvokal_play(file, LEN(file), data, LEN(data), shape, LEN(shape), second, LEN(second), out, LEN(out));
     show("play", r, out, LEN(out));
     show("play, the second grid", r, second, LEN(second));
 
@@ -158,7 +158,7 @@ static void recipes(void) {
     const int64_t fields[] = {0, 0, 256, 0, 2, 0};
     r = suvvokal_write_recipe(1, fields, LEN(fields), written, 13);
     show_bytes("refused, a length of 256", r, written, LEN(written));
-    r = suvvokal_play(written, LEN(written), data, LEN(data), shape, LEN(shape), out, LEN(out), second, LEN(second));
+    r = suvvokal_play(written, LEN(written), data, LEN(data), shape, LEN(shape), second, LEN(second), out, LEN(out));
     show("refused, a step of 255 cells", r, out, LEN(out));
 }
 

@@ -207,8 +207,8 @@ uint8_t suvvokal_write_recipe(uint8_t count, const int64_t *fields, size_t field
 
 /* Plays a recipe file over a grid: its steps one after the other, all judged before a cell changes. second is a second grid as long as data; an
  * accepted call leaves zeros in it. 4 2 7 under the one step 0 0 2 0 2 0 gives 4 2 2. */
-uint8_t suvvokal_play(const uint8_t *file, size_t file_len, const int64_t *data, size_t data_len, const size_t *shape, size_t axes, int64_t *out,
-                      size_t out_len, int64_t *second, size_t second_len);
+uint8_t suvvokal_play(const uint8_t *file, size_t file_len, const int64_t *data, size_t data_len, const size_t *shape, size_t axes, int64_t *second,
+                      size_t second_len, int64_t *out, size_t out_len);
 
 /* Reads a recipe file; a refused one leaves the recipe as it was. */
 static inline uint8_t suvvokal_recipe_read(const uint8_t *file, size_t file_len, struct suvvokal_recipe *recipe) {

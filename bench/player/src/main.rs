@@ -9,13 +9,6 @@ use random::Random;
 use suvvokal::BorderMode;
 use timing::Repeated;
 
-extern "C" {
-    fn suvvokal_play(
-        file: *const u8, file_len: usize, data: *const i64, data_len: usize, shape: *const usize, axes: usize, out: *mut i64, out_len: usize,
-        second: *mut i64, second_len: usize,
-    ) -> u8;
-}
-
 /// 64, 1,024 and 8,192 cells.
 const SHAPES: [&[usize]; 3] = [&[8, 8], &[32, 32], &[16, 16, 32]];
 const COUNTS: [usize; 3] = [1, 4, 16];
@@ -84,14 +77,7 @@ fn played(file: Vec<u8>, data: Vec<i64>, shape: &'static [usize]) -> Repeated {
     let (mut out, mut second) = (vec![0; data.len()], vec![0; data.len()]);
     Box::new(move |times| {
         for _ in 0..times {
-            // SAFETY: each pointer stands with the length of its own cells, and the two that are lent overlap nothing.
-            let number = unsafe {
-                suvvokal_play(
-                    file.as_ptr(), file.len(), data.as_ptr(), data.len(), shape.as_ptr(), shape.len(), out.as_mut_ptr(), out.len(),
-                    second.as_mut_ptr(), second.len(),
-                )
-            };
-            assert_eq!(number, 0);
+            suvvokal::play(&file, &data, shape, &mut second, &mut out).unwrap();
             std::hint::black_box(&mut out);
         }
         bits(&out)

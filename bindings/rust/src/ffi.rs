@@ -74,7 +74,7 @@ extern "C" {
     pub fn suvvokal_read_recipe(file: *const u8, file_len: usize, fields: *mut i64, fields_len: usize) -> u8;
     pub fn suvvokal_write_recipe(count: u8, fields: *const i64, fields_len: usize, out: *mut u8, out_len: usize) -> u8;
     pub fn suvvokal_play(
-        file: *const u8, file_len: usize, data: *const i64, data_len: usize, shape: *const usize, axes: usize, out: *mut i64, out_len: usize,
-        second: *mut i64, second_len: usize,
+        file: *const u8, file_len: usize, data: *const i64, data_len: usize, shape: *const usize, axes: usize, second: *mut i64,
+        second_len: usize, out: *mut i64, out_len: usize,
     ) -> u8;
 }

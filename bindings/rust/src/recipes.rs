@@ -145,8 +145,8 @@ pub fn play(file: &[u8], data: &[i64], shape: &[usize], second: &mut [i64], out:
     // SAFETY: as in `read_recipe`; second is borrowed alone too.
     answer(unsafe {
         ffi::suvvokal_play(
-            file.as_ptr(), file.len(), data.as_ptr(), data.len(), shape.as_ptr(), shape.len(), out.as_mut_ptr(), out.len(), second.as_mut_ptr(),
-            second.len(),
+            file.as_ptr(), file.len(), data.as_ptr(), data.len(), shape.as_ptr(), shape.len(), second.as_mut_ptr(), second.len(), out.as_mut_ptr(),
+            out.len(),
         )
     })
 }

@@ -47,8 +47,8 @@ pub extern "C" fn suvvokal_write_recipe(count: u8, fields: &[i64], out: &mut [u8
 // * `file` - the bytes of the file, whatever they are.
 // * `data` - the cells of the grid, in row-major order.
 // * `shape` - the length of each axis.
-// * `out` - as long as data; kept as it was where the call is refused.
 // * `second` - a second grid as long as data; an accepted call leaves zeros in it, a refused one what it held.
+// * `out` - as long as data; kept as it was where the call is refused.
 //
 // Refuses: 13 (mark), 14 (count), 15 (step), then 1 (shape), 2 (length), 3 (level), then the number of the first step
 // that its call refuses: 5 (kernel), 7 (origin), 8 (axis), 11 (reach). 4 2 7 under the one step 0 0 2 0 2 0 gives
@@ -58,8 +58,8 @@ pub extern "C" fn suvvokal_play(
     file: &[u8],
     data: &[i64],
     shape: &[usize],
-    out: &mut [i64],
     second: &mut [i64],
+    out: &mut [i64],
 ) -> u8
     ensures { λ r. ⌜ ScratchAnswers (pos 0) (playJudged (now (file .entry)) (now (shape .entry)) (now («data» .entry))
         (length (now (out .entry))) (length (now (second .entry))))
