@@ -16,14 +16,14 @@ use Rattle.array_spec.specs.Grid.{cellCount, lengthOf}
 use Rattle.array_spec.proofs.Judged.{PassedGrid, lent-same, grid-passed}
 use Rattle.border.specs.Border.{Border}
 use Rattle.border.specs.Modes.{badConstantBy}
-use Rattle.window.specs.Origin.{badOrigin}
-use Rattle.window.proofs.Origins.{pads-sum, kernel-accepted}
+use Rattle.window_spec.specs.Origin.{badOrigin}
+use Rattle.window_spec.proofs.Origins.{pads-sum, kernel-accepted}
 use Rattle.border.specs.Reach.{badPad}
 use Rattle.correlate_spec.specs.Kernel.{sidesOf, sideOf, kernelAnswer}
-use Rattle.window.specs.Window.{kernelLeft, kernelRight, appliedOrigin, badEitherPad, badKernelReach}
+use Rattle.window_spec.specs.Window.{kernelLeft, kernelRight, appliedOrigin, badEitherPad, badKernelReach}
 use Rattle.correlate_judge.specs.Judge.{badWeight, appliedWeights}
 use Rattle.correlate_judge.proofs.Applied.{applied-length, applied-weights}
-use Rattle.window.proofs.Changed.{applied-range}
+use Rattle.window_spec.proofs.Changed.{applied-range}
 use Rattle.correlate_grid.specs.Kernel.{KernelCallNeeds}
 use Rattle.correlate_judge.specs.KernelJudge.{kernelJudged}
 use Rattle.correlate_judge.proofs.Equal.{Equal, kernel-equal}

@@ -5,13 +5,13 @@ ghost use mathlib.Core.Bool.{true, false};
 ghost use lib.ListN.{length};
 ghost use Rattle.numbers.specs.Refusal.{refusalOf, Answers};
 ghost use Rattle.border.specs.Modes.{borderOf};
-ghost use Rattle.window.specs.Origin.{badOrigin};
+ghost use Rattle.window_spec.specs.Origin.{badOrigin};
 ghost use Rattle.correlate_spec.specs.Kernel.{sidesOf, kernelAnswer, correlateZ, convolveZ};
-ghost use Rattle.window.specs.Window.{kernelLeft, kernelRight};
+ghost use Rattle.window_spec.specs.Window.{kernelLeft, kernelRight};
 ghost use Rattle.correlate_grid.specs.Kernel.{KernelCallNeeds};
 ghost use Rattle.correlate_judge.specs.KernelJudge.{kernelJudged};
 use border::BorderMode;
-use window::Origin;
+use window_spec::Origin;
 
 // Fills out with the sums of every window of a kernel of equal sides; weights and origin are as they are applied.
 fn sum_windows(

@@ -18,7 +18,7 @@ use Rattle.border.specs.Border.{Border, constant, along}
 use Rattle.border.specs.Modes.{badConstantBy}
 use Rattle.correlate_spec.proofs.Computed.{read}
 use Rattle.correlate_judge.specs.Judge.{badWeight, appliedWeights}
-use Rattle.window.specs.Window.{appliedOrigin}
+use Rattle.window_spec.specs.Window.{appliedOrigin}
 use Rattle.correlate_judge.proofs.Applied.{applied-weights}
 use Rattle.correlate1d.proofs.Passed.{Passed, placed-accepted}
 use Rattle.correlate1d.specs.WeighNeeds.{tooLarge, ScaleNeeds, WeighNeeds}

@@ -18,12 +18,12 @@ use Rattle.array_spec.specs.Grid.{lengthOf}
 use Rattle.array_spec.proofs.Judged.{PassedGrid, lent-same, grid-passed}
 use Rattle.border.specs.Border.{Border}
 use Rattle.border.specs.Modes.{badConstantBy}
-use Rattle.window.specs.Origin.{badOrigin}
-use Rattle.window.specs.Window.{badWindowOrigin, badReach, appliedOrigin}
-use Rattle.window.proofs.Reach.{more-cells}
+use Rattle.window_spec.specs.Origin.{badOrigin}
+use Rattle.window_spec.specs.Window.{badWindowOrigin, badReach, appliedOrigin}
+use Rattle.window_spec.proofs.Reach.{more-cells}
 use Rattle.correlate_judge.specs.Judge.{badWeight, weightsJudged, appliedWeights, placeJudged, badCorrelateSums, correlateJudged, correlateJudgedF}
 use Rattle.correlate_judge.proofs.Applied.{applied-length}
-use Rattle.window.proofs.Changed.{applied-range}
+use Rattle.window_spec.proofs.Changed.{applied-range}
 use Rattle.correlate1d.specs.WeighNeeds.{PlaceNeeds}
 
 pub record Passed {A : Type 0} (bad heavy : A → Bool) (convolution : Bool) (b : Border A) (o : ℤ) (w : List A) (ns : List ℕ) (a : ℕ) (cells : List A) (out : ℕ) : Type 0 where

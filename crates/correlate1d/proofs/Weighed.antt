@@ -16,8 +16,8 @@ use Rattle.border.specs.Border.{Border}
 use Rattle.border.specs.Reach.{badPad}
 use Rattle.pad_line.specs.Lane.{AxisNeeds}
 use Rattle.symmetry_spec.specs.declared.SymmetryState.{SymmetryState}
-use Rattle.window.specs.Window.{badWindowOrigin, leftPad, rightPad}
-use Rattle.window.proofs.Reach.{pads-size, reach-more}
+use Rattle.window_spec.specs.Window.{badWindowOrigin, leftPad, rightPad}
+use Rattle.window_spec.proofs.Reach.{pads-size, reach-more}
 use Rattle.correlate_spec.specs.Weighed.{Ops}
 use Rattle.correlate_spec.specs.Correlated.{correlatedLine, correlatedBy}
 use Rattle.correlate1d.specs.WeighNeeds.{PlaceNeeds, WeighNeeds}

@@ -20,8 +20,8 @@ use Rattle.array_spec.specs.Conditions.{badShape, badLevel}
 use Rattle.array_spec.specs.Grid.{cellCount, lengthOf}
 use Rattle.border.specs.Border.{Border}
 use Rattle.border.specs.Modes.{badConstantBy}
-use Rattle.window.specs.Origin.{badOrigin}
-use Rattle.window.specs.Window.{badReach}
+use Rattle.window_spec.specs.Origin.{badOrigin}
+use Rattle.window_spec.specs.Window.{badReach}
 use Rattle.correlate_judge.specs.Judge.{badWeight}
 
 abbrev pub tooLarge : ℤ → Bool

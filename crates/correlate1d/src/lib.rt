@@ -12,7 +12,7 @@ ghost use Rattle.correlate_judge.specs.Judge.{correlateJudged};
 ghost use Rattle.correlate1d.specs.Rows.{Correlate1dRows};
 ghost use Rattle.correlate1d.specs.WeighNeeds.{ScaleNeeds, WeighNeeds};
 use border::BorderMode;
-use window::Origin;
+use window_spec::Origin;
 
 mod each_lane;
 mod reversal;

@@ -11,7 +11,7 @@ ghost use Rattle.correlate_spec.specs.Correlated.{correlate1dF, convolve1dF};
 ghost use Rattle.correlate_judge.specs.Judge.{correlateJudgedF};
 ghost use Rattle.correlate1d.specs.WeighNeeds.{PlaceNeeds};
 use border::BorderModeF64;
-use window::Origin;
+use window_spec::Origin;
 
 mod lane_loop;
 

@@ -17,7 +17,7 @@ use Rattle.border.specs.Modes.{borderOf, borderOfF64, badConstantBy, kindOf}
 use Rattle.border.specs.declared.BorderModeF64.{BorderModeF64}
 use Rattle.border.specs.declared.BorderModeF64.the-variants.{Constant, Mirror, Nearest, Reflect, Wrap}
 use Rattle.border.specs.Reach.{badPad}
-use Rattle.window.specs.Window.{badSize, badWindowOrigin, badReach, appliedOrigin, leftPad, rightPad}
+use Rattle.window_spec.specs.Window.{badSize, badWindowOrigin, badReach, appliedOrigin, leftPad, rightPad}
 use Rattle.correlate_judge.specs.Judge.{weightsJudged, placeJudged}
 
 -- two borders that fill the same pads

@@ -5,7 +5,7 @@ use Rattle.numbers.specs.Lists.{tabulate}
 use Rattle.array_spec.specs.Conditions.{badShape, gridCount, badLevel}
 use Rattle.array_spec.specs.Grid.{placeOf, coordinate}
 use Rattle.border.specs.Border.{cellFor, extendedGrid}
-use Rattle.window.specs.Origin.{badOrigin}
+use Rattle.window_spec.specs.Origin.{badOrigin}
 use Rattle.correlate_spec.specs.Weighed.{summed}
 use Rattle.correlate_spec.specs.Kernel.{kernelSum, kernelAnswer}
 use Rattle.correlate_judge.specs.Judge.{badWeight}

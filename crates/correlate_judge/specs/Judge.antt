@@ -26,7 +26,7 @@ use Rattle.array_spec.specs.Conditions.{badLevel, badFloat, badAxis, gridJudged
 use Rattle.array_spec.specs.Grid.{lengthOf}
 use Rattle.border.specs.Border.{Border}
 use Rattle.border.specs.Modes.{badConstantBy}
-use Rattle.window.specs.Window.{badWindowOrigin, badReach, changedOrigin, badSize, appliedOrigin}
+use Rattle.window_spec.specs.Window.{badWindowOrigin, badReach, changedOrigin, badSize, appliedOrigin}
 use Rattle.correlate_spec.specs.Correlated.{correlate1dZ}
 
 unfoldable pub badWeight : ℤ → Bool

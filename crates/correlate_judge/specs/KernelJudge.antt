@@ -22,10 +22,10 @@ use Rattle.array_spec.specs.Conditions.{badLevel, gridJudged}
 use Rattle.array_spec.specs.Grid.{cellCount}
 use Rattle.border.specs.Border.{Border}
 use Rattle.border.specs.Modes.{badConstantBy}
-use Rattle.window.specs.Origin.{badOrigin}
+use Rattle.window_spec.specs.Origin.{badOrigin}
 use Rattle.border.specs.Reach.{badPad}
 use Rattle.correlate_spec.specs.Kernel.{sideOf, correlateZ}
-use Rattle.window.specs.Window.{kernelLeft, kernelRight, appliedOrigin, badKernelReach}
+use Rattle.window_spec.specs.Window.{kernelLeft, kernelRight, appliedOrigin, badKernelReach}
 use Rattle.correlate_judge.specs.Judge.{badWeight, appliedWeights}
 
 abbrev pub badSide : ℕ → ℕ → Bool

@@ -17,7 +17,7 @@ use Rattle.numbers.specs.Rows.{minus, wholes}
 use Rattle.border.specs.Border.{Border, constant, along}
 use Rattle.border.specs.declared.CellBorder.the-variants.{Nearest, Mirror, Reflect, Wrap}
 use Rattle.correlate_judge.specs.Judge.{badWeight, badCorrelateSums, correlateJudged, correlateJudgedF}
-use Rattle.window.specs.Window.{appliedOrigin}
+use Rattle.window_spec.specs.Window.{appliedOrigin}
 
 abbrev pub three : Border ℤ → ℤ → List ℤ → ℕ → Bool → ℕ
 three b o w a convolution = refusalOf (correlateJudged convolution b o w (3 ∷ []) a (wholes (1 ∷ 2 ∷ 3 ∷ [])) 3)

@@ -9,7 +9,7 @@ ghost use Rattle.numbers.specs.Refusal.{refusalOf};
 ghost use Rattle.array_spec.specs.Conditions.{badAxis};
 ghost use Rattle.array_spec.specs.Grid.{lengthOf};
 ghost use Rattle.border.specs.Modes.{borderOf, borderOfF64};
-ghost use Rattle.window.specs.Window.{badSize, badWindowOrigin, badReach, appliedOrigin};
+ghost use Rattle.window_spec.specs.Window.{badSize, badWindowOrigin, badReach, appliedOrigin};
 ghost use Rattle.correlate_judge.specs.Judge.{correlateJudged, correlateJudgedF};
 use border::BorderMode;
 use border::BorderModeF64;

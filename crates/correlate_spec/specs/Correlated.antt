@@ -21,7 +21,7 @@ use Rattle.lanes.specs.Lanes.{alongAxis}
 use Rattle.border.specs.Border.{Border}
 use Rattle.pad_line.specs.Line.{paddedLine}
 use Rattle.correlate_spec.specs.Weighed.{Ops, wholeOps, floatOps, weighedLine}
-use Rattle.window.specs.Window.{leftPad, rightPad, changedOrigin}
+use Rattle.window_spec.specs.Window.{leftPad, rightPad, changedOrigin}
 
 abbrev pub correlatedLine : {A : Type 0} → Ops A → SymmetryState → Border A → ℕ → ℕ → List A → List A → List A
 correlatedLine o class b left right w s = weighedLine o class w (paddedLine (o .past) b left right s) (length s)

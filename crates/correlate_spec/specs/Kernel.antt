@@ -20,7 +20,7 @@ use Rattle.numbers.specs.Lists.{tabulate}
 use Rattle.array_spec.specs.Grid.{cellCount, lengthOf, coordinate}
 use Rattle.border.specs.Border.{Border, extendedGrid}
 use Rattle.correlate_spec.specs.Weighed.{summed}
-use Rattle.window.specs.Window.{changedOrigin, kernelLeft}
+use Rattle.window_spec.specs.Window.{changedOrigin, kernelLeft}
 
 abbrev pub sidesOf : List ℕ → ℕ → List ℕ
 sidesOf ns side = replicate (length ns) side

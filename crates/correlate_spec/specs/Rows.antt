@@ -23,7 +23,7 @@ use Rattle.correlate_spec.specs.Weighed.{wholeOps, floatOps, weighedAt, 
 use Rattle.correlate_spec.specs.WindowSum.{windowSum}
 use Rattle.correlate_spec.specs.Correlated.{correlate1dZ, convolve1dZ, correlate1dF, convolve1dF}
 use Rattle.correlate_spec.specs.Kernel.{sidesOf, sideOf, correlateZ, convolveZ}
-use Rattle.window.specs.Window.{kernelLeft, kernelRight}
+use Rattle.window_spec.specs.Window.{kernelLeft, kernelRight}
 
 abbrev pub line : List ℕ → List ℕ → ℕ → List ℤ
 line w s n = weighedLine wholeOps NonSymmetric (wholes w) (wholes s) n

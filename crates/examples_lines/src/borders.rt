@@ -7,7 +7,7 @@ use examples_print::line;
 use examples_print::number;
 use examples_print::space;
 use examples_print::test;
-use window::Origin;
+use window_spec::Origin;
 
 // A padding mode by its place in the enum.
 fn mode(m: PadMode) {

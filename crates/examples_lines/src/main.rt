@@ -15,7 +15,7 @@ fn rows() {
     lanes::rows();
     array::rows();
     border::rows();
-    window::rows();
+    window_spec::rows();
     min_max_ring::rows();
     statistics_spec::rows();
     statistics::rows();

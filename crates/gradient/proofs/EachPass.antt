@@ -19,10 +19,10 @@ use Rattle.array_spec.specs.Grid.{cellCount, lengthOf}
 use Rattle.array_spec.proofs.Judged.{PassedGrid, grid-passed, levels-sized}
 use Rattle.border.specs.Border.{Border}
 use Rattle.border.specs.Modes.{badConstantBy}
-use Rattle.window.specs.Origin.{badOrigin}
+use Rattle.window_spec.specs.Origin.{badOrigin}
 use Rattle.border.specs.Reach.{badPad}
 use Rattle.pad_line.proofs.Sizes.{SizedBorder, constant-sized}
-use Rattle.window.specs.Window.{badReach}
+use Rattle.window_spec.specs.Window.{badReach}
 use Rattle.correlate_spec.specs.Correlated.{correlate1dZ}
 use Rattle.correlate_spec.proofs.Bounds.{border-le, length-answer}
 use Rattle.correlate_judge.specs.Judge.{badWeight}

@@ -24,12 +24,12 @@ use Rattle.array_spec.proofs.Shapes.{shape-accepted}
 use Rattle.lanes.specs.Lanes.{alongAxis}
 use Rattle.lanes.proofs.AlongAxis.{length-along, getD-along}
 use Rattle.border.specs.Border.{Border, constant, along, cellFor, inside, extendedLane}
-use Rattle.window.specs.Origin.{badOrigin}
-use Rattle.window.proofs.Origins.{SignedPads, axis-accepted}
+use Rattle.window_spec.specs.Origin.{badOrigin}
+use Rattle.window_spec.proofs.Origins.{SignedPads, axis-accepted}
 use Rattle.pad_line.specs.Line.{paddedAt, paddedLine}
-use Rattle.window.proofs.Reach.{pads-size as window-pads}
+use Rattle.window_spec.proofs.Reach.{pads-size as window-pads}
 use Rattle.min_max_spec.specs.Call.{Call, left, right, alone, firstIn, window, axisLength, numberOf}
-use Rattle.window.specs.Window.{leftPad, rightPad}
+use Rattle.window_spec.specs.Window.{leftPad, rightPad}
 use Rattle.min_max_spec.specs.Run.{laneLevel, answerOf}
 use Rattle.min_max_spec.proofs.Passed.{Passed, passed, length-answer}
 use Rattle.min_max_spec.proofs.Sweep.{inside-lt}

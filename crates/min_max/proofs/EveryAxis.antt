@@ -23,7 +23,7 @@ use Rattle.min_max_spec.specs.Call.{firstIn, numberOf}
 use Rattle.min_max_spec.specs.Run.{answerOf}
 use Rattle.min_max_spec.proofs.Passed.{length-answer, answer-in}
 use Rattle.min_max_judge.specs.Judge.{callOf, filterAxesJudged, filterJudged}
-use Rattle.window.specs.Window.{badWindowOrigin, badReach}
+use Rattle.window_spec.specs.Window.{badWindowOrigin, badReach}
 use Rattle.min_max_spec.specs.Filters.{filterAnswer}
 
 module _ (cells : List ℤ) (ns : List ℕ) (size : ℕ) (m : BorderMode) (o : ℤ) (out : List ℤ) (second : ℕ) where

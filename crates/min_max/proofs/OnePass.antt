@@ -20,7 +20,7 @@ use Rattle.pad_line.specs.Lane.{LineNeeds, AxisNeeds}
 use Rattle.pad_line.proofs.OneLane.{length-line}
 use Rattle.min_max_ring.specs.Extremes.{extremes, RingNeeds}
 use Rattle.min_max_spec.specs.Call.{Call, alone, axisLength, numberOf}
-use Rattle.window.specs.Window.{leftPad, rightPad}
+use Rattle.window_spec.specs.Window.{leftPad, rightPad}
 use Rattle.min_max_spec.specs.Run.{answerOf}
 use Rattle.min_max_spec.proofs.Passed.{Passed, passed}
 use Rattle.min_max.specs.Lane.{extremesOf}

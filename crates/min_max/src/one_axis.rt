@@ -10,7 +10,7 @@ ghost use Rattle.min_max.specs.Lane.{orderOf};
 use crate::each_lane::filter_axis;
 use crate::extreme::Extreme;
 use border::BorderMode;
-use window::Origin;
+use window_spec::Origin;
 
 // Fills out with the answer of an accepted one-axis call; the grid forms make one pass for each axis, and a recipe one
 // for each step.

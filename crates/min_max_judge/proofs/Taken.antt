@@ -14,14 +14,14 @@ use Rattle.numbers.specs.Refusal.{Judged, refusalOf}
 use Rattle.numbers.proofs.Refusal.{judged-all, chain-stops}
 use Rattle.numbers.proofs.Tests.{condition-is}
 use Rattle.border.specs.Border.{Border}
-use Rattle.window.specs.Origin.{badOrigin, originPads}
-use Rattle.window.proofs.Answered.{not-refused, left-is, right-is}
-use Rattle.window.proofs.Origins.{pads-sum, axis-accepted, accepted-some}
-use Rattle.window.specs.declared.origin.Origin.{Origin}
-use Rattle.window.specs.declared.origin.Origin.the-variants.{Pads, Refused}
+use Rattle.window_spec.specs.Origin.{badOrigin, originPads}
+use Rattle.window_spec.proofs.Answered.{not-refused, left-is, right-is}
+use Rattle.window_spec.proofs.Origins.{pads-sum, axis-accepted, accepted-some}
+use Rattle.window_spec.specs.declared.Origin.{Origin}
+use Rattle.window_spec.specs.declared.Origin.the-variants.{Pads, Refused}
 use Rattle.border.specs.Reach.{badPad}
 use Rattle.min_max_judge.specs.Judge.{sizeJudged}
-use Rattle.window.specs.Window.{badWindowOrigin, badReach}
+use Rattle.window_spec.specs.Window.{badWindowOrigin, badReach}
 
 -- ---- conditions 5 and 7, the origin as their judge was handed it and as the call has it
 -- a window that has passed them

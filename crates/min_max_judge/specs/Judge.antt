@@ -17,10 +17,10 @@ use Rattle.array_spec.specs.Conditions.{badLevel, gridJudged}
 use Rattle.border.specs.declared.BorderMode.{BorderMode}
 use Rattle.border.specs.Border.{Border}
 use Rattle.border.specs.Modes.{borderOf, badConstantBy}
-use Rattle.window.specs.Origin.{badOrigin}
+use Rattle.window_spec.specs.Origin.{badOrigin}
 use Rattle.border.specs.Reach.{badPad}
 use Rattle.min_max_spec.specs.Call.{Call}
-use Rattle.window.specs.Window.{badSize, badWindowOrigin, badReach}
+use Rattle.window_spec.specs.Window.{badSize, badWindowOrigin, badReach}
 
 abbrev pub callOf : List ℕ → ℕ → ℕ → BorderMode → ℤ → List ℤ → Call
 callOf ns size a m o held = record { shape = ns; size = size; axis = a; border = borderOf m; origin = o; out = held }

@@ -19,10 +19,10 @@ use Rattle.array_spec.specs.Grid.{coordinate}
 use Rattle.array_spec.proofs.Judged.{PassedGrid, grid-passed}
 use Rattle.border.specs.Border.{Border, constant, along, inside, extendedLane}
 use Rattle.border.specs.Modes.{badConstantBy}
-use Rattle.window.specs.Origin.{badOrigin}
+use Rattle.window_spec.specs.Origin.{badOrigin}
 use Rattle.border.specs.Reach.{badPad}
 use Rattle.min_max_spec.specs.Call.{Call, window, alone, axisLength, windowJudged, numberOf}
-use Rattle.window.specs.Window.{leftPad, rightPad}
+use Rattle.window_spec.specs.Window.{leftPad, rightPad}
 use Rattle.min_max_spec.specs.Run.{laneLevel, answerOf, after, run, numbers, accepted}
 
 -- ---- tests

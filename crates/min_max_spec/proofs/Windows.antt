@@ -16,11 +16,11 @@ use Rattle.numbers.proofs.Tests.{or-false}
 use Rattle.border.specs.Border.{Border, constant, along, cellFor, cellAfter}
 use Rattle.border.specs.declared.CellBorder.{CellBorder}
 use Rattle.border.specs.declared.CellBorder.the-variants.{Nearest, Mirror, Reflect, Wrap}
-use Rattle.window.specs.Origin.{badOrigin}
-use Rattle.window.proofs.Origins.{axis-accepted}
+use Rattle.window_spec.specs.Origin.{badOrigin}
+use Rattle.window_spec.proofs.Origins.{axis-accepted}
 use Rattle.border.specs.Reach.{badPad}
 use Rattle.min_max_spec.specs.Call.{Call, left, right, alone, firstIn, lastIn, InWindow, window, axisLength}
-use Rattle.window.specs.Window.{leftPad, rightPad}
+use Rattle.window_spec.specs.Window.{leftPad, rightPad}
 use Rattle.min_max_spec.proofs.Passed.{Passed}
 use Rattle.min_max_spec.proofs.Reach.{ends, reach-left, reach-right, carried}
 

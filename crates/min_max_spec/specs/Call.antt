@@ -24,9 +24,9 @@ use Rattle.array_spec.specs.Conditions.{badLevel, badAxis, gridJudged}
 use Rattle.array_spec.specs.Grid.{lengthOf}
 use Rattle.border.specs.Border.{Border}
 use Rattle.border.specs.Modes.{badConstantBy}
-use Rattle.window.specs.Origin.{badOrigin}
+use Rattle.window_spec.specs.Origin.{badOrigin}
 use Rattle.border.specs.Reach.{badPad}
-use Rattle.window.specs.Window.{leftOf, rightOf, badSize, badWindowOrigin, badReach}
+use Rattle.window_spec.specs.Window.{leftOf, rightOf, badSize, badWindowOrigin, badReach}
 
 pub record Call : Type 0 where
   pub shape : List ℕ

@@ -24,7 +24,7 @@ use Rattle.border.specs.Border.{Border}
 use Rattle.border.specs.Modes.{badConstantBy}
 use Rattle.border.specs.Reach.{badPad}
 use Rattle.pad_line.specs.Lane.{AxisNeeds}
-use Rattle.window.specs.Window.{badReach}
+use Rattle.window_spec.specs.Window.{badReach}
 use Rattle.uniform_spec.specs.Mean.{means}
 use Rattle.uniform.specs.MeanAxisNeeds.{MeanAxisNeeds}
 use Rattle.uniform_spec.specs.Uniform.{paddedFor, uniform1d}

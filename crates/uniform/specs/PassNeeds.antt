@@ -12,7 +12,7 @@ use Rattle.array_spec.specs.Conditions.{badShape, badLevel}
 use Rattle.array_spec.specs.Grid.{cellCount, lengthOf}
 use Rattle.border.specs.Border.{Border}
 use Rattle.border.specs.Modes.{badConstantBy}
-use Rattle.window.specs.Window.{badReach, badSize}
+use Rattle.window_spec.specs.Window.{badReach, badSize}
 
 pub record PassNeeds (b : Border ℤ) (size : ℕ) (ns : List ℕ) (a : ℕ) (cells out : List ℤ) : Type 0 where
   pub shape : badShape ns ≡ false

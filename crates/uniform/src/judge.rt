@@ -5,7 +5,7 @@ ghost use lib.IntN.{pos};
 ghost use Rattle.numbers.specs.Lists.{anyOf};
 ghost use Rattle.numbers.specs.Refusal.{refusalOf};
 ghost use Rattle.border.specs.Modes.{borderOf};
-ghost use Rattle.window.specs.Window.{badReach, badSize};
+ghost use Rattle.window_spec.specs.Window.{badReach, badSize};
 ghost use Rattle.uniform_spec.specs.Judge.{badGridReach, uniformAlongJudged, uniformAxesJudged, uniform1dJudged, uniformJudged};
 use border::BorderMode;
 

@@ -10,9 +10,9 @@ use Rattle.numbers.specs.Ranges.{outside}
 use Rattle.numbers.proofs.Tests.{or-false}
 use Rattle.border.specs.Border.{Border, constant, along}
 use Rattle.border.specs.declared.CellBorder.the-variants.{Nearest, Mirror, Reflect, Wrap}
-use Rattle.window.proofs.Origins.{origin-on}
+use Rattle.window_spec.proofs.Origins.{origin-on}
 use Rattle.border.specs.Reach.{badPad}
-use Rattle.window.specs.Window.{leftPad, rightPad, badWindowOrigin, badEitherPad, badReach}
+use Rattle.window_spec.specs.Window.{leftPad, rightPad, badWindowOrigin, badEitherPad, badReach}
 
 module _ (size : ℕ) (h : outside 1 65 size ≡ false) where
   pub size-some : 0 < size

@@ -23,7 +23,7 @@ use Rattle.array_spec.specs.Conditions.{badLevel, badAxis, gridJudged}
 use Rattle.array_spec.specs.Grid.{lengthOf}
 use Rattle.border.specs.Border.{Border}
 use Rattle.border.specs.Modes.{badConstantBy}
-use Rattle.window.specs.Window.{badReach, badSize}
+use Rattle.window_spec.specs.Window.{badReach, badSize}
 use Rattle.uniform_spec.specs.Uniform.{windowSums, uniform1d}
 
 abbrev pub halfOver : ℕ → ℕ → Bool

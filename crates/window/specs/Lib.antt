@@ -1,4 +1,2 @@
--- The origin of a window, and the pads that it gives.
-pub mod Origin
-pub mod Window
-pub mod Rows
+-- A signed number by its sign and size.
+pub mod Shift

@@ -3,9 +3,9 @@ ghost use mathlib.Core.Path.{_≡_};
 ghost use mathlib.Core.Bool.{false};
 ghost use Rattle.numbers.specs.Lists.{anyOf};
 ghost use Rattle.border.specs.Modes.{borderOf};
-ghost use Rattle.window.specs.Window.{badSize, badWindowOrigin, badEitherPad, badReach};
-use crate::origin::Origin;
+ghost use Rattle.window_spec.specs.Window.{badSize, badWindowOrigin, badEitherPad, badReach};
 use border::BorderMode;
+use window_spec::Origin;
 
 // Condition 5: the length of a window, or the count of weights, is outside 1..65. bad_size(65) is false, bad_size(66)
 // is true.

@@ -2,10 +2,10 @@
 ghost use mathlib.Core.Path.{_≡_};
 ghost use mathlib.Core.Bool.{false};
 ghost use Rattle.border.specs.Modes.{borderOf};
-ghost use Rattle.window.specs.Origin.{badOrigin};
-ghost use Rattle.window.specs.Window.{badWindowOrigin, badReach, badKernelReach, appliedOrigin};
-use crate::origin::Origin;
+ghost use Rattle.window_spec.specs.Origin.{badOrigin};
+ghost use Rattle.window_spec.specs.Window.{badWindowOrigin, badReach, badKernelReach, appliedOrigin};
 use border::BorderMode;
+use window_spec::Origin;
 
 // The origin of len weights as it is applied: the caller's, or, where convolution says convolution, negated and for an
 // even count 1 less. Only of an origin that condition 7 accepts: -2^63 has no negation. applied_origin(3, 1, true) is

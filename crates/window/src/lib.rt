@@ -1,6 +1,5 @@
 // The window of a cell: which origins it takes, the pads that it needs, conditions 5, 7 and 11, the changed origin of a
-// convolution, and its part of a padded line.
-ghost use Rattle.window.specs.Rows.{WindowRows};
+// convolution, and its part of a padded line. `window_spec` has the definitions.
 
 mod conditions;
 mod convolution;
@@ -14,15 +13,8 @@ pub use conditions::bad_window_origin;
 pub use convolution::applied_origin;
 pub use convolution::bad_applied_reach;
 pub use convolution::bad_kernel_reach;
-pub use origin::Origin;
 pub use origin::bad_origin;
 pub use origin::kernel_origin_check;
 pub use origin::origin_check;
 pub use part::window;
 pub use part::window_f64;
-
-// Worked rows of this crate's definitions: origins, lengths and pads at their limits, and the changed origin of a
-// convolution.
-pub fn rows()
-    ensures { λ _. ⌜ WindowRows ⌝ }
-{}

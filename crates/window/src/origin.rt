@@ -1,15 +1,9 @@
 // The origin of a window: how far the window is moved back along the axis, and the pads that it then needs.
 ghost use Prim.Native.Nat.{_-_, _/_, _≤_};
 ghost use mathlib.Core.Path.{_≡_};
-ghost use Rattle.window.specs.Origin.{badOrigin, originPads, OriginAnswers, originOf};
-
-// The answer to an origin.
-pub enum Origin {
-    // Accepted: the left pad and the right pad.
-    Pads(usize, usize),
-    // Refusal 7.
-    Refused,
-}
+ghost use Rattle.window_spec.specs.Origin.{badOrigin, originPads, OriginAnswers};
+ghost use Rattle.window.specs.Shift.{originOf};
+use window_spec::Origin;
 
 // A signed number by its sign and size: On(k) is k, Back(k) is -(k + 1).
 enum Shift {

@@ -8,8 +8,8 @@ use denote.Ref.{now}
 use mir.Syntax.{w64}
 use mir.Val.{toZ, ofZ}
 use Rattle.border.specs.Modes.{borderOf}
-use Rattle.window.specs.Origin.{badOrigin}
-use Rattle.window.specs.Window.{changedOrigin, kernelLeft}
+use Rattle.window_spec.specs.Origin.{badOrigin}
+use Rattle.window_spec.specs.Window.{changedOrigin, kernelLeft}
 use Rattle.correlate_spec.specs.Kernel.{sidesOf, sideOf, kernelAnswer}
 use Rattle.correlate.proofs.Accepted.{Passed, passed, suits-as, own-sides}
 use borrow.Author.Needs.{needs}

@@ -11,7 +11,7 @@ use Rattle.numbers.specs.Refusal.{refusalOf}
 use Rattle.numbers.proofs.Refusal.{answers-refused, answers-accepted}
 use Rattle.border.specs.Modes.{borderOf}
 use Rattle.correlate_spec.specs.Kernel.{sidesOf, sideOf, kernelAnswer}
-use Rattle.window.specs.Window.{kernelLeft}
+use Rattle.window_spec.specs.Window.{kernelLeft}
 use Rattle.correlate_judge.specs.KernelJudge.{kernelJudged}
 use Rattle.correlate.proofs.Accepted.{Passed, passed, suits-as, own-sides}
 use borrow.Author.Needs.{needs}

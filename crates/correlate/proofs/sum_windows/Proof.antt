@@ -6,10 +6,10 @@ use mir.Syntax.{w64}
 use mir.Val.{toZ, ofZ}
 use denote.Ref.{now}
 use Rattle.border.specs.Modes.{borderOf}
-use Rattle.window.specs.Origin.{originPads}
-use Rattle.window.proofs.Answered.{not-refused, left-is, right-is}
+use Rattle.window_spec.specs.Origin.{originPads}
+use Rattle.window_spec.proofs.Answered.{not-refused, left-is, right-is}
 use Rattle.correlate_spec.specs.Kernel.{sidesOf, kernelAnswer}
-use Rattle.window.specs.Window.{kernelLeft, kernelRight}
+use Rattle.window_spec.specs.Window.{kernelLeft, kernelRight}
 use Rattle.correlate.proofs.Accepted.{padded-as, exchanged}
 use borrow.Author.Needs.{needs}
 use Rattle.correlate.proofs.sum_windows.Statement.{statement}

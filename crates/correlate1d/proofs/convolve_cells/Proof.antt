@@ -7,10 +7,10 @@ use denote.Ref.{now}
 use mir.Syntax.{w64}
 use mir.Val.{toZ, ofZ}
 use Rattle.border.specs.Modes.{borderOf}
-use Rattle.window.specs.Origin.{badOrigin}
-use Rattle.window.proofs.Reach.{origin-accepted}
+use Rattle.window_spec.specs.Origin.{badOrigin}
+use Rattle.window_spec.proofs.Reach.{origin-accepted}
 use Rattle.correlate_spec.specs.Correlated.{correlate1dZ}
-use Rattle.window.specs.Window.{changedOrigin}
+use Rattle.window_spec.specs.Window.{changedOrigin}
 use Rattle.symmetry_spec.specs.declared.SymmetryState.the-variants.{NonSymmetric}
 use Rattle.correlate_spec.specs.Weighed.{wholeOps}
 use Rattle.correlate1d.proofs.Passed.{passed}

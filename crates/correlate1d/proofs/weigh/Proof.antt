@@ -6,10 +6,10 @@ use denote.Ref.{now}
 use lib.ListN.{length}
 use mir.Syntax.{w64}
 use mir.Val.{toZ, ofZ}
-use Rattle.window.specs.Origin.{originPads}
+use Rattle.window_spec.specs.Origin.{originPads}
 use Rattle.symmetry_spec.specs.declared.SymmetryState.the-variants.{NonSymmetric}
 use Rattle.correlate_spec.specs.Weighed.{wholeOps}
-use Rattle.window.proofs.Reach.{PadsAre, origin-refused, pads-are}
+use Rattle.window_spec.proofs.Reach.{PadsAre, origin-refused, pads-are}
 use Rattle.correlate1d.proofs.Weighed.{window-origin, two-weights, pads-total, sweep-weighed, weighed-answer}
 use borrow.Author.Needs.{needs}
 use Rattle.correlate1d.proofs.weigh.Statement.{statement}

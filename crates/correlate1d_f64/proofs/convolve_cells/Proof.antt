@@ -8,12 +8,12 @@ use mir.Syntax.{w64}
 use mir.Val.{toZ, ofZ}
 use Rattle.array_spec.proofs.Judged.{lent-same}
 use Rattle.border.specs.Modes.{borderOfF64}
-use Rattle.window.specs.Origin.{badOrigin}
-use Rattle.window.proofs.Reach.{origin-accepted}
+use Rattle.window_spec.specs.Origin.{badOrigin}
+use Rattle.window_spec.proofs.Reach.{origin-accepted}
 use Rattle.symmetry_spec.specs.Class.{classF}
 use Rattle.correlate_spec.specs.Weighed.{floatOps}
 use Rattle.correlate_spec.specs.Correlated.{correlate1dF}
-use Rattle.window.specs.Window.{changedOrigin}
+use Rattle.window_spec.specs.Window.{changedOrigin}
 use Rattle.correlate1d.proofs.Passed.{passed-float, placed-accepted}
 use Rattle.correlate1d.proofs.Stores.{one-convolved}
 use Rattle.correlate1d.proofs.Weighed.{placed-as}

@@ -7,8 +7,8 @@ use lib.Ieee.{nan}
 use lib.ListN.{length}
 use mir.Syntax.{w64}
 use mir.Val.{toZ, ofZ}
-use Rattle.window.specs.Origin.{originPads}
-use Rattle.window.proofs.Reach.{PadsAre, origin-refused, pads-are}
+use Rattle.window_spec.specs.Origin.{originPads}
+use Rattle.window_spec.proofs.Reach.{PadsAre, origin-refused, pads-are}
 use Rattle.symmetry_spec.specs.Class.{classF}
 use Rattle.symmetry_spec.specs.declared.SymmetryState.{SymmetryState}
 use Rattle.border.specs.Modes.{borderOfF64}

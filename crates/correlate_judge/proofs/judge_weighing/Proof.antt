@@ -11,7 +11,7 @@ use Rattle.numbers.proofs.Tests.{condition-is}
 use Rattle.array_spec.specs.Conditions.{badAxis}
 use Rattle.array_spec.specs.Grid.{lengthOf}
 use Rattle.border.specs.Modes.{borderOf}
-use Rattle.window.specs.Window.{badWindowOrigin, badReach, appliedOrigin}
+use Rattle.window_spec.specs.Window.{badWindowOrigin, badReach, appliedOrigin}
 use borrow.Author.Needs.{needs}
 use Rattle.correlate_judge.proofs.judge_weighing.Statement.{statement}
 use Rattle.correlate_judge.proofs.judge_weighing.Tie as tie

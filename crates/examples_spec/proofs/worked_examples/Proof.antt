@@ -13,7 +13,7 @@ use Rattle.array_spec.specs.Conditions.{badShape, gridCount, badLevel}
 use Rattle.array_spec.specs.Grid.{placeOf, coordinate}
 use Rattle.lanes.specs.Lanes.{laneAt, alongAxis}
 use Rattle.border.specs.Border.{cellFor, extendedLane, allInside, extendedGrid}
-use Rattle.window.specs.Origin.{badOrigin}
+use Rattle.window_spec.specs.Origin.{badOrigin}
 use Rattle.pad_line.specs.Line.{paddedAt, paddedLine}
 use Rattle.statistics_spec.specs.Sorting.{inserted, sorted}
 use Rattle.statistics_spec.specs.Statistics.{medianOf}

@@ -12,7 +12,7 @@ use Rattle.numbers.proofs.Tests.{condition-is}
 use Rattle.array_spec.specs.Conditions.{badLevel}
 use Rattle.border.specs.Modes.{borderOf, badConstantBy}
 use Rattle.min_max_judge.specs.Judge.{filterAxesJudged}
-use Rattle.window.specs.Window.{badReach}
+use Rattle.window_spec.specs.Window.{badReach}
 use Rattle.min_max_judge.proofs.Taken.{Taken, window-taken, window-stops}
 use borrow.Author.Needs.{needs}
 use Rattle.min_max_judge.proofs.judge_axes.Statement.{statement}

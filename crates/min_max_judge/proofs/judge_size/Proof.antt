@@ -4,7 +4,7 @@ use mathlib.Core.Path.{_≡_, refl, ap, _∙_}
 use mir.Syntax.{w64}
 use mir.Val.{toZ, ofZ}
 use Rattle.numbers.proofs.Tests.{condition-is}
-use Rattle.window.specs.Window.{badWindowOrigin}
+use Rattle.window_spec.specs.Window.{badWindowOrigin}
 use borrow.Author.Needs.{needs}
 use Rattle.min_max_judge.proofs.judge_size.Statement.{statement}
 use Rattle.min_max_judge.proofs.judge_size.Tie as tie

@@ -13,7 +13,7 @@ use Rattle.array_spec.specs.Grid.{lengthOf}
 use Rattle.border.specs.Modes.{borderOf, badConstantBy}
 use Rattle.min_max_spec.specs.Call.{windowJudged}
 use Rattle.min_max_judge.specs.Judge.{callOf}
-use Rattle.window.specs.Window.{badReach}
+use Rattle.window_spec.specs.Window.{badReach}
 use Rattle.min_max_judge.proofs.Taken.{Taken, window-taken, window-stops}
 use borrow.Author.Needs.{needs}
 use Rattle.min_max_judge.proofs.judge_window.Statement.{statement}

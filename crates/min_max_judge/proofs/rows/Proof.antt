@@ -2,7 +2,7 @@
 -- Assumes nothing.
 use mathlib.Core.Path.{refl}
 use Rattle.array_spec.specs.Conditions.{badShape, gridCount, badLevel}
-use Rattle.window.specs.Origin.{badOrigin}
+use Rattle.window_spec.specs.Origin.{badOrigin}
 use Rattle.min_max_judge.proofs.rows.Statement.{statement}
 use Rattle.min_max_judge.proofs.rows.Tie as tie
 

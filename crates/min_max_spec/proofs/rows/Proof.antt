@@ -13,7 +13,7 @@ use Rattle.numbers.proofs.IntOrder.{total-≤}
 use Rattle.array_spec.specs.Conditions.{badShape, gridCount, badLevel}
 use Rattle.array_spec.specs.Grid.{placeOf, coordinate}
 use Rattle.border.specs.Border.{constant, cellFor, extendedLane}
-use Rattle.window.specs.Origin.{badOrigin}
+use Rattle.window_spec.specs.Origin.{badOrigin}
 use Rattle.min_max_spec.specs.Call.{firstIn, lastIn, numberOf, gridNumber}
 use Rattle.min_max_spec.specs.Run.{answerOf, after, run, numbers, accepted}
 use Rattle.min_max_spec.specs.Filters.{filterAnswer}

@@ -10,10 +10,10 @@ use Rattle.numbers.specs.Lists.{anyOf}
 use Rattle.numbers.proofs.Tests.{condition-is}
 use Rattle.array_spec.specs.Conditions.{badLevel}
 use Rattle.border.specs.Modes.{borderOf, badConstantBy}
-use Rattle.window.specs.Origin.{badOrigin}
+use Rattle.window_spec.specs.Origin.{badOrigin}
 use Rattle.correlate_spec.specs.Kernel.{sideOf}
 use Rattle.correlate_judge.specs.Judge.{badWeight}
-use Rattle.window.specs.Window.{appliedOrigin, badKernelReach}
+use Rattle.window_spec.specs.Window.{appliedOrigin, badKernelReach}
 use Rattle.correlate_judge.specs.KernelJudge.{badKernel}
 use borrow.Author.Needs.{needs}
 use Rattle.correlate_judge.proofs.kernel.judge_placed.Statement.{statement}

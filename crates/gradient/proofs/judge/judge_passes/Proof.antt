@@ -11,9 +11,9 @@ use Rattle.numbers.proofs.Tests.{condition-is}
 use Rattle.array_spec.specs.Conditions.{badLevel, badAxis}
 use Rattle.border.specs.Border.{Border}
 use Rattle.border.specs.Modes.{borderOf, badConstantBy}
-use Rattle.window.specs.Origin.{badOrigin}
+use Rattle.window_spec.specs.Origin.{badOrigin}
 use Rattle.border.specs.Reach.{badPad}
-use Rattle.window.specs.Window.{badReach}
+use Rattle.window_spec.specs.Window.{badReach}
 use borrow.Author.Needs.{needs}
 use Rattle.gradient.proofs.judge.judge_passes.Statement.{statement}
 use Rattle.gradient.proofs.judge.judge_passes.Tie as tie

@@ -5,12 +5,12 @@ use mathlib.Core.Path.{_≡_, ap, _∙_}
 use denote.Ref.{now}
 use mir.Syntax.{w64}
 use mir.Val.{toZ, ofZ}
-use Rattle.window.specs.Origin.{originPads}
+use Rattle.window_spec.specs.Origin.{originPads}
 use Rattle.min_max_spec.specs.Call.{Call}
 use Rattle.min_max_spec.proofs.Passed.{passed}
 use Rattle.min_max_judge.specs.Judge.{callOf}
 use Rattle.min_max.specs.Lane.{orderOf}
-use Rattle.window.proofs.Reach.{origin-refused, PadsAre, pads-are}
+use Rattle.window_spec.proofs.Reach.{origin-refused, PadsAre, pads-are}
 use Rattle.min_max.proofs.OnePass.{copied-answer, sweep-accepted, window-wide, swept-answer}
 use borrow.Author.Needs.{needs}
 use Rattle.min_max.proofs.one_axis.pass.Statement.{statement}

@@ -9,7 +9,7 @@ use Rattle.numbers.proofs.Tests.{condition-is}
 use Rattle.array_spec.specs.Conditions.{badLevel, badAxis}
 use Rattle.array_spec.specs.Grid.{lengthOf}
 use Rattle.border.specs.Modes.{borderOf, badConstantBy}
-use Rattle.window.specs.Window.{badReach}
+use Rattle.window_spec.specs.Window.{badReach}
 use borrow.Author.Needs.{needs}
 use Rattle.uniform.proofs.judge.judge_along.Statement.{statement}
 use Rattle.uniform.proofs.judge.judge_along.Tie as tie

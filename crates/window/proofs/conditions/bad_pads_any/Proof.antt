@@ -8,7 +8,7 @@ use Rattle.numbers.specs.Lists.{anyOf}
 use Rattle.numbers.proofs.Any.{any-hit, any-miss, any-end}
 use Rattle.numbers.proofs.Tests.{condition-is}
 use Rattle.border.specs.Modes.{borderOf}
-use Rattle.window.specs.Window.{badEitherPad}
+use Rattle.window_spec.specs.Window.{badEitherPad}
 use borrow.Author.Needs.{needs}
 use Rattle.window.proofs.conditions.bad_pads_any.Statement.{statement}
 use Rattle.window.proofs.conditions.bad_pads_any.Tie as tie

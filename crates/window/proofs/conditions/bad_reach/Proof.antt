@@ -4,10 +4,10 @@ use mathlib.Core.Path.{_≡_, ap, _∙_}
 use mir.Syntax.{w64}
 use mir.Val.{toZ, ofZ}
 use borrow.Author.Needs.{needs}
-use Rattle.window.specs.Window.{leftOf, rightOf, leftPad, rightPad, badEitherPad}
-use Rattle.window.proofs.Reach.{single-cell, origin-refused, reach-is}
+use Rattle.window_spec.specs.Window.{leftOf, rightOf, leftPad, rightPad, badEitherPad}
+use Rattle.window_spec.proofs.Reach.{single-cell, origin-refused, reach-is}
 use Rattle.border.specs.Modes.{borderOf}
-use Rattle.window.specs.Origin.{originPads}
+use Rattle.window_spec.specs.Origin.{originPads}
 use Rattle.window.proofs.conditions.bad_reach.Statement.{statement}
 use Rattle.window.proofs.conditions.bad_reach.Tie as tie
 

@@ -5,10 +5,10 @@ use mir.Syntax.{w64}
 use mir.Val.{toZ, ofZ}
 use borrow.Author.Needs.{needs}
 use denote.Ref.{now}
-use Rattle.window.specs.Window.{leftOf, rightOf}
-use Rattle.window.proofs.Reach.{single-any, origin-refused, reach-any-is}
+use Rattle.window_spec.specs.Window.{leftOf, rightOf}
+use Rattle.window_spec.proofs.Reach.{single-any, origin-refused, reach-any-is}
 use Rattle.border.specs.Modes.{borderOf}
-use Rattle.window.specs.Origin.{originPads}
+use Rattle.window_spec.specs.Origin.{originPads}
 use Rattle.window.proofs.conditions.bad_reach_any.Statement.{statement}
 use Rattle.window.proofs.conditions.bad_reach_any.Tie as tie
 

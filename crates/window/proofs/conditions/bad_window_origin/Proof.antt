@@ -3,8 +3,8 @@
 use mathlib.Core.Path.{_≡_, ap, _∙_}
 use mir.Syntax.{w64}
 use mir.Val.{toZ, ofZ}
-use Rattle.window.specs.Origin.{badOrigin}
-use Rattle.window.proofs.Reach.{single-cell, more-cells}
+use Rattle.window_spec.specs.Origin.{badOrigin}
+use Rattle.window_spec.proofs.Reach.{single-cell, more-cells}
 use borrow.Author.Needs.{needs}
 use Rattle.window.proofs.conditions.bad_window_origin.Statement.{statement}
 use Rattle.window.proofs.conditions.bad_window_origin.Tie as tie

@@ -4,8 +4,8 @@ use mathlib.Core.Path.{_≡_, ap, sym, _∙_}
 use mathlib.Core.Bool.{Bool, true}
 use mir.Syntax.{w64}
 use mir.Val.{toZ, ofZ}
-use Rattle.window.specs.Window.{changedOrigin, appliedOrigin}
-use Rattle.window.proofs.Changed.{negation-fits, odd-read, shift-fits, even-read}
+use Rattle.window_spec.specs.Window.{changedOrigin, appliedOrigin}
+use Rattle.window_spec.proofs.Changed.{negation-fits, odd-read, shift-fits, even-read}
 use borrow.Author.Needs.{needs}
 use Rattle.window.proofs.convolution.applied_origin.Statement.{statement}
 use Rattle.window.proofs.convolution.applied_origin.Tie as tie

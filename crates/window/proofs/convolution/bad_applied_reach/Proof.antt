@@ -7,10 +7,10 @@ use mir.Val.{toZ, ofZ}
 use lib.Dec.{eqb}
 use lib.IntN.{ℤ}
 use Rattle.border.specs.Modes.{borderOf}
-use Rattle.window.specs.Origin.{badOrigin}
-use Rattle.window.specs.Window.{badEitherPad, leftPad, rightPad, badWindowOrigin, badReach, appliedOrigin}
-use Rattle.window.proofs.Reach.{single-cell, origin-accepted}
-use Rattle.window.proofs.Changed.{applied-range}
+use Rattle.window_spec.specs.Origin.{badOrigin}
+use Rattle.window_spec.specs.Window.{badEitherPad, leftPad, rightPad, badWindowOrigin, badReach, appliedOrigin}
+use Rattle.window_spec.proofs.Reach.{single-cell, origin-accepted}
+use Rattle.window_spec.proofs.Changed.{applied-range}
 use borrow.Author.Needs.{needs}
 use Rattle.window.proofs.convolution.bad_applied_reach.Statement.{statement}
 use Rattle.window.proofs.convolution.bad_applied_reach.Tie as tie

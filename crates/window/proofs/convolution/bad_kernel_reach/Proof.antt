@@ -8,10 +8,10 @@ use mir.Val.{toZ, ofZ}
 use denote.Ref.{now}
 use Rattle.numbers.specs.Lists.{anyOf}
 use Rattle.border.specs.Modes.{borderOf}
-use Rattle.window.specs.Origin.{badOrigin, originPads}
-use Rattle.window.proofs.Answered.{not-refused, left-is, right-is}
-use Rattle.window.specs.Window.{appliedOrigin, badEitherPad}
-use Rattle.window.proofs.Changed.{applied-range}
+use Rattle.window_spec.specs.Origin.{badOrigin, originPads}
+use Rattle.window_spec.proofs.Answered.{not-refused, left-is, right-is}
+use Rattle.window_spec.specs.Window.{appliedOrigin, badEitherPad}
+use Rattle.window_spec.proofs.Changed.{applied-range}
 use borrow.Author.Needs.{needs}
 use Rattle.window.proofs.convolution.bad_kernel_reach.Statement.{statement}
 use Rattle.window.proofs.convolution.bad_kernel_reach.Tie as tie

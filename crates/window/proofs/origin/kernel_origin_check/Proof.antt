@@ -3,8 +3,8 @@ use mathlib.Core.Path.{ap, _∙_}
 use borrow.Author.Needs.{needs}
 use mir.Syntax.{w64}
 use mir.ValLaws.{toZ-ofZ}
-use Rattle.window.specs.Origin.{originPads}
-use Rattle.window.proofs.Answered.{origin-answers}
+use Rattle.window_spec.specs.Origin.{originPads}
+use Rattle.window_spec.proofs.Answered.{origin-answers}
 use Rattle.window.proofs.origin.kernel_origin_check.Statement.{statement}
 use Rattle.window.proofs.origin.kernel_origin_check.Tie as tie
 

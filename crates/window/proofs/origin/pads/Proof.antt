@@ -5,8 +5,9 @@ use native.Mathlib.Omega.{arith}
 use borrow.Author.Needs.{needs}
 use lib.IntN.{pos, negsuc}
 use Rattle.window.specs.declared.origin.Shift.{Shift}
-use Rattle.window.specs.Origin.{badOrigin, originOf}
-use Rattle.window.proofs.Origins.{accepted-on, accepted-back, pads-on, pads-back}
+use Rattle.window_spec.specs.Origin.{badOrigin}
+use Rattle.window.specs.Shift.{originOf}
+use Rattle.window_spec.proofs.Origins.{accepted-on, accepted-back, pads-on, pads-back}
 use Rattle.window.proofs.origin.pads.Statement.{statement}
 use Rattle.window.proofs.origin.pads.Tie as tie
 

@@ -2,8 +2,8 @@
 use mathlib.Core.Path.{sym}
 use native.Mathlib.Omega.{arith}
 use borrow.Author.Needs.{needs}
-use Rattle.window.specs.Origin.{originOf}
-use Rattle.window.proofs.Origins.{origin-none, origin-on, origin-back}
+use Rattle.window.specs.Shift.{originOf}
+use Rattle.window_spec.proofs.Origins.{origin-none, origin-on, origin-back}
 use Rattle.window.proofs.origin.refuses.Statement.{statement}
 use Rattle.window.proofs.origin.refuses.Tie as tie
 

@@ -1,7 +1,7 @@
 -- The sign and size that `split` gives stand for its argument, by the laws of Sign.
 use mathlib.Core.Path.{sym, ap, _∙_}
 use lib.IntN.{ℤ, natAbs}
-use Rattle.window.specs.Origin.{originOf}
+use Rattle.window.specs.Shift.{originOf}
 use Rattle.window.specs.declared.origin.Shift.the-variants.{On, Back}
 use Rattle.numbers.proofs.Sign.{below-is, below-next-fits, below-turned-fits, below-turned, below-casts, on-is, on-read, on-casts}
 use Rattle.window.proofs.origin.split.Statement.{statement}

@@ -6,9 +6,9 @@ use mathlib.Core.Bool.{Bool, true, false, cond}
 use native.Mathlib.Omega.{arith}
 use lib.IntN.{ℤ, pos, natAbs, _+ℤ_, _-ℤ_}
 use Rattle.numbers.proofs.Tests.{cond-no}
-use Rattle.window.specs.Origin.{badOrigin, originPads, refusalOfOrigin, OriginAnswers}
-use Rattle.window.specs.declared.origin.Origin.{Origin}
-use Rattle.window.specs.declared.origin.Origin.the-variants.{Pads, Refused}
+use Rattle.window_spec.specs.Origin.{badOrigin, originPads, refusalOfOrigin, OriginAnswers}
+use Rattle.window_spec.specs.declared.Origin.{Origin}
+use Rattle.window_spec.specs.declared.Origin.the-variants.{Pads, Refused}
 
 abbrev first : Origin → ℕ
 first (Pads x y) = x

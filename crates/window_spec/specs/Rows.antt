@@ -1,19 +1,19 @@
 -- Worked rows of this crate's definitions. Each holds by computing.
 --   axisPads len origin        the answer for a window along one axis
 --   kernelPads side origin     the answer for a grid kernel
---   WindowRows                 the rows
+--   WindowSpecRows                 the rows
 use Prim.Native.Nat.{ℕ, _-_, _/_, _^_}
 use mathlib.Core.Path.{_≡_}
 use mathlib.Core.Bool.{true, false}
 use mathlib.Core.List.{[], _∷_, _++_, map}
 use lib.IntN.{ℤ, pos}
 use Rattle.numbers.specs.Rows.{minus}
-use Rattle.window.specs.Origin.{badOrigin, originPads, refusalOfOrigin}
+use Rattle.window_spec.specs.Origin.{badOrigin, originPads, refusalOfOrigin}
 use Rattle.border.specs.Border.{along}
 use Rattle.border.specs.declared.CellBorder.the-variants.{Mirror, Reflect, Wrap}
-use Rattle.window.specs.Window.{badSize, badWindowOrigin, badReach, badKernelReach, changedOrigin, appliedOrigin}
-use Rattle.window.specs.declared.origin.Origin.{Origin}
-use Rattle.window.specs.declared.origin.Origin.the-variants.{Pads, Refused}
+use Rattle.window_spec.specs.Window.{badSize, badWindowOrigin, badReach, badKernelReach, changedOrigin, appliedOrigin}
+use Rattle.window_spec.specs.declared.Origin.{Origin}
+use Rattle.window_spec.specs.declared.Origin.the-variants.{Pads, Refused}
 
 abbrev pub axisPads : ℕ → ℤ → Origin
 axisPads len origin = originPads len (len / 2) (len - len / 2 - 1) origin
@@ -21,7 +21,7 @@ axisPads len origin = originPads len (len / 2) (len - len / 2 - 1) origin
 abbrev pub kernelPads : ℕ → ℤ → Origin
 kernelPads side origin = originPads side (side / 2) (side / 2) origin
 
-pub record WindowRows : Type 0 where
+pub record WindowSpecRows : Type 0 where
   -- origins at the limits of lengths 0, 1, 2, 4, 5 and 2^64 − 1
   pub origins-none : map (badOrigin 0) (minus 1 ∷ pos 0 ∷ pos 1 ∷ []) ≡ true ∷ true ∷ true ∷ []
   pub origins-one : map (badOrigin 1) (minus 1 ∷ pos 0 ∷ pos 1 ∷ []) ≡ true ∷ false ∷ true ∷ []

@@ -4,19 +4,16 @@
 --   refusalOfOrigin o                    the number of the answer o: 0, accepted, or 7
 --   OriginAnswers len left right origin o
 --                                        what an answer o promises: document 01's number, and the pads where that is 0
---   originOf s                           the signed number that a sign and a size stand for
 use Prim.Native.Nat.{ℕ, _/_}
 use mathlib.Core.Path.{_≡_}
 use mathlib.Core.Bool.{Bool, cond}
 use mathlib.Core.List.{[], _∷_}
-use lib.IntN.{ℤ, pos, negsuc, negℤ, natAbs, _+ℤ_, _-ℤ_}
+use lib.IntN.{ℤ, pos, negℤ, natAbs, _+ℤ_, _-ℤ_}
 use lib.Signed.{shrZ}
 use Rattle.numbers.specs.Ranges.{outsideZ}
 use Rattle.numbers.specs.Refusal.{refusalOf}
-use Rattle.window.specs.declared.origin.Origin.{Origin}
-use Rattle.window.specs.declared.origin.Origin.the-variants.{Pads, Refused}
-use Rattle.window.specs.declared.origin.Shift.{Shift}
-use Rattle.window.specs.declared.origin.Shift.the-variants.{On, Back}
+use Rattle.window_spec.specs.declared.Origin.{Origin}
+use Rattle.window_spec.specs.declared.Origin.the-variants.{Pads, Refused}
 
 -- shrZ .. 2 is the half, rounded down
 unfoldable pub badOrigin : ℕ → ℤ → Bool
@@ -34,7 +31,3 @@ refusalOfOrigin Refused = 7
 pub record OriginAnswers (len left right : ℕ) (origin : ℤ) (o : Origin) : Type 0 where
   pub number : refusalOfOrigin o ≡ refusalOf ((badOrigin len origin, 7) ∷ [])
   pub pads : o ≡ originPads len left right origin
-
-abbrev pub originOf : Shift → ℤ
-originOf (On k) = pos k
-originOf (Back k) = negsuc k

@@ -9,8 +9,8 @@ use lib.Dec.{ltb, leb}
 use lib.IntN.{ℤ, pos, negsuc, negℤ, natAbs, _+ℤ_, _-ℤ_, +ℤ-assoc, +ℤ-comm, +ℤ-idl, +ℤ-invr}
 use lib.Signed.{ltZ, shrZ}
 use Rattle.numbers.proofs.IntSum.{minus-pos}
-use Rattle.window.specs.declared.origin.Origin.the-variants.{Pads}
-use Rattle.window.specs.Origin.{badOrigin, originPads}
+use Rattle.window_spec.specs.declared.Origin.the-variants.{Pads}
+use Rattle.window_spec.specs.Origin.{badOrigin, originPads}
 
 -- ---- condition 7 by the sign
 

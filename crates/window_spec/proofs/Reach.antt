@@ -11,12 +11,12 @@ use lib.IntN.{ℤ}
 use Rattle.numbers.specs.Lists.{anyOf}
 use Rattle.numbers.proofs.Any.{any-and}
 use Rattle.border.specs.Border.{Border}
-use Rattle.window.specs.Origin.{badOrigin, originPads}
-use Rattle.window.specs.Window.{leftOf, rightOf, leftPad, rightPad, badWindowOrigin, badEitherPad, badReach}
-use Rattle.window.specs.declared.origin.Origin.{Origin}
-use Rattle.window.specs.declared.origin.Origin.the-variants.{Pads, Refused}
-use Rattle.window.proofs.Answered.{not-refused, left-is, right-is}
-use Rattle.window.proofs.Origins.{pads-sum, axis-accepted, accepted-some}
+use Rattle.window_spec.specs.Origin.{badOrigin, originPads}
+use Rattle.window_spec.specs.Window.{leftOf, rightOf, leftPad, rightPad, badWindowOrigin, badEitherPad, badReach}
+use Rattle.window_spec.specs.declared.Origin.{Origin}
+use Rattle.window_spec.specs.declared.Origin.the-variants.{Pads, Refused}
+use Rattle.window_spec.proofs.Answered.{not-refused, left-is, right-is}
+use Rattle.window_spec.proofs.Origins.{pads-sum, axis-accepted, accepted-some}
 
 -- the cells of a window are its pads and the cell itself
 pub pads-size : (size : ℕ) (o : ℤ) → badOrigin size o ≡ false → leftPad size o + rightPad size o + 1 ≡ size

@@ -13,9 +13,9 @@ use mir.ValLaws.{toZ-ofZ}
 use Rattle.numbers.proofs.IntSum.{minus-pos}
 use Rattle.numbers.proofs.Size.{Size, size-neg, fits-size}
 use Rattle.numbers.proofs.Tests.{leb-ltb}
-use Rattle.window.specs.Origin.{badOrigin}
-use Rattle.window.proofs.Origins.{origin-none, origin-on, origin-back, accepted-on, accepted-back}
-use Rattle.window.specs.Window.{changedOrigin, appliedOrigin}
+use Rattle.window_spec.specs.Origin.{badOrigin}
+use Rattle.window_spec.proofs.Origins.{origin-none, origin-on, origin-back, accepted-on, accepted-back}
+use Rattle.window_spec.specs.Window.{changedOrigin, appliedOrigin}
 
 -- ---- the range
 -- j places back and k places on: refused alike where the counts agree

@@ -25,7 +25,7 @@ use Rattle.numbers.specs.Lists.{anyOf}
 use Rattle.numbers.specs.Ranges.{outside}
 use Rattle.border.specs.Border.{Border}
 use Rattle.border.specs.Reach.{badPad}
-use Rattle.window.specs.Origin.{badOrigin}
+use Rattle.window_spec.specs.Origin.{badOrigin}
 
 abbrev pub leftOf : ℕ → ℕ
 leftOf len = len / 2
