@@ -85,7 +85,8 @@ module _ (levels : List ℤ) (out₀ out m : List ℕ) (at i n : ℕ) (d z : ℤ
       → putMid at (length out - at) out m ≡ levelLines (take (i + 1) levels) ++ drop (at + n) out₀
   more-lines f =
       (λ j. front j ++ (m ++ past j))
-      ∙ ap (λ s. levelLines (take i levels) ++ s) (append-nil m ∙ f ∙ ap (λ s. lineOf z ++ drop (length (lineOf z)) s) (all-from at out ∙ rest) ∙ ap (λ s. lineOf z ++ s) (drop-drop (length (lineOf z)) at out₀))
+      ∙ ap (λ s. levelLines (take i levels) ++ s) (append-nil m ∙ f ∙ ap (λ s. lineOf z ++ drop (length (lineOf z)) s) (all-from at out ∙ rest)
+      ∙ ap (λ s. lineOf z ++ s) (drop-drop (length (lineOf z)) at out₀))
       ∙ sym (append-assoc (levelLines (take i levels)) (lineOf z) (drop (at + length (lineOf z)) out₀))
       ∙ (λ j. sym next j ++ drop (at + sym g j) out₀)
     where

@@ -20,8 +20,8 @@ use Rattle.play_text.proofs.rows.Statement.{statement}
 use Rattle.play_text.proofs.rows.Tie as tie
 
 returns : tie.Need-returns
-unfolding placesOf tabulate windowOf placeOf coordinate badShape gridCount badLevel alongAxis cellFor extendedLane badOrigin paddedAt paddedLine firstIn answerOf modeOf fileOf badMark badStepCount badStepConstant
-    badStepOrigin badStep played stepsJudged notNumber badWord wordOutside axisCount
+unfolding placesOf tabulate windowOf placeOf coordinate badShape gridCount badLevel alongAxis cellFor extendedLane badOrigin paddedAt paddedLine firstIn answerOf modeOf fileOf badMark badStepCount
+    badStepConstant badStepOrigin badStep played stepsJudged notNumber badWord wordOutside axisCount
 returns c =
     record {
       example = refl;

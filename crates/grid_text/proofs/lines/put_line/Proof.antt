@@ -25,7 +25,9 @@ add-result c =
     let s = c .before .before .before .before .before in
     let w = c .before .before .write-signed in
     let y = toZ-ofZ {w = w64} (s .fits .z) in
-    omega (arith, put-line (s .args .z) (s .args .out .now) (s .pre) (w .last .1 .0) (w .result) (w .ensures .0 ∙ ap (λ x. writtenCount (signedText x) (s .args .out .now)) y) (w .ensures .1 ∙ ap (λ x. writtenIn (signedText x) (s .args .out .now)) y) .0, line-most (s .args .z))
+    let p = put-line (s .args .z) (s .args .out .now) (s .pre) (w .last .1 .0) (w .result) (w .ensures .0 ∙ ap (λ x. writtenCount (signedText x) (s .args .out .now)) y)
+    (w .ensures .1 ∙ ap (λ x. writtenIn (signedText x) (s .args .out .now)) y) in
+    omega (arith, p .0, line-most (s .args .z))
 
 same-length : tie.Need-same-length
 same-length c = search needs
@@ -35,7 +37,8 @@ returns c =
     let s = c .before .before .before .before .before in
     let w = c .before .before .write-signed in
     let y = toZ-ofZ {w = w64} (s .fits .z) in
-    put-line (s .args .z) (s .args .out .now) (s .pre) (w .last .1 .0) (w .result) (w .ensures .0 ∙ ap (λ x. writtenCount (signedText x) (s .args .out .now)) y) (w .ensures .1 ∙ ap (λ x. writtenIn (signedText x) (s .args .out .now)) y)
+    put-line (s .args .z) (s .args .out .now) (s .pre) (w .last .1 .0) (w .result) (w .ensures .0 ∙ ap (λ x. writtenCount (signedText x) (s .args .out .now)) y)
+    (w .ensures .1 ∙ ap (λ x. writtenIn (signedText x) (s .args .out .now)) y)
 
 pub put-line-spec : {M : Type 1} → statement M
 put-line-spec =

@@ -16,7 +16,8 @@ returns-3 : tie.Need-returns-3
 returns-3 c e = absurd (true≢false (sym e))
 
 returns-4 : tie.Need-returns-4
-returns-4 c e = (c .before .before .before .before .if1 .left, c .before .before .before .if2 .left, c .before .if3 .left, ltb-true (c .before .before .before .before .before .args .word .size) 10000000000000000 e)
+returns-4 c e =
+    (c .before .before .before .before .if1 .left, c .before .before .before .if2 .left, c .before .if3 .left, ltb-true (c .before .before .before .before .before .args .word .size) 10000000000000000 e)
 
 pub is-plain-spec : {M : Type 1} → statement M
 is-plain-spec = tie.close (tie.spec returns returns-2 returns-3 returns-4)

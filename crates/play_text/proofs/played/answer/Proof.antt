@@ -24,7 +24,8 @@ finish-requires c κs = search needs
 returns-2 : tie.Need-returns-2
 returns-2 c =
     let a = c .before .before .before .before .before .before .args in
-    from-text (a .file .now) (a .state) (a .lengths .now) (a .levels .now) (a .out .now) (a .second .now) (ap (λ (x : Recipe). x .number) (c .before .before .before .read-recipe .ensures .hands)) (c .before .before .if1 .left) (c .before .finish .ensures) (c .if2 .taken)
+    from-text (a .file .now) (a .state) (a .lengths .now) (a .levels .now) (a .out .now) (a .second .now)
+    (ap (λ (x : Recipe). x .number) (c .before .before .before .read-recipe .ensures .hands)) (c .before .before .if1 .left) (c .before .finish .ensures) (c .if2 .taken)
 
 cast-axes : tie.Need-cast-axes
 cast-axes c = search needs
@@ -39,7 +40,8 @@ returns-3 : tie.Need-returns-3
 returns-3 c =
     let a = c .before .before .before .before .before .before .before .before .before .before .before .args in
     from-room (a .file .now) (a .state) (a .lengths .now) (a .levels .now) (a .out .now) (a .second .now)
-    (ap (λ (x : Recipe). x .number) (c .before .before .before .before .before .before .before .before .read-recipe .ensures .hands)) (c .before .before .before .before .before .before .before .if1 .left)
+    (ap (λ (x : Recipe). x .number) (c .before .before .before .before .before .before .before .before .read-recipe .ensures .hands))
+    (c .before .before .before .before .before .before .before .if1 .left)
     (c .before .before .before .before .before .before .finish .ensures) (c .before .before .before .before .before .if2 .left) (sym (c .before .lacks-room .ensures) ∙ c .if3 .taken)
 
 slice-aggregate-play : tie.Need-slice-aggregate-play
@@ -93,7 +95,8 @@ returns-4 c =
     let p = c .before .before .play in
     from-play (a .file .now) (a .state) (a .lengths .now) (a .levels .now) (a .out .now) (a .second .now)
     (ap (λ (x : Recipe). x .number) (c .before .before .before .before .before .before .before .before .before .before .before .before .before .before .before .read-recipe .ensures .hands))
-    (c .before .before .before .before .before .before .before .before .before .before .before .before .before .before .if1 .left) (c .before .before .before .before .before .before .before .before .before .before .before .before .before .finish .ensures)
+    (c .before .before .before .before .before .before .before .before .before .before .before .before .before .before .if1 .left)
+    (c .before .before .before .before .before .before .before .before .before .before .before .before .before .finish .ensures)
     (c .before .before .before .before .before .before .before .before .before .before .before .before .if2 .left) (p .last .1 .1 .1 .0) (p .last .1 .1 .1 .1 .0) (p .result) (p .ensures)
 
 pub answer-spec : {M : Type 1} → statement M
