@@ -37,20 +37,41 @@ pub fn spell(n: u64, base: u64, k: usize, out: &mut [u8])
     }
 }
 
+// The last k decimal digits of n at the front of out, two a turn, since a division takes longer than all else; the rest
+// of out stays.
+fn spell_decimal(n: u64, k: usize, out: &mut [u8])
+    requires { ⌜ k ≤ length (now out) ⌝ }
+    ensures { λ _. ⌜ now (out .exit) ≡ digitsOf 10 k n ++ drop k (now (out .entry)) ⌝ }
+{
+    let mut i = k;
+    let mut rest = n;
+    while i > 1 {
+        let pair = rest % 100;
+        out[i - 1] = glyph(pair % 10);
+        out[i - 2] = glyph(pair / 10);
+        rest /= 100;
+        i -= 2;
+    }
+    if i == 0 {
+        return;
+    }
+    out[0] = glyph(rest % 10);
+}
+
 // How many decimal digits n has, at most 19.
 fn places(n: u64) -> usize
     ensures { λ r. ⌜ r ≡ placesOf 18 n ⌝ }
 {
-    let mut left = 18;
-    let mut rest = n;
-    while left > 0 {
-        if rest < 10 {
+    let mut k = 0;
+    let mut power = 10;
+    while k < 18 {
+        if n < power {
             break;
         }
-        rest /= 10;
-        left -= 1;
+        power *= 10;
+        k += 1;
     }
-    19 - left
+    k + 1
 }
 
 // The size of a signed number.
@@ -70,7 +91,7 @@ fn write_size(n: u64, out: &mut [u8]) -> usize
     ensures { λ r. ⌜ now (out .exit) ≡ decimalText n ++ drop (placesOf 18 n) (now (out .entry)) ⌝ }
 {
     let k = places(n);
-    spell(n, 10, k, out);
+    spell_decimal(n, k, out);
     k
 }
 

@@ -1,7 +1,7 @@
 -- The digits of a number: how many, each below the base, their value, and writing them from the last one on.
 -- Assumes nothing.
 use Prim.Native.Nat.{ℕ, zero, suc, _+_, _-_, _*_, _/_, _%_, _^_, _≤_, _<_}
-use native.Mathlib.Nat.{mod-lt, div-add-mod', div-lt-iff-lt-mul, not-suc-le-zero, pow-zero, pow-suc}
+use native.Mathlib.Nat.{mod-lt, mul-comm, div-add-mod', div-one, div-div-eq-div-mul, div-lt-iff-lt-mul, le-div-iff-mul-le, not-suc-le-zero, pow-zero, pow-suc, pow-succ', one-le-pow, pow-le-pow-right}
 use native.Mathlib.Numerals.{add-one, sub-one}
 use native.Mathlib.Omega.{arith}
 use mathlib.Core.Path.{_≡_, refl, sym, ap, _∙_}
@@ -92,6 +92,52 @@ unfolding placesOf
 places-more zero n h l = absurd (not-suc-le-zero h)
 places-more (suc f) n h l = rw (sub-one, le-ltb n 10 l) (omega arith)
 
+-- ---- the count by rising powers: after k turns the power is 10^(k + 1)
+pub record Counting (n k power : ℕ) : Type 0 where
+  pub few : k ≤ 18
+  pub power-is : power ≡ 10 ^ (k + 1)
+  pub counted : k + placesOf (18 - k) (n / 10 ^ k) ≡ placesOf 18 n
+
+power-next : (k : ℕ) → 10 ^ (k + 1) ≡ 10 * 10 ^ k
+power-next k = ap (λ (e : ℕ). 10 ^ e) (add-one k) ∙ pow-succ' 10 k
+
+pub count-none : (n : ℕ) → Counting n 0 10
+count-none n = record { few = omega arith; power-is = refl; counted = omega (arith, ap (placesOf 18) (div-one n)) }
+
+pub count-more : {n k power : ℕ} → Counting n k power → k < 18 → power ≤ n → Counting n (k + 1) (power * 10)
+count-more {n} {k} {power} c h l = record { few = omega arith; power-is = risen; counted = omega (arith, c .counted, turned) }
+  where
+    risen : power * 10 ≡ 10 ^ (k + 1 + 1)
+    risen = mul-comm power 10 ∙ ap (λ (p : ℕ). 10 * p) (c .power-is) ∙ sym (power-next (k + 1))
+
+    some : 10 ≤ n / 10 ^ k
+    some = le-div-iff-mul-le (one-le-pow k 10 (omega arith)) .1 (rw (sym (power-next k), sym (c .power-is)) l)
+
+    on : n / 10 ^ k / 10 ≡ n / 10 ^ (k + 1)
+    on = div-div-eq-div-mul n (10 ^ k) 10 ∙ ap (λ (p : ℕ). n / p) (mul-comm (10 ^ k) 10 ∙ sym (power-next k))
+
+    fewer : 18 - k - 1 ≡ 18 - (k + 1)
+    fewer = omega arith
+
+    turned : placesOf (18 - k) (n / 10 ^ k) ≡ 1 + placesOf (18 - (k + 1)) (n / 10 ^ (k + 1))
+    turned = places-more (18 - k) (n / 10 ^ k) (omega arith) some ∙ ap (λ (m : ℕ). 1 + placesOf (18 - k - 1) m) on ∙ ap (λ (f : ℕ). 1 + placesOf f (n / 10 ^ (k + 1))) fewer
+
+-- ten times the power fits
+pub count-fits : {n k power : ℕ} → Counting n k power → k < 18 → power ≤ 1000000000000000000
+count-fits {k = k} c h = rw (c .power-is) (pow-le-pow-right {n = 10} (omega arith) {i = k + 1} {j = 18} (omega arith))
+
+pub count-end : {n k power : ℕ} → Counting n k power → n < power → k + 1 ≡ placesOf 18 n
+count-end {n} {k} {power} c h = ap (λ (m : ℕ). k + m) (sym (places-end (18 - k) (n / 10 ^ k) few)) ∙ c .counted
+  where
+    few : n / 10 ^ k < 10
+    few = div-lt-iff-lt-mul (one-le-pow k 10 (omega arith)) .1 (rw (sym (power-next k), sym (c .power-is)) h)
+
+pub count-all : {n k power : ℕ} → Counting n k power → 18 ≤ k → k + 1 ≡ placesOf 18 n
+count-all {n} {k} c h = ap (λ (m : ℕ). k + m) (sym (places-none (n / 10 ^ k))) ∙ ap (λ (f : ℕ). k + placesOf f (n / 10 ^ k)) none ∙ c .counted
+  where
+    none : 0 ≡ 18 - k
+    none = omega arith
+
 -- ---- writing from the last digit on: the digit at i - 1
 pub spell-step : (b i rest : ℕ) (out : List ℕ) → 0 < i → i ≤ length out
     → digitsOf b (i - 1) (rest / b) ++ drop (i - 1) (set out (i - 1) (glyphOf (rest % b))) ≡ digitsOf b i rest ++ drop i out
@@ -105,3 +151,27 @@ spell-step b (suc j) rest out h l =
   where
     v : ℕ
     v = glyphOf (rest % b)
+
+-- two decimal digits a turn
+pub spell-two : (i rest : ℕ) (out : List ℕ) → 1 < i → i ≤ length out
+    → digitsOf 10 (i - 2) (rest / 100) ++ drop (i - 2) (set (set out (i - 1) (glyphOf (rest % 100 % 10))) (i - 2) (glyphOf (rest % 100 / 10)))
+    ≡ digitsOf 10 i rest ++ drop i out
+spell-two i rest out h l = rw (last, next, on, fewer) (spell-step 10 (i - 1) (rest / 10) kept (omega arith) inside ∙ spell-step 10 i rest out (omega arith) l)
+  where
+    kept : List ℕ
+    kept = set out (i - 1) (glyphOf (rest % 10))
+
+    inside : i - 1 ≤ length kept
+    inside = omega (arith, length-set out (i - 1) (glyphOf (rest % 10)))
+
+    last : rest % 100 % 10 ≡ rest % 10
+    last = omega arith
+
+    next : rest % 100 / 10 ≡ rest / 10 % 10
+    next = omega arith
+
+    on : rest / 100 ≡ rest / 10 / 10
+    on = omega arith
+
+    fewer : i - 2 ≡ i - 1 - 1
+    fewer = omega arith
