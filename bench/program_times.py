@@ -1,8 +1,8 @@
 """program_times.py PLAY: the program `play` reads a grid of 8,192 levels and prints it, beside awk '{print}' on the same text.
 
 The recipe is one minimum of length 1, which copies: reading and printing are what is timed. The text has a level a line. Both read from a file
-and write to a file, run in turn, 50 times each; the median counts, from the start of the process to its end. The last column is `true`, which
-does nothing: what starting a process costs."""
+and write to a file, which is emptied before the clock starts; they run in turn, 50 times each; the median counts, from the start of the process
+to its end. The last column is `true`, which does nothing: what starting a process costs."""
 import os
 import pathlib
 import random
@@ -20,12 +20,15 @@ LEVELS = (("levels 0 to 255", 0, 255), ("levels of 31 bits and a sign", -(2**31 
 
 def seconds(command):
     """How long a command takes over the file text into the file out."""
-    opened = [(os.POSIX_SPAWN_OPEN, 0, "text", os.O_RDONLY, 0),
-              (os.POSIX_SPAWN_OPEN, 1, "out", os.O_WRONLY | os.O_CREAT | os.O_TRUNC, 0o600)]
+    text = os.open("text", os.O_RDONLY)
+    out = os.open("out", os.O_WRONLY | os.O_CREAT | os.O_TRUNC, 0o600)
+    lent = [(os.POSIX_SPAWN_DUP2, text, 0), (os.POSIX_SPAWN_DUP2, out, 1)]
     start = time.perf_counter()
-    pid = os.posix_spawn(command[0], command, os.environ, file_actions=opened)
+    pid = os.posix_spawn(command[0], command, os.environ, file_actions=lent)
     _, status = os.waitpid(pid, 0)
     spent = time.perf_counter() - start
+    os.close(text)
+    os.close(out)
     if status != 0:
         raise SystemExit("bench: %s ended with status %d" % (command[0], status))
     return spent
