@@ -4,9 +4,9 @@ use Prim.Native.Nat.{ℕ, _+_, _-_, _*_, _≤_, _<_, min}
 use native.Mathlib.Omega.{arith}
 use mathlib.Core.Path.{_≡_, refl, sym, ap, _∙_}
 use mathlib.Core.Bool.{Bool, true, false, _&&_, _||_, cond}
-use borrow.Author.Tests.{le-ltb, lt-ltb, lt-leb, ne-eqb}
+use borrow.Author.Tests.{le-ltb, lt-ltb, lt-leb, ne-eqb, leb-true, ltb-true}
 use lib.Dec.{leb, ltb, eqb}
-use Rattle.numbers.proofs.Tests.{or-none, or-no}
+use Rattle.numbers.proofs.Tests.{or-none, or-no, and-true}
 use Rattle.text_spec.specs.Reading.{digitOf, noDigit}
 use Rattle.grid_text_spec.specs.declared.TextWord.{TextWord}
 use Rattle.grid_text_spec.specs.Words.{gapByte}
@@ -14,6 +14,14 @@ use Rattle.grid_text_spec.specs.Machine.{digitCap, sizeCap, capped, isEmpty, mi
 
 abbrev pub Plain : TextWord → ℕ → Type 0
 Plain w x = (48 ≤ x) × (x < 58) × (w .digits < 18) × (w .size < 10000000000000000)
+
+-- what a yes of `is_plain` says
+pub plain-is : (w : TextWord) (x : ℕ) → leb 48 x && (ltb x 58 && (ltb (w .digits) 18 && ltb (w .size) 10000000000000000)) ≡ true → Plain w x
+plain-is w x e =
+    let a = and-true (leb 48 x) (ltb x 58 && (ltb (w .digits) 18 && ltb (w .size) 10000000000000000)) e in
+    let b = and-true (ltb x 58) (ltb (w .digits) 18 && ltb (w .size) 10000000000000000) (a .1) in
+    let d = and-true (ltb (w .digits) 18) (ltb (w .size) 10000000000000000) (b .1) in
+    (leb-true 48 x (a .0), ltb-true x 58 (b .0), ltb-true (w .digits) 18 (d .0), ltb-true (w .size) 10000000000000000 (d .1))
 
 apart : (x n : ℕ) → 48 ≤ x → n < 48 → eqb x n ≡ false
 apart x n h l = ne-eqb x n (clash h l)

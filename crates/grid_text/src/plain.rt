@@ -1,7 +1,8 @@
 // Digits that reach no cap. Nearly every byte of a text is one, and this is the shortest way for it.
 ghost use mathlib.Core.Path.{_≡_};
-ghost use mathlib.Core.Bool.{true};
+ghost use mathlib.Core.Bool.{_&&_};
 ghost use Prim.Native.Nat.{_≤_, _<_};
+ghost use lib.Dec.{leb, ltb};
 ghost use Rattle.grid_text_spec.specs.Machine.{nextByte};
 use grid_text_spec::TextWord;
 
@@ -20,8 +21,8 @@ fn wide(byte: u8) -> u64
 
 // Whether a byte is a digit that lengthens a word without reaching a cap. No is never wrong: the longer way serves all.
 pub(crate) fn is_plain(word: TextWord, byte: u8) -> bool
-    ensures { λ r. ⌜ (r ≡ true → (48 ≤ byte) × (byte < 58) × (word .digits < 18)
-        × (word .size < 10000000000000000)) ⌝ }
+    ensures { λ r. ⌜ r ≡ leb 48 byte && (ltb byte 58 && (ltb (word .digits) 18
+        && ltb (word .size) 10000000000000000)) ⌝ }
 {
     if byte < 48 {
         return false;

@@ -3,7 +3,7 @@
 use mathlib.Core.Path.{refl, sym, _∙_}
 use borrow.Author.Needs.{needs}
 use Rattle.grid_text_spec.specs.Machine.{byteFed, stateAfter}
-use Rattle.grid_text.proofs.Digit.{plain-gap}
+use Rattle.grid_text.proofs.Digit.{plain-is, plain-gap}
 use Rattle.grid_text.proofs.machine.step.Statement.{statement}
 use Rattle.grid_text.proofs.machine.step.Tie as tie
 
@@ -11,13 +11,15 @@ is-plain-requires : tie.Need-is-plain-requires
 is-plain-requires c κs = search needs
 
 plain-byte-requires : tie.Need-plain-byte-requires
-plain-byte-requires c κs = c .before .is-plain .ensures (c .if1 .taken)
+plain-byte-requires c κs =
+    let a = c .before .before .before .before .before .args in
+    plain-is (a .state .word) (a .byte) (sym (c .before .is-plain .ensures) ∙ c .if1 .taken)
 
 returns : tie.Need-returns
 unfolding byteFed stateAfter
 returns c =
     let a = c .before .before .before .before .before .before .args in
-    rw (plain-gap (a .state .word) (a .byte) (c .before .before .is-plain .ensures (c .before .if1 .taken))) (cc)
+    rw (plain-gap (a .state .word) (a .byte) (plain-is (a .state .word) (a .byte) (sym (c .before .before .is-plain .ensures) ∙ c .before .if1 .taken))) (cc)
 
 is-gap-requires : tie.Need-is-gap-requires
 is-gap-requires c κs = search needs
