@@ -2,7 +2,7 @@
 -- Assumes nothing.
 use Prim.Native.Nat.{ℕ, _/_, _≤_, _<_}
 use native.Mathlib.Omega.{arith}
-use mathlib.Core.Path.{_≡_, refl, sym, ap, _∙_}
+use mathlib.Core.Path.{_≡_, refl, sym, ap, subst, _∙_}
 use mathlib.Core.Bool.{Bool, true, false, cond}
 use mathlib.Core.List.{List, [], _∷_, _++_}
 use borrow.Author.Tests.{eq-eqb, ne-eqb, eqb-true, eqb-false, le-ltb}
@@ -22,7 +22,7 @@ use Rattle.grid_text_spec.specs.Words.{textWords, textJudged}
 use Rattle.grid_text_spec.specs.Machine.{machine, startState, fed}
 use Rattle.grid_text_spec.specs.Lines.{levelLines, roomLacks, linesIn, linesCount}
 use Rattle.grid_text_spec.proofs.Grids.{no-more}
-use Rattle.play_text.specs.PlayText.{playTextJudged, playedText, atFront, PlayedFrom, shownLevels, printedText, printRoom, PrintedFrom}
+use Rattle.play_text.specs.PlayText.{playTextJudged, playedText, atFront, PlayedText, PlayedFrom, shownLevels, printedText, printRoom, PrintedFrom}
 use Rattle.play_text.proofs.FromText.{restJudged, played-count, cells-played}
 
 -- ---- lines of no more levels than a grid has, where there is room
@@ -32,11 +32,17 @@ lines-there xs text r text′ h w p q =
     let no : roomLacks xs text ≡ false = le-ltb (length text / 21) (length xs) (omega arith) in
     (p ∙ cond-no (roomLacks xs text) 0 (length (levelLines xs)) no, q ∙ cond-no (roomLacks xs text) text (levelLines xs ++ drop (length (levelLines xs)) text) no)
 
-printed-is : (f t : List ℕ) (xs : List ℤ) (text : List ℕ) (r : ℕ) (text′ : List ℕ) → shownLevels (refusalOf (playTextJudged f t)) (playedText f t) ≡ xs
-    → (r ≡ length (levelLines xs)) × (text′ ≡ levelLines xs ++ drop (length (levelLines xs)) text)
-    → (r ≡ length (printedText f t)) × (text′ ≡ printedText f t ++ drop (length (printedText f t)) text)
-printed-is f t xs text r text′ y p =
-    (p .0 ∙ ap (λ l. length (levelLines l)) (sym y), p .1 ∙ ap (λ l. levelLines l ++ drop (length (levelLines l)) text) (sym y))
+printed-is : (f t : List ℕ) (out second out′ second′ xs : List ℤ) (text : List ℕ) (r : ℕ) (text′ : List ℕ)
+    → PlayedText f t out second (refusalOf (playTextJudged f t)) out′ second′
+    → shownLevels (refusalOf (playTextJudged f t)) (playedText f t) ≡ xs → (r ≡ length (levelLines xs)) × (text′ ≡ levelLines xs ++ drop (length (levelLines xs)) text)
+    → (r ≡ length (printedText f t)) × (text′ ≡ printedText f t ++ drop (length (printedText f t)) text) × PlayedText f t out second (refusalOf (playTextJudged f t)) out′ second′
+printed-is f t out second out′ second′ xs text r text′ a y p =
+    (p .0 ∙ ap (λ l. length (levelLines l)) (sym y), p .1 ∙ ap (λ l. levelLines l ++ drop (length (levelLines l)) text) (sym y), a)
+
+-- what the answer has left, under the number of the file and the text
+left-as : {f t : List ℕ} {out second out′ second′ : List ℤ} {k : ℕ} → PlayedText f t out second k out′ second′
+    → PlayedText f t out second (refusalOf (playTextJudged f t)) out′ second′
+left-as {f} {t} {out} {second} {out′} {second′} a = subst (λ n. PlayedText f t out second n out′ second′) (a .filled .number) a
 
 -- ---- an accepted answer has an accepted text
 first-none : (js ks : Judged) → Every (λ j. T (ltb 0 (j .1))) js → refusalOf (js ++ ks) ≡ 0 → refusalOf js ≡ 0
@@ -60,10 +66,10 @@ text-accepted f t e =
 -- ---- the returns
 module _ (f : List ℕ) (s : TextState) (l′ : List ℕ) (v′ out second out′ second′ : List ℤ) (text : List ℕ) {k : ℕ} (A : PlayedFrom f (machine s l′ v′) out second k out′ second′) where
   pub printed-number : (k ≡ 0 → ⊥) → {r : ℕ} {text′ : List ℕ} → r ≡ linesCount (pos k ∷ []) text → text′ ≡ linesIn (pos k ∷ []) text
-      → PrintedFrom f (machine s l′ v′) (length out) (length second) text r text′
+      → PrintedFrom f (machine s l′ v′) out second text r out′ second′ text′
   printed-number h {r} {text′} p q = record {
     texts = λ t l v a b c d w e.
-        printed-is f t (pos k ∷ []) text r text′
+        printed-is f t out second out′ second′ (pos k ∷ []) text r text′ (left-as (A .texts t l v a b c d e))
         (ap (λ n. shownLevels n (playedText f t)) (sym (A .texts t l v a b c d e .filled .number)) ∙ cond-no (eqb k 0) (playedText f t) (pos k ∷ []) (ne-eqb k 0 h))
         (lines-there (pos k ∷ []) text r text′ (omega arith) w p q);
   }
@@ -95,15 +101,16 @@ module _ (f : List ℕ) (s : TextState) (l′ : List ℕ) (v′ out second out�
       few : length (take (s .shape .cells) out′) ≤ mostCells
       few = omega (arith, ap length front-is, played-count f t l v s l′ v′ e a b none, no-more (textWords t) none)
 
-    pub printed-short : length out′ < s .shape .cells → PrintedFrom f (machine s l′ v′) (length out) (length second) text 0 text
+    pub printed-short : length out′ < s .shape .cells → PrintedFrom f (machine s l′ v′) out second text 0 out′ second′ text
     printed-short h = record { texts = λ t l v a b c d w e. absurd (clash (there t l v a b c d e)) }
       where
         clash : s .shape .cells ≤ length out′ → ⊥
         clash g = omega arith
 
     pub printed-levels : {r : ℕ} {text′ : List ℕ} → r ≡ linesCount (take (s .shape .cells) out′) text → text′ ≡ linesIn (take (s .shape .cells) out′) text
-        → PrintedFrom f (machine s l′ v′) (length out) (length second) text r text′
+        → PrintedFrom f (machine s l′ v′) out second text r out′ second′ text′
     printed-levels {r} {text′} p q = record {
       texts = λ t l v a b c d w e.
-          printed-is f t (take (s .shape .cells) out′) text r text′ (shown-is t l v a b c d e) (lines-there (take (s .shape .cells) out′) text r text′ (few t l v a b c d e) w p q);
+          printed-is f t out second out′ second′ (take (s .shape .cells) out′) text r text′ (left-as (A .texts t l v a b c d e)) (shown-is t l v a b c d e)
+          (lines-there (take (s .shape .cells) out′) text r text′ (few t l v a b c d e) w p q);
     }

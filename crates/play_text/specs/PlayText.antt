@@ -11,9 +11,9 @@
 --   shownLevels r levels   what is printed: the levels, or the refusal number alone
 --   printedText f t        the bytes that are printed
 --   printRoom              the bytes that the longest print may have
---   PrintedFrom f m out second text r text′
+--   PrintedFrom f m out second text r out′ second′ text′
 --                          of every text from which the machine m came: text′ starts with the r bytes that are
---                          printed; out and second are lengths
+--                          printed, and out′ and second′ are as PlayedText says
 use Prim.Native.Nat.{ℕ, _*_, _≤_}
 use mathlib.Core.Path.{_≡_}
 use mathlib.Core.Bool.{cond}
@@ -60,8 +60,9 @@ printedText f t = levelLines (shownLevels (refusalOf (playTextJudged f t)) (play
 abbrev pub printRoom : ℕ
 printRoom = lineRoom * mostCells
 
-pub record PrintedFrom (f : List ℕ) (m : Machine) (out second : ℕ) (text : List ℕ) (r : ℕ)
-    (text′ : List ℕ) : Type 0 where
-  pub texts : (t l : List ℕ) (v : List ℤ) → 3 ≤ length l → mostCells ≤ length v → mostCells ≤ out → mostCells ≤ second
-      → printRoom ≤ length text → m ≡ fed (machine startState l v) (t ++ 10 ∷ [])
+pub record PrintedFrom (f : List ℕ) (m : Machine) (out second : List ℤ) (text : List ℕ) (r : ℕ)
+    (out′ second′ : List ℤ) (text′ : List ℕ) : Type 0 where
+  pub texts : (t l : List ℕ) (v : List ℤ) → 3 ≤ length l → mostCells ≤ length v → mostCells ≤ length out
+      → mostCells ≤ length second → printRoom ≤ length text → m ≡ fed (machine startState l v) (t ++ 10 ∷ [])
       → (r ≡ length (printedText f t)) × (text′ ≡ printedText f t ++ drop (length (printedText f t)) text)
+      × PlayedText f t out second (refusalOf (playTextJudged f t)) out′ second′

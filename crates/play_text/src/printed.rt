@@ -2,7 +2,6 @@
 ghost use mathlib.Core.Path.{_≡_};
 ghost use mathlib.Core.List.{[], _∷_};
 ghost use lib.IntN.{pos};
-ghost use lib.ListN.{length};
 ghost use Rattle.grid_text_spec.specs.Machine.{machine};
 ghost use Rattle.grid_text_spec.specs.Lines.{linesIn, linesCount};
 ghost use Rattle.play_text.specs.PlayText.{PrintedFrom};
@@ -36,7 +35,8 @@ pub fn respond(
     text: &mut [u8],
 ) -> usize
     ensures { λ r. ⌜ PrintedFrom (now (file .entry)) (machine state (now (lengths .entry)) (now (levels .entry)))
-        (length (now (out .entry))) (length (now (second .entry))) (now (text .entry)) r (now (text .exit)) ⌝ }
+        (now (out .entry)) (now (second .entry)) (now (text .entry)) r (now (out .exit)) (now (second .exit))
+        (now (text .exit)) ⌝ }
 {
     let number = answer(file, state, lengths, levels, out, second);
     if number != 0 {
