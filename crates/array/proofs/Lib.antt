@@ -1,5 +1,2 @@
 -- Laws of the conditions.
-pub mod Finite
 pub mod Levels
-pub mod Raising
-pub mod Halves

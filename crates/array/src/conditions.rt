@@ -1,12 +1,14 @@
-// Conditions 1, 2, 3 and 8 of a refusal, a function for each, for every argument there is.
+// Conditions 1, 2 and 8 of a refusal, a function for each, for every argument there is; and the judge of a grid.
 ghost use mathlib.Core.Path.{_≡_};
 ghost use mathlib.Core.Bool.{not};
 ghost use mathlib.Core.List.{[], _∷_};
 ghost use lib.Dec.{eqb};
 ghost use Rattle.numbers.specs.Lists.{anyOf};
 ghost use Rattle.numbers.specs.Refusal.{refusalOf};
-ghost use Rattle.array_spec.specs.Conditions.{badShape, badLength, badLevel, badFloat, badAxis, gridJudgedBy, gridJudged};
-use crate::shapes::cell_count;
+ghost use Rattle.array_spec.specs.Conditions.{badShape, badLength, badFloat, badAxis, gridJudgedBy, gridJudged};
+use array_levels::bad_levels;
+use array_levels::bad_levels_f64;
+use array_shapes::cell_count;
 
 // Condition 1: not 1 to 3 axes, a length outside 1..1,024, or over 8,192 cells.
 // Refused are no axis, 1,025 and 128 128; accepted are 1,024 and 8 1,024.
@@ -46,51 +48,6 @@ pub fn bad_lengths(shape: &[usize], lent: &[usize]) -> bool
     ensures { λ r. ⌜ r ≡ anyOf (badLength (now (shape .entry))) (now (lent .entry)) ⌝ }
 {
     any_other(lent, cell_count(shape))
-}
-
-// Condition 3 of one whole level: outside -(2^31 - 1)..2^31 - 1. -2147483648 is outside.
-pub fn bad_level(z: i64) -> bool
-    ensures { λ r. ⌜ r ≡ badLevel z ⌝ }
-{
-    if z < numbers::LEAST_LEVEL {
-        return true;
-    }
-    if numbers::LARGEST_LEVEL < z {
-        return true;
-    }
-    false
-}
-
-// Condition 3 of a grid of whole levels: some level is outside.
-pub fn bad_levels(data: &[i64]) -> bool
-    ensures { λ r. ⌜ r ≡ anyOf badLevel (now («data» .entry)) ⌝ }
-{
-    crate::level_range::any_outside(data)
-}
-
-// Condition 3 of one float level: not finite. -0.0 and subnormal numbers are finite.
-pub fn bad_level_f64(x: f64) -> bool
-    ensures { λ r. ⌜ r ≡ badFloat x ⌝ }
-{
-    // A finite number less itself is 0; an infinity less itself is a NaN, and so is a NaN.
-    x - x != 0.0
-}
-
-// Condition 3 of a grid of float levels: some level is not finite.
-pub fn bad_levels_f64(data: &[f64]) -> bool
-    ensures { λ r. ⌜ r ≡ anyOf badFloat (now («data» .entry)) ⌝ }
-{
-    // No early return, so that the loop is compiled to vector code.
-    let mut bad: usize = 0;
-    let mut k = 0;
-    while k < data.len() {
-        let x = data[k];
-        if bad_level_f64(x) {
-            bad += 1;
-        }
-        k += 1;
-    }
-    0 < bad
 }
 
 // Condition 8: the axis number is not below the axis count. Of 2 3 axis 1 passes and axis 2 does not.

@@ -9,7 +9,7 @@ ghost use Rattle.numbers.specs.Refusal.{Answers, ScratchAnswers};
 ghost use Rattle.border.specs.Modes.{borderOf};
 ghost use Rattle.min_max_judge.specs.Judge.{callOf, filterJudged};
 ghost use Rattle.correlate_spec.specs.Kernel.{correlateZ, convolveZ};
-ghost use Rattle.correlate_judge.specs.KernelJudge.{kernelJudged};
+ghost use Rattle.correlate_judge_spec.specs.KernelJudge.{kernelJudged};
 ghost use Rattle.gradient_spec.specs.Gradient.{prewittWeights, sobelWeights, gradient as gradientOf};
 ghost use Rattle.gradient_spec.specs.Judge.{gradientJudged};
 ghost use Rattle.uniform_spec.specs.Uniform.{uniform as uniformOf};

@@ -6,8 +6,7 @@ ghost use Rattle.median_spec.specs.Around.{medianAnswer};
 ghost use Rattle.median_spec.specs.Judge.{medianJudged};
 ghost use Rattle.symmetry_spec.specs.Class.{classZ, classF};
 ghost use Rattle.codes.specs.Codes.{kernelOf, unknownKernel, coded, codeOf};
-ghost use Rattle.codes.specs.Cells.{kernelCells, cellsJudged};
-use kernel3d::Kernel3d;
+ghost use Rattle.codes_cells.specs.Cells.{kernelCells, cellsJudged};
 
 // The median of each cell and its neighbours on three axes; the call `median_filter`.
 //
@@ -45,20 +44,6 @@ pub extern "C" fn suvvokal_symmetry_state_f64(weights: &[f64]) -> u8
     codes::code_of(symmetry::symmetry_state_f64(weights))
 }
 
-// Fills 27 cells with a kernel, the last axis fastest.
-fn fill_kernel(kernel: Kernel3d, out: &mut [bool])
-    requires { ⌜ length (now out) ≡ 27 ⌝ }
-    ensures { λ _. ⌜ now (out .exit) ≡ kernelCells kernel ⌝ }
-{
-    let cells = kernel.generate();
-    let mut i = 0;
-    while i < 27 {
-        let cell = cells[i / 9][i / 3 % 3][i % 3];
-        out[i] = cell;
-        i += 1;
-    }
-}
-
 // Fills a lent slice with a kernel of 3 by 3 by 3 cells, the last axis fastest.
 //
 // * `code` - which kernel: 0 the star, 1 the ball, 2 the full cube.
@@ -70,12 +55,5 @@ pub extern "C" fn suvvokal_kernel3d(code: u8, out: &mut [bool]) -> u8
     ensures { λ r. ⌜ Answers (coded (cellsJudged (length (now (out .entry)))) (unknownKernel code))
         (kernelCells (kernelOf code)) (now (out .entry)) r (now (out .exit)) ⌝ }
 {
-    if out.len() != 27 {
-        return numbers::LENGTH;
-    }
-    if 2 < code {
-        return codes::UNKNOWN;
-    }
-    fill_kernel(codes::kernel_of(code), out);
-    numbers::ACCEPTED
+    codes_cells::write_kernel(code, out)
 }

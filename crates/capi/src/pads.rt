@@ -1,44 +1,11 @@
 // The calls of padding. The pads of each axis stand in two slices.
-ghost use mathlib.Core.Path.{_≡_};
-ghost use lib.ListN.{length, getD};
+ghost use lib.ListN.{length};
 ghost use Rattle.numbers.specs.Refusal.{Answers};
 ghost use Rattle.pad_spec.specs.Conditions.{padJudged};
 ghost use Rattle.pad_spec.specs.Levels.{paddedGrid, paddedOver};
 ghost use Rattle.pad_spec.specs.Pads.{leftsOf, rightsOf};
 ghost use Rattle.codes.specs.Codes.{paddingOf, unknownPad, coded};
-ghost use Rattle.codes.specs.Cells.{pairAt, pairsOf};
-use pad_spec::Pair;
-
-// The number at a place, and 0 past the end. Of 5 6 place 1 has 6 and place 2 has 0.
-fn at_or_zero(places: &[usize], i: usize) -> usize
-    ensures { λ r. ⌜ r ≡ getD (now (places .entry)) i 0 ⌝ }
-{
-    if i < places.len() {
-        return places[i];
-    }
-    0
-}
-
-// The pads at a place. Of the slices 1 and 2 3 place 1 has 0 and 3.
-fn pair_at(lefts: &[usize], rights: &[usize], i: usize) -> Pair
-    ensures { λ r. ⌜ r ≡ pairAt (now (lefts .entry)) (now (rights .entry)) i ⌝ }
-{
-    Pair {
-        left: at_or_zero(lefts, i),
-        right: at_or_zero(rights, i),
-    }
-}
-
-// The three pairs of pads that the calls take.
-fn pairs_of(lefts: &[usize], rights: &[usize]) -> [Pair; 3]
-    ensures { λ r. ⌜ r ≡ pairsOf (now (lefts .entry)) (now (rights .entry)) ⌝ }
-{
-    [
-        pair_at(lefts, rights, 0),
-        pair_at(lefts, rights, 1),
-        pair_at(lefts, rights, 2),
-    ]
-}
+ghost use Rattle.codes_cells.specs.Cells.{pairsOf};
 
 // Pads a grid into a lent output; the call `pad`.
 //
@@ -71,7 +38,7 @@ pub extern "C" fn suvvokal_pad(
         (now («data» .entry))) (now (out .entry)) r (now (out .exit)) ⌝ }
 {
     let mode = codes::pad_mode_of(code, constant);
-    let pairs = pairs_of(lefts, rights);
+    let pairs = codes_cells::pairs_of(lefts, rights);
     if 8 < code {
         let refusal = pad_judge::judge(data, shape, pairs, count, mode, out.len());
         return codes::unknown_after(refusal);
@@ -100,7 +67,7 @@ pub extern "C" fn suvvokal_pad_to(
         (now (out .entry))) (now (out .entry)) r (now (out .exit)) ⌝ }
 {
     let mode = codes::pad_mode_of(code, constant);
-    let pairs = pairs_of(lefts, rights);
+    let pairs = codes_cells::pairs_of(lefts, rights);
     if 8 < code {
         let refusal = pad_judge::judge(data, shape, pairs, count, mode, out.len());
         return codes::unknown_after(refusal);

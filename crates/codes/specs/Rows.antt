@@ -16,7 +16,6 @@ use Rattle.codes.specs.Words.{borderWords, padWords, kernelWords, classW
 use Rattle.words.specs.Words.{bytesOf, placeIn}
 use Rattle.words.specs.declared.Found.the-variants.{At, Nothing}
 use lib.ListN.{getD}
-use Rattle.codes.specs.Cells.{pairsOf, kernelCells}
 use lib.Ieee.{nan}
 
 pub record CodesRows : Type 0 where
@@ -50,14 +49,7 @@ pub record CodesRows : Type 0 where
   pub judged-last : refusalOf (coded ((false, 9) ∷ (true, 11) ∷ []) true) ≡ 11
   pub judged-alone : refusalOf (coded ((false, 9) ∷ (false, 11) ∷ []) true) ≡ 100
   pub judged-known : refusalOf (coded ((false, 9) ∷ (false, 11) ∷ []) false) ≡ 0
-  -- pads past the end of a slice are 0
-  pub pairs : pairsOf (1 ∷ []) (2 ∷ 3 ∷ [])
-      ≡ record { left = 1; right = 2 } ∷ record { left = 0; right = 3 } ∷ record { left = 0; right = 0 } ∷ []
-  -- the star: a cross of five in the middle plane, one cell before it and one after
-  pub star : kernelCells (kernelOf 0)
-      ≡ false ∷ false ∷ false ∷ false ∷ true ∷ false ∷ false ∷ false ∷ false
-      ∷ false ∷ true ∷ false ∷ true ∷ true ∷ true ∷ false ∷ true ∷ false
-      ∷ false ∷ false ∷ false ∷ false ∷ true ∷ false ∷ false ∷ false ∷ false ∷ []
+  -- kernels: 3 names none
   pub kernel-3 : unknownKernel 3 ≡ true
   -- 1 2 1 is Symmetric, 1 2 −1 AntiSymmetric, 1 2 neither
   pub class-1 : codeOf (classZ (pos 1 ∷ pos 2 ∷ pos 1 ∷ [])) ≡ 1

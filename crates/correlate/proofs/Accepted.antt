@@ -21,12 +21,11 @@ use Rattle.window_spec.proofs.Origins.{pads-sum, kernel-accepted}
 use Rattle.border.specs.Reach.{badPad}
 use Rattle.correlate_spec.specs.Kernel.{sidesOf, sideOf, kernelAnswer}
 use Rattle.window_spec.specs.Window.{kernelLeft, kernelRight, appliedOrigin, badEitherPad, badKernelReach}
-use Rattle.correlate_judge.specs.Judge.{badWeight, appliedWeights}
-use Rattle.correlate_judge.proofs.Applied.{applied-length, applied-weights}
+use Rattle.correlate_judge_spec.specs.Judge.{badWeight}
 use Rattle.window_spec.proofs.Changed.{applied-range}
 use Rattle.correlate_grid.specs.Kernel.{KernelCallNeeds}
-use Rattle.correlate_judge.specs.KernelJudge.{kernelJudged}
-use Rattle.correlate_judge.proofs.Equal.{Equal, kernel-equal}
+use Rattle.correlate_judge_spec.specs.KernelJudge.{kernelJudged}
+use Rattle.correlate_judge_spec.proofs.Equal.{Equal, kernel-equal}
 
 -- the two pads together
 kernel-pads : (side : ℕ) (o : ℤ) → badOrigin side o ≡ false → kernelLeft side o + kernelRight side o ≡ side / 2 + side / 2
@@ -53,7 +52,7 @@ module _ (convolution : Bool) (b : Border ℤ) (o : ℤ) (sides : List ℕ) (w :
         reach = J .1 .1 .1 .1 .1 .0;
       }
 
--- ---- the worker's own words, of the weights as they are applied
+-- ---- the worker's own words
 module _ {convolution : Bool} {b : Border ℤ} {o : ℤ} {sides : List ℕ} {w : List ℤ} {ns : List ℕ} {cells : List ℤ} (out : List ℤ) (P : Passed convolution b o sides w ns cells (length out)) where
   abbrev side : ℕ
   side = sideOf sides
@@ -67,7 +66,7 @@ module _ {convolution : Bool} {b : Border ℤ} {o : ℤ} {sides : List ℕ} {w :
   fills : (a : ℕ) → a < length ns → (badPad b (lengthOf ns a) (kernelLeft side applied) ≡ false) × (badPad b (lengthOf ns a) (kernelRight side applied) ≡ false)
   fills a h = or-false _ _ (every-at (λ n. badEitherPad b (kernelLeft side applied) (kernelRight side applied) n ≡ false) ns 1 (any-none _ ns (P .reach)) a h)
 
-  pub kernelled-accepted : KernelCallNeeds b ns side (kernelLeft side applied) (kernelRight side applied) (appliedWeights convolution w) cells out
+  pub kernelled-accepted : KernelCallNeeds b ns side (kernelLeft side applied) (kernelRight side applied) w cells out
   unfolding badWeight
   kernelled-accepted = record {
     shape = P .grid .shape;
@@ -75,12 +74,12 @@ module _ {convolution : Bool} {b : Border ℤ} {o : ℤ} {sides : List ℕ} {w :
     same = lent-same (P .grid);
     some = P .equal .some;
     narrow = P .equal .narrow;
-    many = applied-length convolution w ∙ P .equal .many ∙ ap cellCount (P .equal .same);
+    many = P .equal .many ∙ ap cellCount (P .equal .same);
     wide = omega (arith, kernel-pads side applied origin-applied);
     pads = omega (arith, kernel-pads side applied origin-applied, P .equal .narrow);
     fills-left = λ a h. fills a h .0;
     fills-right = λ a h. fills a h .1;
-    weights = applied-weights badWeight convolution w (P .weights);
+    weights = P .weights;
     level = P .level;
     levels = P .grid .levels;
   }
@@ -89,34 +88,14 @@ module _ {convolution : Bool} {b : Border ℤ} {o : ℤ} {sides : List ℕ} {w :
   pub own-sides : (left : ℕ) (v : List ℤ) → kernelAnswer b left (sidesOf ns side) v ns cells ≡ kernelAnswer b left sides v ns cells
   own-sides left v = ap (λ (s : List ℕ). kernelAnswer b left s v ns cells) (sym (P .equal .same))
 
-  -- what the worker supposes, as the code hands it the side, the origin and the weights
-  abbrev Suits : ℕ → ℤ → List ℤ → Type 0
-  Suits n x v = (badOrigin n x ≡ false) × KernelCallNeeds b ns n (kernelLeft n x) (kernelRight n x) v cells out
+  -- what the worker supposes, as the code hands it the side and the origin
+  abbrev Suits : ℕ → ℤ → Type 0
+  Suits n x = (badOrigin n x ≡ false) × KernelCallNeeds b ns n (kernelLeft n x) (kernelRight n x) w cells out
 
-  pub suits-as : {n : ℕ} {x : ℤ} {v : List ℤ} → n ≡ side → x ≡ applied → v ≡ appliedWeights convolution w → Suits n x v
-  suits-as {n} {x} {v} p q r =
-      subst (λ (m : ℕ). Suits m x v) (sym p)
-      (subst (λ (y : ℤ). Suits side y v) (sym q) (subst (λ (u : List ℤ). Suits side applied u) (sym r) (origin-applied, kernelled-accepted)))
+  pub suits-as : {n : ℕ} {x : ℤ} → n ≡ side → x ≡ applied → Suits n x
+  suits-as {n} {x} p q = subst (λ (m : ℕ). Suits m x) (sym p) (subst (λ (y : ℤ). Suits side y) (sym q) (origin-applied, kernelled-accepted))
 
 -- ---- the pads as the code hands them to the worker
 module _ {b : Border ℤ} {ns : List ℕ} {side left right : ℕ} {w cells out : List ℤ} (K : KernelCallNeeds b ns side left right w cells out) where
   pub padded-as : {l r : ℕ} → l ≡ left → r ≡ right → KernelCallNeeds b ns side l r w cells out
   padded-as {l} {r} p q = subst (λ (x : ℕ). KernelCallNeeds b ns side x r w cells out) (sym p) (subst (λ (y : ℕ). KernelCallNeeds b ns side left y w cells out) (sym q) K)
-
-  -- pads that are exchanged suit the worker too: it is the answer that tells them apart
-  pub exchanged : KernelCallNeeds b ns side right left w cells out
-  exchanged = record {
-    shape = K .shape;
-    count = K .count;
-    same = K .same;
-    some = K .some;
-    narrow = K .narrow;
-    many = K .many;
-    wide = omega (arith, K .wide);
-    pads = omega (arith, K .pads);
-    fills-left = K .fills-right;
-    fills-right = K .fills-left;
-    weights = K .weights;
-    level = K .level;
-    levels = K .levels;
-  }

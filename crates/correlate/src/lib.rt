@@ -6,56 +6,69 @@ ghost use lib.ListN.{length};
 ghost use Rattle.numbers.specs.Refusal.{refusalOf, Answers};
 ghost use Rattle.border.specs.Modes.{borderOf};
 ghost use Rattle.window_spec.specs.Origin.{badOrigin};
-ghost use Rattle.correlate_spec.specs.Kernel.{sidesOf, kernelAnswer, correlateZ, convolveZ};
-ghost use Rattle.window_spec.specs.Window.{kernelLeft, kernelRight};
+ghost use Rattle.window_spec.specs.Window.{kernelLeft, kernelRight, appliedOrigin};
+ghost use Rattle.direction.specs.Direction.{directed};
+ghost use Rattle.correlate_spec.specs.Kernel.{sidesOf, sideOf, kernelAnswer, correlateZ, convolveZ};
 ghost use Rattle.correlate_grid.specs.Kernel.{KernelCallNeeds};
-ghost use Rattle.correlate_judge.specs.KernelJudge.{kernelJudged};
+ghost use Rattle.correlate_judge_spec.specs.KernelJudge.{kernelJudged};
 use border::BorderMode;
 use window_spec::Origin;
 
-// Fills out with the sums of every window of a kernel of equal sides; weights and origin are as they are applied.
+// Fills out with the sums of every window of a kernel of equal sides. The weights are read from the last to the first
+// where `backward` is true; the origin is as it is applied.
 fn sum_windows(
     data: &[i64],
     shape: &[usize],
     weights: &[i64],
+    backward: bool,
     side: usize,
     mode: BorderMode,
     origin: isize,
     out: &mut [i64],
 )
-    requires { ⌜ (badOrigin side origin ≡ false) × KernelCallNeeds (borderOf mode) (now shape) side (kernelLeft side origin)
-        (kernelRight side origin) (now weights) (now «data») (now out) ⌝ }
+    requires { ⌜ (badOrigin side origin ≡ false) × KernelCallNeeds (borderOf mode) (now shape) side
+        (kernelLeft side origin) (kernelRight side origin) (now weights) (now «data») (now out) ⌝ }
     ensures { λ _. ⌜ now (out .exit) ≡ kernelAnswer (borderOf mode) (kernelLeft side origin)
-        (sidesOf (now (shape .entry)) side) (now (weights .entry)) (now (shape .entry)) (now («data» .entry)) ⌝ }
+        (sidesOf (now (shape .entry)) side) (directed backward (now (weights .entry))) (now (shape .entry))
+        (now («data» .entry)) ⌝ }
 {
     match window::kernel_origin_check(side, origin) {
         Origin::Refused => {}
-        Origin::Pads(left, right) => {
-            correlate_grid::correlate_cells(data, shape, weights, side, mode, left, right, out)
-        }
+        Origin::Pads(left, right) => correlate_grid::correlate_cells(
+            data,
+            shape,
+            weights,
+            backward,
+            side,
+            mode,
+            left,
+            right,
+            out,
+        ),
     }
 }
 
-// Fills out with the answer of an accepted convolution; reversed is a buffer, as long as the weights.
-fn convolve_cells(
+// Fills out with the answer of an accepted correlation, or, where `convolution` says convolution, with that of the
+// weights read backward and the changed origin.
+fn correlate_cells(
     data: &[i64],
     shape: &[usize],
     weights: &[i64],
     sides: &[usize],
     mode: BorderMode,
     origin: isize,
-    reversed: &mut [i64],
+    convolution: bool,
     out: &mut [i64],
 )
-    requires { ⌜ (refusalOf (kernelJudged true (borderOf mode) origin (now sides) (now weights) (now shape) (now «data»)
-        (length (now out))) ≡ 0) × (length (now reversed) ≡ length (now weights)) ⌝ }
-    ensures { λ _. ⌜ now (out .exit) ≡ convolveZ (borderOf mode) origin (now (sides .entry)) (now (weights .entry))
-        (now (shape .entry)) (now («data» .entry)) ⌝ }
+    requires { ⌜ refusalOf (kernelJudged convolution (borderOf mode) origin (now sides) (now weights) (now shape)
+        (now «data») (length (now out))) ≡ 0 ⌝ }
+    ensures { λ _. ⌜ now (out .exit) ≡ correlateZ (borderOf mode)
+        (appliedOrigin convolution (sideOf (now (sides .entry))) origin) (now (sides .entry))
+        (directed convolution (now (weights .entry))) (now (shape .entry)) (now («data» .entry)) ⌝ }
 {
-    correlate1d::reverse(weights, reversed);
     let side = array::len_of(sides, 0);
-    let applied = window::applied_origin(side, origin, true);
-    sum_windows(data, shape, reversed, side, mode, applied, out);
+    let applied = window::applied_origin(side, origin, convolution);
+    sum_windows(data, shape, weights, convolution, side, mode, applied, out);
 }
 
 // The sums of each window times the weights of a grid kernel, whose sides are all equal.
@@ -98,12 +111,12 @@ pub fn correlate(
     if refusal != 0 {
         return refusal;
     }
-    let side = array::len_of(sides, 0);
-    sum_windows(data, shape, weights, side, mode, origin, out);
+    correlate_cells(data, shape, weights, sides, mode, origin, false, out);
     numbers::ACCEPTED
 }
 
-// As `correlate` with the kernel reversed along every axis and the origin negated, and 1 less for even sides.
+// The sums of each window times the weights of a grid kernel that is reversed along every axis: on each axis coordinate
+// k of a kernel of that side meets the cell at i + floor(side / 2) + origin - k.
 //
 // * `data` - the cells of the grid.
 // * `shape` - the length of each axis.
@@ -143,17 +156,6 @@ pub fn convolve(
     if refusal != 0 {
         return refusal;
     }
-    let count = weights.len();
-    let mut reversed = [0; 343];
-    convolve_cells(
-        data,
-        shape,
-        weights,
-        sides,
-        mode,
-        origin,
-        &mut reversed[..count],
-        out,
-    );
+    correlate_cells(data, shape, weights, sides, mode, origin, true, out);
     numbers::ACCEPTED
 }

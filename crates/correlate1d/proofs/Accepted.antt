@@ -17,11 +17,11 @@ use Rattle.array_spec.proofs.Judged.{lent-same, levels-sized}
 use Rattle.border.specs.Border.{Border, constant, along}
 use Rattle.border.specs.Modes.{badConstantBy}
 use Rattle.correlate_spec.proofs.Computed.{read}
-use Rattle.correlate_judge.specs.Judge.{badWeight, appliedWeights}
+use Rattle.correlate_judge_spec.specs.Judge.{badWeight}
 use Rattle.window_spec.specs.Window.{appliedOrigin}
-use Rattle.correlate_judge.proofs.Applied.{applied-weights}
 use Rattle.correlate1d.proofs.Passed.{Passed, placed-accepted}
-use Rattle.correlate1d.specs.WeighNeeds.{tooLarge, ScaleNeeds, WeighNeeds}
+use Rattle.correlate_axis.specs.WeightNeeds.{tooLarge}
+use Rattle.correlate1d.specs.WeighNeeds.{ScaleNeeds, WeighNeeds}
 
 -- ---- a level within the limits of condition 3 is small, and one of no greater size than 2^38
 small-level : (z : ℤ) → badLevel z ≡ false → tooLarge z ≡ false
@@ -51,11 +51,11 @@ module _ {convolution : Bool} {b : Border ℤ} {o : ℤ} {w : List ℤ} {ns : Li
   scaled-cells e = e ∙ ap (λ (y : ℤ). map (λ x. x *ℤ y) cells) weight-read
 
   module _ (more : length w ≡ 1 → ⊥) where
-    pub weighs-accepted : WeighNeeds b ns a (appliedOrigin convolution (length w) o) (appliedWeights convolution w) cells out
+    pub weighs-accepted : WeighNeeds b ns a (appliedOrigin convolution (length w) o) w cells out
     weighs-accepted = record {
       placed = placed-accepted out P more;
       small = record {
-        weights = applied-weights badWeight convolution w (P .weights);
+        weights = P .weights;
         level = small-constant b (P .level);
         levels = small-sized cells (levels-sized cells (P .grid .levels)) (omega arith);
         narrow = λ h. (P .level, P .grid .levels);

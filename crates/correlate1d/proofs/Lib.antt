@@ -2,5 +2,4 @@
 pub mod Passed
 pub mod Accepted
 pub mod Weighed
-pub mod LaneSums
 pub mod Stores

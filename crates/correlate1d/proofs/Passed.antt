@@ -21,8 +21,7 @@ use Rattle.border.specs.Modes.{badConstantBy}
 use Rattle.window_spec.specs.Origin.{badOrigin}
 use Rattle.window_spec.specs.Window.{badWindowOrigin, badReach, appliedOrigin}
 use Rattle.window_spec.proofs.Reach.{more-cells}
-use Rattle.correlate_judge.specs.Judge.{badWeight, weightsJudged, appliedWeights, placeJudged, badCorrelateSums, correlateJudged, correlateJudgedF}
-use Rattle.correlate_judge.proofs.Applied.{applied-length}
+use Rattle.correlate_judge_spec.specs.Judge.{badWeight, weightsJudged, placeJudged, badCorrelateSums, correlateJudged, correlateJudgedF}
 use Rattle.window_spec.proofs.Changed.{applied-range}
 use Rattle.correlate1d.specs.WeighNeeds.{PlaceNeeds}
 
@@ -62,18 +61,17 @@ pub passed-float : (convolution : Bool) (b : Border Float) (o : ℤ) (w : List F
     → Passed badFloat badFloat convolution b o w ns a cells out
 passed-float convolution b o w ns a cells out z = passed-by badFloat badFloat convolution b o w ns a cells out [] tt z
 
--- ---- two weights or more, as they are applied
+-- ---- two weights or more, in either direction
 module _ {A : Type 0} {bad heavy : A → Bool} {convolution : Bool} {b : Border A} {o : ℤ} {w : List A} {ns : List ℕ} {a : ℕ} {cells : List A} (out : List A)
     (P : Passed bad heavy convolution b o w ns a cells (length out)) (more : length w ≡ 1 → ⊥) where
-  pub placed-accepted : PlaceNeeds b ns a (appliedOrigin convolution (length w) o) (appliedWeights convolution w) cells out
+  pub placed-accepted : PlaceNeeds b ns a (appliedOrigin convolution (length w) o) w cells out
   placed-accepted = record {
     shape = P .grid .shape;
     axis = P .axis;
     count = P .grid .count;
     same = lent-same (P .grid);
-    more = omega (arith, applied-length convolution w, P .some, more);
-    few = omega (arith, applied-length convolution w, P .few);
-    origin = ap (λ (n : ℕ). badOrigin n (appliedOrigin convolution (length w) o)) (applied-length convolution w) ∙ applied-range convolution (length w) o
-        ∙ more-cells (length w) o more (badOrigin (length w) o) ∙ P .origin;
-    reach = ap (λ (n : ℕ). badReach b n (appliedOrigin convolution (length w) o) (lengthOf ns a)) (applied-length convolution w) ∙ P .reach;
+    more = omega (arith, P .some, more);
+    few = P .few;
+    origin = applied-range convolution (length w) o ∙ more-cells (length w) o more (badOrigin (length w) o) ∙ P .origin;
+    reach = P .reach;
   }

@@ -1,7 +1,8 @@
 -- A product of a level and a weight fits 64 bits, and one weight's answer is every cell times it.
 -- Assumes nothing.
-use mathlib.Core.Path.{_≡_, refl, sym, ap, _∙_}
-use mathlib.Core.List.{List, [], _∷_, map, reverse}
+use mathlib.Core.Path.{_≡_, sym, ap, _∙_}
+use mathlib.Core.Bool.{Bool}
+use mathlib.Core.List.{List, map}
 use Prim.Native.Nat.{ℕ}
 use native.Mathlib.Omega.{arith}
 use borrow.Author.Tests.{eq-eqb}
@@ -13,9 +14,11 @@ use Rattle.numbers.proofs.Tests.{cond-yes}
 use Rattle.array_spec.specs.Conditions.{badLevel}
 use Rattle.border.specs.Border.{Border}
 use Rattle.symmetry_spec.specs.declared.SymmetryState.{SymmetryState}
+use Rattle.direction.specs.Direction.{directed}
+use Rattle.direction.proofs.Directed.{directed-one}
 use Rattle.correlate_spec.specs.Weighed.{Ops}
 use Rattle.correlate_spec.specs.Correlated.{correlatedBy}
-use Rattle.correlate_judge.specs.Judge.{badWeight}
+use Rattle.correlate_judge_spec.specs.Judge.{badWeight}
 use Rattle.correlate_spec.proofs.Computed.{Computed, read, computed, computed-level}
 use Rattle.correlate1d.specs.WeighNeeds.{ScaleNeeds}
 
@@ -27,19 +30,10 @@ scaled {cells} {out} {w} S i =
     let b : Size w 65535 = size-inside 65535 w (S .weight) in
     computed _*ℤ_ (computed-level a (omega arith)) (computed-level b (omega arith)) (size-mul a b) (omega arith)
 
--- ---- one weight, over any element: every cell times it
+-- ---- one weight, over any element and in either direction: every cell times it
 module _ {A : Type 0} (ops : Ops A) (b : Border A) where
-  pub one-weight : (class : SymmetryState) (o : ℤ) (w : List A) (ns : List ℕ) (a : ℕ) (cells : List A) → length w ≡ 1
-      → map (λ x. ops .product x (getD w 0 (ops .past))) cells ≡ correlatedBy ops class b o w ns a cells
+  pub one-weight : (class : SymmetryState) (o : ℤ) (backward : Bool) (w : List A) (ns : List ℕ) (a : ℕ) (cells : List A) → length w ≡ 1
+      → map (λ x. ops .product x (getD w 0 (ops .past))) cells ≡ correlatedBy ops class b o (directed backward w) ns a cells
   unfolding correlatedBy
-  one-weight class o w ns a cells e = sym (cond-yes (eqb (length w) 1) _ _ (eq-eqb (length w) 1 e))
-
-  one-reversed : (w : List A) → length w ≡ 1 → reverse w ≡ w
-  one-reversed [] e = refl
-  one-reversed (x ∷ []) e = refl
-  one-reversed (x ∷ y ∷ w) e = absurd (omega arith)
-
-  -- of a convolution too
-  pub one-convolved : (class : List A → SymmetryState) (o : ℤ) (w : List A) (ns : List ℕ) (a : ℕ) (cells : List A) → length w ≡ 1
-      → map (λ x. ops .product x (getD w 0 (ops .past))) cells ≡ correlatedBy ops (class (reverse w)) b o (reverse w) ns a cells
-  one-convolved class o w ns a cells e = one-weight (class w) o w ns a cells e ∙ ap (λ (v : List A). correlatedBy ops (class v) b o v ns a cells) (sym (one-reversed w e))
+  one-weight class o backward w ns a cells e =
+      sym (cond-yes (eqb (length w) 1) _ _ (eq-eqb (length w) 1 e)) ∙ ap (λ (v : List A). correlatedBy ops class b o v ns a cells) (sym (directed-one backward w e))

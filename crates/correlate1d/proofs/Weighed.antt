@@ -1,7 +1,7 @@
 -- An accepted call of two weights or more as the workers do it: every lane of the axis is filtered with the pads of the applied origin.
 -- Assumes nothing.
 use mathlib.Core.Path.{_≡_, sym, ap, subst, _∙_}
-use mathlib.Core.Bool.{false, not, _&&_, and-false}
+use mathlib.Core.Bool.{Bool, false, not, _&&_, and-false}
 use mathlib.Core.List.{List}
 use Prim.Native.Nat.{ℕ, _+_}
 use native.Mathlib.Omega.{arith}
@@ -15,6 +15,8 @@ use Rattle.lanes.specs.Lanes.{alongAxis}
 use Rattle.border.specs.Border.{Border}
 use Rattle.border.specs.Reach.{badPad}
 use Rattle.pad_line.specs.Lane.{AxisNeeds}
+use Rattle.direction.specs.Direction.{directed}
+use Rattle.direction.proofs.Directed.{directed-length}
 use Rattle.symmetry_spec.specs.declared.SymmetryState.{SymmetryState}
 use Rattle.window_spec.specs.Window.{badWindowOrigin, leftPad, rightPad}
 use Rattle.window_spec.proofs.Reach.{pads-size, reach-more}
@@ -22,12 +24,12 @@ use Rattle.correlate_spec.specs.Weighed.{Ops}
 use Rattle.correlate_spec.specs.Correlated.{correlatedLine, correlatedBy}
 use Rattle.correlate1d.specs.WeighNeeds.{PlaceNeeds, WeighNeeds}
 
--- the same call by other names of its origin and weights
-pub weighs-as : {b : Border ℤ} {ns : List ℕ} {a : ℕ} {o q : ℤ} {w v cells out : List ℤ} → WeighNeeds b ns a o w cells out → q ≡ o → v ≡ w → WeighNeeds b ns a q v cells out
-weighs-as {b} {ns} {a} {o} {q} {w} {v} {cells} {out} W e f = subst (λ (x : ℤ). WeighNeeds b ns a x v cells out) (sym e) (subst (λ (x : List ℤ). WeighNeeds b ns a o x cells out) (sym f) W)
+-- the same call by another name of its origin
+pub weighs-as : {b : Border ℤ} {ns : List ℕ} {a : ℕ} {o q : ℤ} {w cells out : List ℤ} → WeighNeeds b ns a o w cells out → q ≡ o → WeighNeeds b ns a q w cells out
+weighs-as {b} {ns} {a} {o} {q} {w} {cells} {out} W e = subst (λ (x : ℤ). WeighNeeds b ns a x w cells out) (sym e) W
 
-pub placed-as : {A : Type 0} {b : Border A} {ns : List ℕ} {a : ℕ} {o q : ℤ} {w v cells out : List A} → PlaceNeeds b ns a o w cells out → q ≡ o → v ≡ w → PlaceNeeds b ns a q v cells out
-placed-as {A} {b} {ns} {a} {o} {q} {w} {v} {cells} {out} W e f = subst (λ (x : ℤ). PlaceNeeds b ns a x v cells out) (sym e) (subst (λ (x : List A). PlaceNeeds b ns a o x cells out) (sym f) W)
+pub placed-as : {A : Type 0} {b : Border A} {ns : List ℕ} {a : ℕ} {o q : ℤ} {w cells out : List A} → PlaceNeeds b ns a o w cells out → q ≡ o → PlaceNeeds b ns a q w cells out
+placed-as {A} {b} {ns} {a} {o} {q} {w} {cells} {out} W e = subst (λ (x : ℤ). PlaceNeeds b ns a x w cells out) (sym e) W
 
 module _ {A : Type 0} {b : Border A} {ns : List ℕ} {a : ℕ} {o : ℤ} {w cells out : List A} (W : PlaceNeeds b ns a o w cells out) where
   pub window-origin : badWindowOrigin (length w) o ≡ false
@@ -53,9 +55,12 @@ module _ {A : Type 0} {b : Border A} {ns : List ℕ} {a : ℕ} {o : ℤ} {w cell
           narrow = omega (arith, pads-total, W .few);
         }
 
-    pub weighed-answer : (ops : Ops A) (class : SymmetryState) {left : List A} → left ≡ alongAxis (ops .past) (correlatedLine ops class b l g w) ns a cells
-        → left ≡ correlatedBy ops class b o w ns a cells
+    -- in either direction
+    pub weighed-answer : (ops : Ops A) (class : SymmetryState) (backward : Bool) {left : List A}
+        → left ≡ alongAxis (ops .past) (correlatedLine ops class b l g (directed backward w)) ns a cells → left ≡ correlatedBy ops class b o (directed backward w) ns a cells
     unfolding correlatedBy
-    weighed-answer ops class {left} e =
-        e ∙ (λ j. alongAxis (ops .past) (correlatedLine ops class b (L j) (G j) w) ns a cells)
-        ∙ sym (cond-no (eqb (length w) 1) _ _ (ne-eqb (length w) 1 two-weights))
+    weighed-answer ops class backward {left} e =
+        let n = directed-length backward w in
+        let v = directed backward w in
+        e ∙ (λ j. alongAxis (ops .past) (correlatedLine ops class b ((L ∙ ap (λ m. leftPad m o) (sym n)) j) ((G ∙ ap (λ m. rightPad m o) (sym n)) j) v) ns a cells)
+        ∙ sym (cond-no (eqb (length v) 1) _ _ (ne-eqb (length v) 1 (λ h. two-weights (sym n ∙ h))))

@@ -7,17 +7,15 @@ ghost use lib.IntN.{_*ℤ_};
 ghost use lib.ListN.{length};
 ghost use Rattle.numbers.specs.Refusal.{refusalOf, Answers};
 ghost use Rattle.border.specs.Modes.{borderOf};
-ghost use Rattle.correlate_spec.specs.Correlated.{correlate1dZ, convolve1dZ};
-ghost use Rattle.correlate_judge.specs.Judge.{correlateJudged};
+ghost use Rattle.window_spec.specs.Window.{appliedOrigin};
+ghost use Rattle.direction.specs.Direction.{directed};
+ghost use Rattle.correlate_spec.specs.Correlated.{correlate1dZ};
+ghost use Rattle.correlate_spec.specs.Convolved.{convolve1dZ};
+ghost use Rattle.correlate_judge_spec.specs.Judge.{correlateJudged};
 ghost use Rattle.correlate1d.specs.Rows.{Correlate1dRows};
 ghost use Rattle.correlate1d.specs.WeighNeeds.{ScaleNeeds, WeighNeeds};
 use border::BorderMode;
 use window_spec::Origin;
-
-mod each_lane;
-mod reversal;
-
-pub use reversal::reverse;
 
 // Every cell times one weight.
 fn scale(data: &[i64], weight: i64, out: &mut [i64])
@@ -32,24 +30,27 @@ fn scale(data: &[i64], weight: i64, out: &mut [i64])
     }
 }
 
-// Fills out with the weighted sums along the axis; weights and origin are as they are applied.
+// Fills out with the weighted sums along the axis. The weights are read from the last to the first where `backward` is
+// true; the origin is as it is applied.
 pub fn weigh(
     data: &[i64],
     shape: &[usize],
     weights: &[i64],
+    backward: bool,
     axis: usize,
     mode: BorderMode,
     origin: isize,
     out: &mut [i64],
 )
     requires { ⌜ WeighNeeds (borderOf mode) (now shape) axis origin (now weights) (now «data») (now out) ⌝ }
-    ensures { λ _. ⌜ now (out .exit) ≡ correlate1dZ (borderOf mode) origin (now (weights .entry)) (now (shape .entry))
-        axis (now («data» .entry)) ⌝ }
+    ensures { λ _. ⌜ now (out .exit) ≡ correlate1dZ (borderOf mode) origin (directed backward (now (weights .entry)))
+        (now (shape .entry)) axis (now («data» .entry)) ⌝ }
 {
     match window::origin_check(weights.len(), origin) {
         Origin::Refused => {}
-        Origin::Pads(left, right) => each_lane::correlate_axis(
+        Origin::Pads(left, right) => correlate_axis::correlate_axis(
             weights,
+            backward,
             mode,
             data,
             shape,
@@ -61,7 +62,8 @@ pub fn weigh(
     }
 }
 
-// Fills out with the answer of an accepted correlation.
+// Fills out with the answer of an accepted correlation, or, where `convolution` says convolution, with that of the
+// weights read backward and the changed origin.
 fn correlate_cells(
     data: &[i64],
     shape: &[usize],
@@ -69,43 +71,21 @@ fn correlate_cells(
     axis: usize,
     mode: BorderMode,
     origin: isize,
+    convolution: bool,
     out: &mut [i64],
 )
-    requires { ⌜ refusalOf (correlateJudged false (borderOf mode) origin (now weights) (now shape) axis (now «data»)
-        (length (now out))) ≡ 0 ⌝ }
-    ensures { λ _. ⌜ now (out .exit) ≡ correlate1dZ (borderOf mode) origin (now (weights .entry)) (now (shape .entry))
-        axis (now («data» .entry)) ⌝ }
+    requires { ⌜ refusalOf (correlateJudged convolution (borderOf mode) origin (now weights) (now shape) axis
+        (now «data») (length (now out))) ≡ 0 ⌝ }
+    ensures { λ _. ⌜ now (out .exit) ≡ correlate1dZ (borderOf mode)
+        (appliedOrigin convolution (length (now (weights .entry))) origin)
+        (directed convolution (now (weights .entry))) (now (shape .entry)) axis (now («data» .entry)) ⌝ }
 {
     if weights.len() == 1 {
         scale(data, weights[0], out);
         return;
     }
-    weigh(data, shape, weights, axis, mode, origin, out);
-}
-
-// Fills out with the answer of an accepted convolution; reversed is a buffer, as long as the weights.
-fn convolve_cells(
-    data: &[i64],
-    shape: &[usize],
-    weights: &[i64],
-    axis: usize,
-    mode: BorderMode,
-    origin: isize,
-    reversed: &mut [i64],
-    out: &mut [i64],
-)
-    requires { ⌜ (refusalOf (correlateJudged true (borderOf mode) origin (now weights) (now shape) axis (now «data»)
-        (length (now out))) ≡ 0) × (length (now reversed) ≡ length (now weights)) ⌝ }
-    ensures { λ _. ⌜ now (out .exit) ≡ convolve1dZ (borderOf mode) origin (now (weights .entry)) (now (shape .entry))
-        axis (now («data» .entry)) ⌝ }
-{
-    if weights.len() == 1 {
-        scale(data, weights[0], out);
-        return;
-    }
-    reversal::reverse(weights, reversed);
-    let applied = window::applied_origin(weights.len(), origin, true);
-    weigh(data, shape, reversed, axis, mode, applied, out);
+    let applied = window::applied_origin(weights.len(), origin, convolution);
+    weigh(data, shape, weights, convolution, axis, mode, applied, out);
 }
 
 // The sums of each window times the weights, along an axis. With one weight every cell is multiplied by it, and the
@@ -148,11 +128,12 @@ pub fn correlate1d(
     if refusal != 0 {
         return refusal;
     }
-    correlate_cells(data, shape, weights, axis, mode, origin, out);
+    correlate_cells(data, shape, weights, axis, mode, origin, false, out);
     numbers::ACCEPTED
 }
 
-// As `correlate1d` with the weights reversed and the origin negated, and 1 less for an even number of weights.
+// The sums of each window times the weights from the last to the first, along an axis: weight j of len meets the cell
+// at i + floor(len / 2) + origin - j. With one weight every cell is multiplied by it, and the origin is not read.
 //
 // * `data` - the cells of the grid.
 // * `shape` - the length of each axis.
@@ -191,18 +172,7 @@ pub fn convolve1d(
     if refusal != 0 {
         return refusal;
     }
-    let count = weights.len();
-    let mut reversed = [0; numbers::LONGEST_WINDOW];
-    convolve_cells(
-        data,
-        shape,
-        weights,
-        axis,
-        mode,
-        origin,
-        &mut reversed[..count],
-        out,
-    );
+    correlate_cells(data, shape, weights, axis, mode, origin, true, out);
     numbers::ACCEPTED
 }
 

@@ -2,18 +2,19 @@
 // (src/filters/con_corr.rs; SciPy's correlate1d and convolve1d).
 ghost use mathlib.Core.Path.{_≡_};
 ghost use mathlib.Core.Bool.{true, false};
-ghost use mathlib.Core.List.{map, reverse};
+ghost use mathlib.Core.List.{map};
 ghost use lib.Ieee.{binary64, mul};
 ghost use lib.ListN.{length};
 ghost use Rattle.numbers.specs.Refusal.{refusalOf, Answers};
 ghost use Rattle.border.specs.Modes.{borderOfF64};
-ghost use Rattle.correlate_spec.specs.Correlated.{correlate1dF, convolve1dF};
-ghost use Rattle.correlate_judge.specs.Judge.{correlateJudgedF};
+ghost use Rattle.window_spec.specs.Window.{appliedOrigin};
+ghost use Rattle.direction.specs.Direction.{directed};
+ghost use Rattle.correlate_spec.specs.Correlated.{correlate1dF};
+ghost use Rattle.correlate_spec.specs.Convolved.{convolve1dF};
+ghost use Rattle.correlate_judge_spec.specs.Judge.{correlateJudgedF};
 ghost use Rattle.correlate1d.specs.WeighNeeds.{PlaceNeeds};
 use border::BorderModeF64;
 use window_spec::Origin;
-
-mod lane_loop;
 
 // Every cell times one weight.
 fn scale(data: &[f64], weight: f64, out: &mut [f64])
@@ -28,25 +29,28 @@ fn scale(data: &[f64], weight: f64, out: &mut [f64])
     }
 }
 
-// Fills out with the weighted sums along the axis; weights and origin are as they are applied.
+// Fills out with the weighted sums along the axis. The weights are read from the last to the first where `backward` is
+// true, their class too; the origin is as it is applied.
 fn weigh(
     data: &[f64],
     shape: &[usize],
     weights: &[f64],
+    backward: bool,
     axis: usize,
     mode: BorderModeF64,
     origin: isize,
     out: &mut [f64],
 )
     requires { ⌜ PlaceNeeds (borderOfF64 mode) (now shape) axis origin (now weights) (now «data») (now out) ⌝ }
-    ensures { λ _. ⌜ now (out .exit) ≡ correlate1dF (borderOfF64 mode) origin (now (weights .entry))
+    ensures { λ _. ⌜ now (out .exit) ≡ correlate1dF (borderOfF64 mode) origin (directed backward (now (weights .entry)))
         (now (shape .entry)) axis (now («data» .entry)) ⌝ }
 {
     match window::origin_check(weights.len(), origin) {
         Origin::Refused => {}
-        Origin::Pads(left, right) => lane_loop::correlate_axis_f64(
+        Origin::Pads(left, right) => correlate_axis_f64::correlate_axis_f64(
             weights,
-            symmetry::symmetry_state_f64(weights),
+            backward,
+            symmetry::directed_state_f64(weights, backward),
             mode,
             data,
             shape,
@@ -58,21 +62,8 @@ fn weigh(
     }
 }
 
-// The weights from the last to the first.
-fn reverse(weights: &[f64], reversed: &mut [f64])
-    requires { ⌜ length (now reversed) ≡ length (now weights) ⌝ }
-    ensures { λ _. ⌜ now (reversed .exit) ≡ reverse (now (weights .entry)) ⌝ }
-{
-    let n = reversed.len();
-    let mut i = 0;
-    while i < n {
-        let v = weights[n - 1 - i];
-        reversed[i] = v;
-        i += 1;
-    }
-}
-
-// Fills out with the answer of an accepted correlation.
+// Fills out with the answer of an accepted correlation, or, where `convolution` says convolution, with that of the
+// weights read backward and the changed origin.
 fn correlate_cells(
     data: &[f64],
     shape: &[usize],
@@ -80,43 +71,21 @@ fn correlate_cells(
     axis: usize,
     mode: BorderModeF64,
     origin: isize,
+    convolution: bool,
     out: &mut [f64],
 )
-    requires { ⌜ refusalOf (correlateJudgedF false (borderOfF64 mode) origin (now weights) (now shape) axis (now «data»)
-        (length (now out))) ≡ 0 ⌝ }
-    ensures { λ _. ⌜ now (out .exit) ≡ correlate1dF (borderOfF64 mode) origin (now (weights .entry))
-        (now (shape .entry)) axis (now («data» .entry)) ⌝ }
+    requires { ⌜ refusalOf (correlateJudgedF convolution (borderOfF64 mode) origin (now weights) (now shape) axis
+        (now «data») (length (now out))) ≡ 0 ⌝ }
+    ensures { λ _. ⌜ now (out .exit) ≡ correlate1dF (borderOfF64 mode)
+        (appliedOrigin convolution (length (now (weights .entry))) origin)
+        (directed convolution (now (weights .entry))) (now (shape .entry)) axis (now («data» .entry)) ⌝ }
 {
     if weights.len() == 1 {
         scale(data, weights[0], out);
         return;
     }
-    weigh(data, shape, weights, axis, mode, origin, out);
-}
-
-// Fills out with the answer of an accepted convolution; reversed is a buffer, as long as the weights.
-fn convolve_cells(
-    data: &[f64],
-    shape: &[usize],
-    weights: &[f64],
-    axis: usize,
-    mode: BorderModeF64,
-    origin: isize,
-    reversed: &mut [f64],
-    out: &mut [f64],
-)
-    requires { ⌜ (refusalOf (correlateJudgedF true (borderOfF64 mode) origin (now weights) (now shape) axis (now «data»)
-        (length (now out))) ≡ 0) × (length (now reversed) ≡ length (now weights)) ⌝ }
-    ensures { λ _. ⌜ now (out .exit) ≡ convolve1dF (borderOfF64 mode) origin (now (weights .entry)) (now (shape .entry))
-        axis (now («data» .entry)) ⌝ }
-{
-    if weights.len() == 1 {
-        scale(data, weights[0], out);
-        return;
-    }
-    reverse(weights, reversed);
-    let applied = window::applied_origin(weights.len(), origin, true);
-    weigh(data, shape, reversed, axis, mode, applied, out);
+    let applied = window::applied_origin(weights.len(), origin, convolution);
+    weigh(data, shape, weights, convolution, axis, mode, applied, out);
 }
 
 // The sums of each window times the weights, along an axis, each operation rounded in the order that the class of the
@@ -162,11 +131,13 @@ pub fn correlate1d_f64(
     if refusal != 0 {
         return refusal;
     }
-    correlate_cells(data, shape, weights, axis, mode, origin, out);
+    correlate_cells(data, shape, weights, axis, mode, origin, false, out);
     numbers::ACCEPTED
 }
 
-// As `correlate1d_f64` with the weights reversed and the origin negated, and 1 less for an even number of weights.
+// The sums of each window times the weights from the last to the first, along an axis: weight j of len meets the cell
+// at i + floor(len / 2) + origin - j. Each operation is rounded in the order that the class of the weights names, read
+// from the last to the first. With one weight every cell is multiplied by it, and the origin is not read.
 //
 // * `data` - the cells of the grid.
 // * `shape` - the length of each axis.
@@ -179,7 +150,8 @@ pub fn correlate1d_f64(
 // All NaNs count as one: where an answer is a NaN the cell is a NaN, and its bits are open.
 //
 // Refuses: 1 (shape), 2 (length), 3 (level), 5 (kernel), 6 (weight), 7 (origin), 8 (axis), 9 (constant), 11 (reach). Of
-// 0 0 1 with the weights 1, 2, 1 + 2^-52 under Constant(0.0) cell 1 is 1 + 2^-52: the reversal comes first.
+// 0 0 1 with the weights 1, 2, 1 + 2^-52 under Constant(0.0) cell 1 is 1 + 2^-52: of the pair of weights
+// that count as equal the last one is read.
 pub fn convolve1d_f64(
     data: &[f64],
     shape: &[usize],
@@ -207,17 +179,6 @@ pub fn convolve1d_f64(
     if refusal != 0 {
         return refusal;
     }
-    let count = weights.len();
-    let mut reversed = [0.0; numbers::LONGEST_WINDOW];
-    convolve_cells(
-        data,
-        shape,
-        weights,
-        axis,
-        mode,
-        origin,
-        &mut reversed[..count],
-        out,
-    );
+    correlate_cells(data, shape, weights, axis, mode, origin, true, out);
     numbers::ACCEPTED
 }

@@ -19,10 +19,10 @@ use Rattle.border.specs.Border.{Border, constant, along}
 use Rattle.border.specs.declared.CellBorder.the-variants.{Nearest, Mirror, Reflect, Wrap}
 use Rattle.border.specs.Reach.{badPad}
 use Rattle.correlate_spec.specs.Kernel.{sidesOf, kernelSum, kernelAnswer}
-use Rattle.correlate_grid.specs.declared.axes.Axes.{Axes}
-use Rattle.correlate_grid.specs.declared.axes.Axis.{Axis}
+use Rattle.correlate_grid_axes.specs.declared.axes.Axes.{Axes}
+use Rattle.correlate_grid_axes.specs.declared.axes.Axis.{Axis}
 use Rattle.correlate_grid.specs.Kernel.{KernelCallNeeds}
-use Rattle.correlate_grid.specs.Axes.{axisFrom, axesOf, Serves, KernelNeeds}
+use Rattle.correlate_grid_axes.specs.Axes.{axisFrom, axesOf, Serves, KernelNeeds}
 use Rattle.correlate_grid.proofs.EveryRow.{sumAt}
 use Rattle.correlate_grid.proofs.ThreeAxes.{sumBy, count-three, sum-three, lifted, sum-lifted}
 

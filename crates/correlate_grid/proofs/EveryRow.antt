@@ -20,9 +20,9 @@ use Rattle.lanes.proofs.Cells.{step-le}
 use Rattle.lanes.proofs.Part.{onRow, row-yes, row-no, part-put}
 use Rattle.border.specs.Border.{Border}
 use Rattle.correlate_spec.specs.Weighed.{summed}
-use Rattle.correlate_grid.specs.declared.axes.Axis.{Axis}
-use Rattle.correlate_grid.specs.Axes.{KernelNeeds}
-use Rattle.correlate_grid.specs.ByRows.{rowsTo, RowSumNeeds}
+use Rattle.correlate_grid_axes.specs.declared.axes.Axis.{Axis}
+use Rattle.correlate_grid_axes.specs.Axes.{KernelNeeds}
+use Rattle.correlate_grid_row.specs.ByRows.{rowsTo, RowSumNeeds}
 
 -- ---- the first m kernel rows are summed
 module _ {b : Border ℤ} {x y z : Axis} {w cells : List ℤ} {r : ℕ} where
@@ -58,7 +58,8 @@ pub record Storing (b : Border ℤ) (x y z : Axis) (w cells : List ℤ) (r : ℕ
   pub kept : length out ≡ length cells
   pub sums : (k : ℕ) → k < r * z .len → getD out k (pos 0) ≡ sumAt b x y z w cells k
 
-module _ {b : Border ℤ} {x y z : Axis} {w cells : List ℤ} (L : KernelNeeds b x y z w cells) where
+-- v are the weights as the caller has them
+module _ {b : Border ℤ} {x y z : Axis} {v w cells : List ℤ} (L : KernelNeeds b x y z v cells) where
   pub storing-none : {line out : List ℤ} → length line ≡ z .left + z .len + z .right → length out ≡ length cells → Storing b x y z w cells 0 line out
   storing-none l o = record { below = omega arith; line-long = l; kept = o; sums = λ k h. absurd (omega arith) }
 

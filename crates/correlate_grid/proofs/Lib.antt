@@ -1,8 +1,5 @@
 -- Laws of correlation with a grid kernel, leaves first.
-pub mod Lines
-pub mod Sources
-pub mod RowLine
-pub mod KernelRow
+pub mod Directed
 pub mod SumSizes
 pub mod Turn
 pub mod EveryRow

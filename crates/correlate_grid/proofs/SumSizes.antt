@@ -16,10 +16,10 @@ use Rattle.pad_line.proofs.Sizes.{constant-sized}
 use Rattle.correlate_spec.proofs.Sizes.{size-summed}
 use Rattle.correlate_spec.proofs.KernelSizes.{term-sized}
 use Rattle.pad_line.proofs.EveryPadded.{any-table}
-use Rattle.correlate_grid.specs.declared.axes.Axis.{Axis}
-use Rattle.correlate_grid.specs.Axes.{KernelNeeds}
-use Rattle.correlate_grid.specs.ByRows.{rowSum, rowsTo}
-use Rattle.correlate_grid.proofs.KernelRow.{side-few, kernel-few}
+use Rattle.correlate_grid_axes.specs.declared.axes.Axis.{Axis}
+use Rattle.correlate_grid_axes.specs.Axes.{KernelNeeds}
+use Rattle.correlate_grid_row.specs.ByRows.{rowSum, rowsTo}
+use Rattle.correlate_grid_row.proofs.KernelRow.{side-few, kernel-few}
 
 -- the size of one term
 abbrev term : ℕ

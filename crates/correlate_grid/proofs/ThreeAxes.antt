@@ -15,9 +15,9 @@ use Rattle.array_spec.proofs.Strides.{coordinate-digit}
 use Rattle.border.specs.Border.{Border, constant, along, cellFor, inside, allInside, extendedGrid}
 use Rattle.correlate_spec.specs.Weighed.{summed}
 use Rattle.correlate_spec.proofs.Summed.{summed-agree}
-use Rattle.correlate_grid.specs.declared.axes.Axis.{Axis}
-use Rattle.correlate_grid.specs.Axes.{readAt, KernelNeeds}
-use Rattle.correlate_grid.specs.ByRows.{three, rowSum, rowsTo}
+use Rattle.correlate_grid_axes.specs.declared.axes.Axis.{Axis}
+use Rattle.correlate_grid_axes.specs.Axes.{readAt, KernelNeeds}
+use Rattle.correlate_grid_row.specs.ByRows.{three, rowSum, rowsTo}
 use Rattle.correlate_grid.proofs.EveryRow.{sumAt}
 
 -- ---- summing over all cells is summing row by row

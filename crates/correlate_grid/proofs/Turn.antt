@@ -14,11 +14,11 @@ use Rattle.numbers.proofs.Tabulate.{length-tabulate, getD-tabulate, tabulate-ag
 use Rattle.border.specs.Border.{Border, extendedGrid}
 use Rattle.correlate_spec.proofs.Summed.{summed-agree, summed-more}
 use Rattle.correlate_spec.proofs.Computed.{read, computed-level, computed-read}
-use Rattle.correlate_grid.specs.declared.axes.Axis.{Axis}
-use Rattle.correlate_grid.specs.Axes.{readAt, sourceFor, KernelNeeds}
-use Rattle.correlate_grid.specs.ByRows.{three, rowFor, rowLine, lineSum, rowSum, rowsTo, Mapped, RowSumNeeds, Reading}
-use Rattle.correlate_grid.proofs.RowLine.{row-level}
-use Rattle.correlate_grid.proofs.Sources.{Known, ReadsIn, reads-in, read-place, read-in, table-is, table-known, table-small}
+use Rattle.correlate_grid_axes.specs.declared.axes.Axis.{Axis}
+use Rattle.correlate_grid_axes.specs.Axes.{readAt, sourceFor, KernelNeeds}
+use Rattle.correlate_grid_row.specs.ByRows.{three, rowFor, rowLine, lineSum, rowSum, rowsTo, Mapped, RowSumNeeds, Reading}
+use Rattle.correlate_grid_row.proofs.RowLine.{row-level}
+use Rattle.correlate_grid_axes.proofs.Sources.{Known, ReadsIn, reads-in, read-place, read-in, table-is, table-known, table-small}
 use Rattle.correlate_grid.proofs.SumSizes.{sums-small}
 
 row-below : (n m : ℕ) (s t : ℤ) → Known n s → Known m t → (rowFor s t m (n * m) ≡ n * m → ⊥) → rowFor s t m (n * m) < n * m

@@ -1,5 +1,3 @@
 -- Correlation with a grid kernel.
 pub mod Kernel
-pub mod Axes
-pub mod ByRows
 pub mod Rows

@@ -5,19 +5,21 @@ ghost use Prim.Native.Nat.{_+_, _*_, _/_, _%_, _<_};
 ghost use lib.ListN.{length};
 ghost use Rattle.numbers.specs.Lists.{tabulate};
 ghost use Rattle.border.specs.Modes.{borderOf};
-ghost use Rattle.correlate_grid.specs.Axes.{KernelNeeds};
-ghost use Rattle.correlate_grid.specs.ByRows.{Mapped, rowsTo, RowSumNeeds};
-use crate::axes::Axes;
-use crate::axes::find_sources;
-use crate::row::add_kernel_row;
-use crate::row::row_for;
+ghost use Rattle.direction.specs.Direction.{directed};
+ghost use Rattle.correlate_grid_axes.specs.Axes.{KernelNeeds};
+ghost use Rattle.correlate_grid_row.specs.ByRows.{Mapped, rowsTo, RowSumNeeds};
 use border::BorderMode;
+use correlate_grid_axes::Axes;
+use correlate_grid_axes::find_sources;
+use correlate_grid_row::add_kernel_row;
+use correlate_grid_row::row_for;
 
 // Adds the sums of kernel plane i to those of row s of plane p. The tables have the sources of planes and rows; line is
 // a buffer.
 fn add_kernel_plane(
     data: &[i64],
     weights: &[i64],
+    backward: bool,
     mode: BorderMode,
     axes: Axes,
     first: &[i64],
@@ -30,11 +32,11 @@ fn add_kernel_plane(
 )
     requires { ⌜ Mapped (borderOf mode) (axes .planes) (axes .rows) (axes .cells) (now weights) (now «data») (now first)
         (now second) × (p < axes .planes .len) × (s < axes .rows .len) × (i < axes .planes .side)
-        × RowSumNeeds (borderOf mode) (axes .planes) (axes .rows) (axes .cells) (now weights) (now «data»)
-        (p * axes .rows .len + s) (i * axes .rows .side) (now line) (now out) ⌝ }
+        × RowSumNeeds (borderOf mode) (axes .planes) (axes .rows) (axes .cells) (directed backward (now weights))
+        (now «data») (p * axes .rows .len + s) (i * axes .rows .side) (now line) (now out) ⌝ }
     ensures { λ _. ⌜ now (out .exit) ≡ tabulate (rowsTo (borderOf mode) (axes .planes) (axes .rows) (axes .cells)
-        (now (weights .entry)) (now («data» .entry)) (p * axes .rows .len + s) ((i + 1) * axes .rows .side)) 0
-        (axes .cells .len) ⌝ }
+        (directed backward (now (weights .entry))) (now («data» .entry)) (p * axes .rows .len + s)
+        ((i + 1) * axes .rows .side)) 0 (axes .cells .len) ⌝ }
 {
     let plane = first[p + i];
     let per = axes.rows.len;
@@ -44,7 +46,7 @@ fn add_kernel_plane(
     let mut j = 0;
     while j < side {
         let row = row_for(plane, second[s + j], per, none);
-        add_kernel_row(data, weights, mode, axes, row, q + j, line, out);
+        add_kernel_row(data, weights, backward, mode, axes, row, q + j, line, out);
         j += 1;
     }
 }
@@ -53,6 +55,7 @@ fn add_kernel_plane(
 fn correlate_row(
     data: &[i64],
     weights: &[i64],
+    backward: bool,
     mode: BorderMode,
     axes: Axes,
     first: &[i64],
@@ -67,14 +70,27 @@ fn correlate_row(
         × (length (now line) ≡ axes .cells .left + axes .cells .len + axes .cells .right)
         × (length (now out) ≡ axes .cells .len) ⌝ }
     ensures { λ _. ⌜ now (out .exit) ≡ tabulate (rowsTo (borderOf mode) (axes .planes) (axes .rows) (axes .cells)
-        (now (weights .entry)) (now («data» .entry)) (p * axes .rows .len + s) (axes .planes .side * axes .rows .side))
-        0 (axes .cells .len) ⌝ }
+        (directed backward (now (weights .entry))) (now («data» .entry)) (p * axes .rows .len + s)
+        (axes .planes .side * axes .rows .side)) 0 (axes .cells .len) ⌝ }
 {
     array::fill(out, 0);
     let count = axes.planes.side;
     let mut i = 0;
     while i < count {
-        add_kernel_plane(data, weights, mode, axes, first, second, p, s, i, line, out);
+        add_kernel_plane(
+            data,
+            weights,
+            backward,
+            mode,
+            axes,
+            first,
+            second,
+            p,
+            s,
+            i,
+            line,
+            out,
+        );
         i += 1;
     }
 }
@@ -83,6 +99,7 @@ fn correlate_row(
 fn correlate_rows(
     data: &[i64],
     weights: &[i64],
+    backward: bool,
     mode: BorderMode,
     axes: Axes,
     first: &[i64],
@@ -94,8 +111,8 @@ fn correlate_rows(
         (now second) × (length (now line) ≡ axes .cells .left + axes .cells .len + axes .cells .right)
         × (length (now out) ≡ length (now «data»)) ⌝ }
     ensures { λ _. ⌜ now (out .exit) ≡ tabulate (λ k. rowsTo (borderOf mode) (axes .planes) (axes .rows) (axes .cells)
-        (now (weights .entry)) (now («data» .entry)) (k / axes .cells .len) (axes .planes .side * axes .rows .side)
-        (k % axes .cells .len)) 0 (length (now («data» .entry))) ⌝ }
+        (directed backward (now (weights .entry))) (now («data» .entry)) (k / axes .cells .len)
+        (axes .planes .side * axes .rows .side) (k % axes .cells .len)) 0 (length (now («data» .entry))) ⌝ }
 {
     let per = axes.rows.len;
     let count = axes.planes.len * per;
@@ -107,6 +124,7 @@ fn correlate_rows(
         correlate_row(
             data,
             weights,
+            backward,
             mode,
             axes,
             first,
@@ -124,6 +142,7 @@ fn correlate_rows(
 pub(crate) fn correlate_three(
     data: &[i64],
     weights: &[i64],
+    backward: bool,
     mode: BorderMode,
     axes: Axes,
     out: &mut [i64],
@@ -131,8 +150,8 @@ pub(crate) fn correlate_three(
     requires { ⌜ KernelNeeds (borderOf mode) (axes .planes) (axes .rows) (axes .cells) (now weights) (now «data»)
         × (length (now out) ≡ length (now «data»)) ⌝ }
     ensures { λ _. ⌜ now (out .exit) ≡ tabulate (λ k. rowsTo (borderOf mode) (axes .planes) (axes .rows) (axes .cells)
-        (now (weights .entry)) (now («data» .entry)) (k / axes .cells .len) (axes .planes .side * axes .rows .side)
-        (k % axes .cells .len)) 0 (length (now («data» .entry))) ⌝ }
+        (directed backward (now (weights .entry))) (now («data» .entry)) (k / axes .cells .len)
+        (axes .planes .side * axes .rows .side) (k % axes .cells .len)) 0 (length (now («data» .entry))) ⌝ }
 {
     let planes = axes.planes;
     let mut first = [0; numbers::LONGEST_LINE];
@@ -145,6 +164,7 @@ pub(crate) fn correlate_three(
     correlate_rows(
         data,
         weights,
+        backward,
         mode,
         axes,
         &first,

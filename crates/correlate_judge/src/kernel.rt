@@ -4,7 +4,7 @@ ghost use mathlib.Core.Bool.{false};
 ghost use Rattle.numbers.specs.Refusal.{refusalOf};
 ghost use Rattle.array_spec.specs.Conditions.{badShape};
 ghost use Rattle.border.specs.Modes.{borderOf};
-ghost use Rattle.correlate_judge.specs.KernelJudge.{kernelPlaced, kernelJudged};
+ghost use Rattle.correlate_judge_spec.specs.KernelJudge.{kernelPlaced, kernelJudged};
 use border::BorderMode;
 
 // Conditions 5, 6, 7, 9 and 11 in rising order, of a kernel on a grid whose shape condition 1 accepts.
@@ -20,10 +20,10 @@ fn judge_placed(
     ensures { λ r. ⌜ r ≡ refusalOf (kernelPlaced convolution (borderOf mode) origin (now (sides .entry))
         (now (weights .entry)) (now (shape .entry))) ⌝ }
 {
-    if crate::kernel_sides::bad_kernel(shape, sides, weights.len()) {
+    if correlate_conditions::bad_kernel(shape, sides, weights.len()) {
         return numbers::KERNEL;
     }
-    if crate::weights::bad_weights(weights) {
+    if correlate_conditions::bad_weights(weights) {
         return numbers::WEIGHT;
     }
     let side = array::len_of(sides, 0);

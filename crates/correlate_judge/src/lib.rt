@@ -1,6 +1,5 @@
 // The judge of `correlate1d` and `convolve1d`, whole and float: the conditions in rising order, before anything is
 // stored.
-ghost use Rattle.correlate_judge.specs.Rows.{CorrelateJudgeRows};
 ghost use mathlib.Core.Path.{_≡_};
 ghost use mathlib.Core.Bool.{not, _&&_};
 ghost use mathlib.Core.List.{[], _∷_};
@@ -10,17 +9,15 @@ ghost use Rattle.array_spec.specs.Conditions.{badAxis};
 ghost use Rattle.array_spec.specs.Grid.{lengthOf};
 ghost use Rattle.border.specs.Modes.{borderOf, borderOfF64};
 ghost use Rattle.window_spec.specs.Window.{badSize, badWindowOrigin, badReach, appliedOrigin};
-ghost use Rattle.correlate_judge.specs.Judge.{correlateJudged, correlateJudgedF};
+ghost use Rattle.correlate_judge_spec.specs.Judge.{correlateJudged, correlateJudgedF};
 use border::BorderMode;
 use border::BorderModeF64;
 
 mod kernel;
-mod kernel_sides;
-mod weights;
 
+pub use correlate_conditions::bad_weight;
+pub use correlate_conditions::bad_weights;
 pub use kernel::judge_kernel;
-pub use weights::bad_weight;
-pub use weights::bad_weights;
 
 // Conditions 5, 6, 7, 8, 9 and 11 in rising order, of len weights along an axis, with the answers to 6 and 9.
 fn judge_weighing(
@@ -136,8 +133,3 @@ pub fn judge_correlate_f64(
         convolution,
     )
 }
-
-// Worked rows of this crate's definitions: weights along an axis, grid kernels.
-pub fn rows()
-    ensures { λ _. ⌜ CorrelateJudgeRows ⌝ }
-{}

@@ -1,8 +1,8 @@
 -- Sums that are added to a row of 0: the row is small enough, and what it holds then are the sums.
 -- Assumes nothing.
 use Prim.Native.Nat.{ℕ, zero, suc, _^_}
-use mathlib.Core.Path.{_≡_, refl, ap, _∙_}
-use mathlib.Core.Bool.{false}
+use mathlib.Core.Path.{_≡_, refl, sym, ap, _∙_}
+use mathlib.Core.Bool.{Bool, false}
 use mathlib.Core.List.{List}
 use lib.IntN.{ℤ, pos, negℤ, _+ℤ_, +ℤ-idl}
 use lib.ListN.{length, getD, replicate, length-replicate}
@@ -12,7 +12,9 @@ use Rattle.symmetry_spec.specs.declared.SymmetryState.the-variants.{NonSymmetri
 use Rattle.correlate_spec.specs.Weighed.{wholeOps, plainAt, weighedLine}
 use Rattle.correlate_spec.specs.Sizes.{LineSumNeeds}
 use Rattle.correlate_spec.proofs.Terms.{weighable-kept}
-use Rattle.correlate_line.specs.Added.{addedTo, AddNeeds}
+use Rattle.direction.specs.Direction.{directed}
+use Rattle.direction.proofs.Directed.{directed-length}
+use Rattle.correlate_plain.specs.Added.{addedTo, AddNeeds}
 
 zeros-small : (n : ℕ) → anyOf (outsideZ (negℤ (pos (2 ^ 61))) (pos (2 ^ 61))) (replicate n (pos 0)) ≡ false
 zeros-small zero = refl
@@ -30,8 +32,13 @@ module _ {w s : List ℤ} {n : ℕ} (W : LineSumNeeds w s n) {out : List ℤ} (e
   pub zero-addable : AddNeeds w s out
   zero-addable = record { line = weighable-kept long W; small = ap (anyOf _) e ∙ zeros-small n }
 
-  pub zero-added : {new : List ℤ} → new ≡ tabulate (addedTo out w s (length w)) 0 (length out) → new ≡ weighedLine wholeOps NonSymmetric w s n
-  zero-added a = a ∙ (λ t. tabulate (λ i. sum i t) 0 (long t))
+  pub zero-added : (backward : Bool) {new : List ℤ} → new ≡ tabulate (addedTo out (directed backward w) s (length w)) 0 (length out) → new ≡ weighedLine wholeOps NonSymmetric (directed backward w) s n
+  zero-added backward a = a ∙ (λ t. tabulate (λ i. sum i t) 0 (long t))
     where
-      sum : (i : ℕ) → addedTo out w s (length w) i ≡ plainAt wholeOps w s i
-      sum i = ap (λ (l : List ℤ). getD l i (pos 0) +ℤ plainAt wholeOps w s i) e ∙ ap (λ (x : ℤ). x +ℤ plainAt wholeOps w s i) (zeros-at n i) ∙ +ℤ-idl (plainAt wholeOps w s i)
+      at : ℕ → ℤ
+      at i = plainAt wholeOps (directed backward w) s i
+
+      sum : (i : ℕ) → addedTo out (directed backward w) s (length w) i ≡ at i
+      sum i =
+          ap (λ (m : ℕ). addedTo out (directed backward w) s m i) (sym (directed-length backward w))
+          ∙ ap (λ (l : List ℤ). getD l i (pos 0) +ℤ at i) e ∙ ap (λ (x : ℤ). x +ℤ at i) (zeros-at n i) ∙ +ℤ-idl (at i)

@@ -1,24 +1,11 @@
-// Terms of a float sum, each operation rounded, in the order that the definition has: one pair's, and those of four
-// neighbouring weights.
+// The terms of four neighbouring weights of a float sum, each operation rounded, in the order that the definition has.
 ghost use mathlib.Core.Path.{_≡_};
-ghost use Prim.Native.Nat.{_+_, _≤_, _<_};
+ghost use Prim.Native.Nat.{_+_, _≤_};
 ghost use lib.ListN.{length, getD};
+ghost use Rattle.direction.specs.Direction.{directed};
 ghost use Rattle.correlate_spec.specs.Weighed.{floatOps};
-ghost use Rattle.correlate_spec.specs.Joined.{joinedBy};
 ghost use Rattle.correlate_line_f64.specs.Four.{fourMore};
-
-// The cells at two places, joined by difference where minus is true, else by sum, times a weight. The compiler takes
-// the test out of the loops that ask it.
-pub(crate) fn pair_term(minus: bool, line: &[f64], left: usize, right: usize, weight: f64) -> f64
-    requires { ⌜ (left < length (now line)) × (right < length (now line)) ⌝ }
-    ensures { λ r. ⌜ r ≡ floatOps .product (joinedBy floatOps minus (getD (now (line .entry)) left (floatOps .past))
-        (getD (now (line .entry)) right (floatOps .past))) weight ⌝ }
-{
-    if minus {
-        return (line[left] - line[right]) * weight;
-    }
-    (line[left] + line[right]) * weight
-}
+use direction::weight_at_f64;
 
 // Four neighbouring weights.
 pub struct Four {
@@ -28,20 +15,35 @@ pub struct Four {
     pub w3: f64,
 }
 
-// Weights j to j + 3.
-pub(crate) fn four_weights(weights: &[f64], j: usize) -> Four
+// Weights j to j + 3, as they are applied.
+fn four_toward(weights: &[f64], backward: bool, j: usize) -> Four
     requires { ⌜ j + 4 ≤ length (now weights) ⌝ }
-    ensures { λ r. ⌜ (r .w0 ≡ getD (now (weights .entry)) j (floatOps .past))
-        × (r .w1 ≡ getD (now (weights .entry)) (j + 1) (floatOps .past))
-        × (r .w2 ≡ getD (now (weights .entry)) (j + 2) (floatOps .past))
-        × (r .w3 ≡ getD (now (weights .entry)) (j + 3) (floatOps .past)) ⌝ }
+    ensures { λ r. ⌜ (r .w0 ≡ getD (directed backward (now (weights .entry))) j (floatOps .past))
+        × (r .w1 ≡ getD (directed backward (now (weights .entry))) (j + 1) (floatOps .past))
+        × (r .w2 ≡ getD (directed backward (now (weights .entry))) (j + 2) (floatOps .past))
+        × (r .w3 ≡ getD (directed backward (now (weights .entry))) (j + 3) (floatOps .past)) ⌝ }
 {
     Four {
-        w0: weights[j],
-        w1: weights[j + 1],
-        w2: weights[j + 2],
-        w3: weights[j + 3],
+        w0: weight_at_f64(weights, backward, j),
+        w1: weight_at_f64(weights, backward, j + 1),
+        w2: weight_at_f64(weights, backward, j + 2),
+        w3: weight_at_f64(weights, backward, j + 3),
     }
+}
+
+// As four_toward, the direction asked once for the four. Where it is asked for each, the compiler chooses an address
+// for every weight of every pass, which short lanes pay for.
+pub(crate) fn four_weights(weights: &[f64], backward: bool, j: usize) -> Four
+    requires { ⌜ j + 4 ≤ length (now weights) ⌝ }
+    ensures { λ r. ⌜ (r .w0 ≡ getD (directed backward (now (weights .entry))) j (floatOps .past))
+        × (r .w1 ≡ getD (directed backward (now (weights .entry))) (j + 1) (floatOps .past))
+        × (r .w2 ≡ getD (directed backward (now (weights .entry))) (j + 2) (floatOps .past))
+        × (r .w3 ≡ getD (directed backward (now (weights .entry))) (j + 3) (floatOps .past)) ⌝ }
+{
+    if backward {
+        return four_toward(weights, true, j);
+    }
+    four_toward(weights, false, j)
 }
 
 // A sum, and the terms of the cells at four neighbouring places, added one after the other.

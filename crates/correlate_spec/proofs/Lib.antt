@@ -7,8 +7,13 @@ pub mod Classes
 pub mod Sizes
 pub mod Sliding
 pub mod KernelSizes
-pub mod Reversed
+pub mod Mapped
 pub mod Bounds
 pub mod Computed
 pub mod Terms
 pub mod SlidingSum
+pub mod Ordered
+pub mod Meets
+pub mod Convolved
+pub mod Turned
+pub mod ConvolvedKernel

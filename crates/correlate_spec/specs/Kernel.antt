@@ -9,18 +9,19 @@
 --                                          extended grid times its weight
 --   kernelAnswer b left sides w ns cells   the sums of all cells
 --   correlateZ b o sides w ns cells        the sums, the window moved by the origin o
---   convolveZ b o sides w ns cells         the same with the kernel reversed along every axis, so its list of weights
---                                          from the last to the first, and
---                                          the origin changed
-use Prim.Native.Nat.{ℕ, _/_}
-use mathlib.Core.List.{List, reverse}
-use lib.IntN.{ℤ, pos, natAbs, _+ℤ_, _-ℤ_, _*ℤ_}
+--   convolvedSum b o sides w ns cells p    the sum over k of weight k times the cell of the extended grid that it
+--                                          meets: on every axis as along one, the side for the count of weights
+--   convolveZ b o sides w ns cells         these sums of all cells
+use Prim.Native.Nat.{ℕ}
+use mathlib.Core.List.{List}
+use lib.IntN.{ℤ, pos, _+ℤ_, _-ℤ_, _*ℤ_}
 use lib.ListN.{length, getD, replicate}
 use Rattle.numbers.specs.Lists.{tabulate}
 use Rattle.array_spec.specs.Grid.{cellCount, lengthOf, coordinate}
 use Rattle.border.specs.Border.{Border, extendedGrid}
+use Rattle.window_spec.specs.Window.{kernelLeft}
 use Rattle.correlate_spec.specs.Weighed.{summed}
-use Rattle.window_spec.specs.Window.{changedOrigin, kernelLeft}
+use Rattle.correlate_spec.specs.Convolved.{meets}
 
 abbrev pub sidesOf : List ℕ → ℕ → List ℕ
 sidesOf ns side = replicate (length ns) side
@@ -42,5 +43,10 @@ kernelAnswer b left sides w ns cells = tabulate (λ k. kernelSum b left sides w 
 abbrev pub correlateZ : Border ℤ → ℤ → List ℕ → List ℤ → List ℕ → List ℤ → List ℤ
 correlateZ b o sides w ns cells = kernelAnswer b (kernelLeft (sideOf sides) o) sides w ns cells
 
+unfoldable pub convolvedSum : Border ℤ → ℤ → List ℕ → List ℤ → List ℕ → List ℤ → (ℕ → ℕ) → ℤ
+convolvedSum b o sides w ns cells p = summed _+ℤ_ (pos 0)
+    (λ k. extendedGrid (pos 0) b ns cells (λ a. meets (sideOf sides) o (p a) (coordinate sides k a))
+    *ℤ getD w k (pos 0)) (length w)
+
 abbrev pub convolveZ : Border ℤ → ℤ → List ℕ → List ℤ → List ℕ → List ℤ → List ℤ
-convolveZ b o sides w ns cells = correlateZ b (changedOrigin (sideOf sides) o) sides (reverse w) ns cells
+convolveZ b o sides w ns cells = tabulate (λ k. convolvedSum b o sides w ns cells (coordinate ns k)) 0 (cellCount ns)

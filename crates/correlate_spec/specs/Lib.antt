@@ -2,6 +2,7 @@
 pub mod Weighed
 pub mod WindowSum
 pub mod Correlated
+pub mod Convolved
 pub mod Kernel
 pub mod Rows
 pub mod Sizes

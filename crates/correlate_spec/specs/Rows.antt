@@ -11,7 +11,7 @@
 use Prim.Native.Nat.{ℕ}
 use mathlib.Core.Path.{_≡_}
 use mathlib.Core.Bool.{true, false}
-use mathlib.Core.List.{List, [], _∷_, map}
+use mathlib.Core.List.{List, [], _∷_, _++_, map}
 use lib.Ieee.{Float, fin}
 use lib.IntN.{ℤ, pos, negsuc}
 use lib.ListN.{getD}
@@ -21,7 +21,8 @@ use Rattle.numbers.specs.Rows.{wholes, minus}
 use Rattle.symmetry_spec.specs.declared.SymmetryState.the-variants.{NonSymmetric, Symmetric, AntiSymmetric}
 use Rattle.correlate_spec.specs.Weighed.{wholeOps, floatOps, weighedAt, weighedLine}
 use Rattle.correlate_spec.specs.WindowSum.{windowSum}
-use Rattle.correlate_spec.specs.Correlated.{correlate1dZ, convolve1dZ, correlate1dF, convolve1dF}
+use Rattle.correlate_spec.specs.Correlated.{correlate1dZ, correlate1dF}
+use Rattle.correlate_spec.specs.Convolved.{meets, convolve1dZ, convolve1dF}
 use Rattle.correlate_spec.specs.Kernel.{sidesOf, sideOf, correlateZ, convolveZ}
 use Rattle.window_spec.specs.Window.{kernelLeft, kernelRight}
 
@@ -77,8 +78,11 @@ pub record CorrelateSpecRows : Type 0 where
   pub moved : correlate1dZ (along Nearest) (pos 1) (wholes (1 ∷ 2 ∷ 3 ∷ [])) (3 ∷ []) 0 (wholes (1 ∷ 2 ∷ 3 ∷ []))
       ∷ convolve1dZ (along Nearest) (pos 1) (wholes (1 ∷ 2 ∷ 3 ∷ [])) (3 ∷ []) 0 (wholes (1 ∷ 2 ∷ 3 ∷ [])) ∷ []
       ≡ wholes (6 ∷ 9 ∷ 14 ∷ []) ∷ wholes (10 ∷ 15 ∷ 18 ∷ []) ∷ []
-  pub one-weight : correlate1dZ (along Nearest) (pos 99) (wholes (4 ∷ [])) (3 ∷ []) 0 (wholes (1 ∷ 2 ∷ 3 ∷ []))
-      ≡ wholes (4 ∷ 8 ∷ 12 ∷ [])
+  pub one-weight : map (λ f. f (along Nearest) (pos 99) (wholes (4 ∷ [])) (3 ∷ []) 0 (wholes (1 ∷ 2 ∷ 3 ∷ [])))
+      (correlate1dZ ∷ convolve1dZ ∷ []) ≡ wholes (4 ∷ 8 ∷ 12 ∷ []) ∷ wholes (4 ∷ 8 ∷ 12 ∷ []) ∷ []
+  -- the cells that weights 0 to 2 of 3 meet for cell 5, and weights 0 and 1 of 2 with origin −1
+  pub met : map (meets 3 (pos 0) 5) (0 ∷ 1 ∷ 2 ∷ []) ++ map (meets 2 (minus 1) 5) (0 ∷ 1 ∷ [])
+      ≡ wholes (6 ∷ 5 ∷ 4 ∷ []) ++ wholes (5 ∷ 4 ∷ [])
   -- three axes, as SciPy answers: along each axis of the box 1 10 100, and 1 10 convolved
   pub box-correlated : inBox correlate1dZ (1 ∷ 10 ∷ 100 ∷ [])
       ≡ wholes (233 ∷ 611 ∷ 544 ∷ 311 ∷ 555 ∷ 899 ∷ 223 ∷ 661 ∷ 554 ∷ 331 ∷ 555 ∷ 889 ∷ [])

@@ -11,14 +11,20 @@ mod weighing;
 fn rows() {
     examples_spec::worked_examples();
     kernel3d::rows();
+    direction::rows();
     symmetry_spec::rows();
     pad_line::rows();
     pad_line_f64::rows();
     correlate_spec::rows();
-    correlate_line::rows();
+    correlate_plain::rows();
+    correlate_raised_terms::rows();
+    correlate_raised::rows();
     correlate_line_f64::rows();
-    correlate_judge::rows();
+    correlate_judge_spec::rows();
+    correlate_axis::rows();
     correlate1d::rows();
+    correlate_grid_axes::rows();
+    correlate_grid_row::rows();
     correlate_grid::rows();
     gradient_spec::rows();
     gradient::rows();
@@ -33,14 +39,15 @@ fn rows() {
     codes::rows();
     ndimage_spec::rows();
     ndimage_arguments::rows();
-    min_max::rows();
-    pad_copy::rows();
+    min_max_axis::rows();
+    pad_copy_axis::rows();
     pad::rows();
 }
 
 fn main() {
     rows();
     kernels::shapes();
+    kernels::directions();
     padded::pad_conditions();
     padded::fits();
     padded::lines();

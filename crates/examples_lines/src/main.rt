@@ -13,18 +13,21 @@ fn rows() {
     numbers::rows();
     array_spec::rows();
     lanes::rows();
-    array::rows();
+    array_levels::rows();
     border::rows();
     window_spec::rows();
     min_max_ring::rows();
     statistics_spec::rows();
-    statistics::rows();
+    statistics_mean::rows();
     pad_spec::rows();
+    pad_middle::rows();
     min_max_spec::rows();
     min_max_spec::order_of_axes();
     min_max_spec::calls_are_steps();
     min_max_judge::rows();
-    min_max::rows();
+    min_max_axis::rows();
+    uniform_axis::rows();
+    codes_cells::rows();
 }
 
 fn main() {

@@ -25,7 +25,8 @@ use Rattle.pad_spec.specs.Pads.{leftsOf, rightsOf}
 use Rattle.pad_spec.specs.declared.pairs.Pair.{Pair}
 use Rattle.min_max_spec.specs.Call.{Call}
 use Rattle.min_max_spec.specs.Run.{answerOf, run}
-use Rattle.correlate_spec.specs.Correlated.{correlate1dZ, convolve1dZ}
+use Rattle.correlate_spec.specs.Correlated.{correlate1dZ}
+use Rattle.correlate_spec.specs.Convolved.{convolve1dZ}
 use Rattle.correlate_spec.specs.Kernel.{correlateZ}
 use Rattle.gradient_spec.specs.Gradient.{sobelWeights, gradient}
 use Rattle.uniform_spec.specs.Uniform.{uniform1d}

@@ -25,7 +25,7 @@ use Rattle.pad_line.proofs.Sizes.{SizedBorder, constant-sized}
 use Rattle.window_spec.specs.Window.{badReach}
 use Rattle.correlate_spec.specs.Correlated.{correlate1dZ}
 use Rattle.correlate_spec.proofs.Bounds.{border-le, length-answer}
-use Rattle.correlate_judge.specs.Judge.{badWeight}
+use Rattle.correlate_judge_spec.specs.Judge.{badWeight}
 use Rattle.correlate1d.specs.WeighNeeds.{WeighNeeds}
 use Rattle.correlate1d.proofs.Accepted.{small-constant, small-sized}
 use Rattle.gradient_spec.specs.Gradient.{difference, gradientTo, gradient}

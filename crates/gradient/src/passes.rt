@@ -48,19 +48,19 @@ pub(crate) fn passes(
     let difference = [-1, 0, 1];
     let axes = shape.len();
     if axes == 1 {
-        correlate1d::weigh(data, shape, &difference, axis, mode, 0, out);
+        correlate1d::weigh(data, shape, &difference, false, axis, mode, 0, out);
         return;
     }
     let first = first_other(axis);
     if axes == 2 {
-        correlate1d::weigh(data, shape, &difference, axis, mode, 0, second);
-        correlate1d::weigh(second, shape, smooth, first, mode, 0, out);
+        correlate1d::weigh(data, shape, &difference, false, axis, mode, 0, second);
+        correlate1d::weigh(second, shape, smooth, false, first, mode, 0, out);
         return;
     }
     let last = last_other(axis);
-    correlate1d::weigh(data, shape, &difference, axis, mode, 0, out);
-    correlate1d::weigh(out, shape, smooth, first, mode, 0, second);
-    correlate1d::weigh(second, shape, smooth, last, mode, 0, out);
+    correlate1d::weigh(data, shape, &difference, false, axis, mode, 0, out);
+    correlate1d::weigh(out, shape, smooth, false, first, mode, 0, second);
+    correlate1d::weigh(second, shape, smooth, false, last, mode, 0, out);
 }
 
 // Worked rows of this crate's definitions: the axes beside each axis.

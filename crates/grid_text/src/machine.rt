@@ -2,18 +2,18 @@
 // Fed the whole text and one line feed more, it has stored every length and every level.
 ghost use mathlib.Core.Path.{_≡_};
 ghost use Rattle.grid_text_spec.specs.Machine.{startState, machine, byteFed, fed, finishOf};
-use crate::plain::is_plain;
-use crate::plain::plain_byte;
 use crate::shape::judge_shape;
 use crate::shape::word_end;
 use crate::store::store_length;
 use crate::store::store_level;
-use crate::word::is_empty;
-use crate::word::is_gap;
-use crate::word::next_byte;
-use crate::word::no_word;
 use grid_text_spec::TextShape;
 use grid_text_spec::TextState;
+use grid_text_word::is_empty;
+use grid_text_word::is_gap;
+use grid_text_word::is_plain;
+use grid_text_word::next_byte;
+use grid_text_word::no_word;
+use grid_text_word::plain_byte;
 
 // The state before the first byte: no word was read, and the product of no lengths is 1.
 //

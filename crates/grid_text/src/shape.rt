@@ -3,13 +3,13 @@ ghost use mathlib.Core.Path.{_≡_};
 ghost use Rattle.numbers.specs.Refusal.{refusalOf};
 ghost use Rattle.grid_text_spec.specs.Machine.{oneMore, axesAfter, cellsAfter, countEnd, lengthEnd, levelEnd, wordEnd};
 ghost use Rattle.grid_text_spec.specs.Machine.{largeShape, shapeJudged};
-use crate::word::capped_at;
-use crate::word::either;
-use crate::word::is_broken;
-use crate::word::is_out;
-use crate::word::is_wrong;
 use grid_text_spec::TextShape;
 use grid_text_spec::TextWord;
+use grid_text_word::capped_at;
+use grid_text_word::either;
+use grid_text_word::is_broken;
+use grid_text_word::is_out;
+use grid_text_word::is_wrong;
 
 // The limits of a length and of the product, as 64-bit numbers.
 const LONGEST_AXIS: u64 = numbers::LONGEST_AXIS as u64;

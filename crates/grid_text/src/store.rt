@@ -1,9 +1,9 @@
 // What is lent: the length or the level that a word is, stored in its place where there is room.
 ghost use mathlib.Core.Path.{_≡_};
 ghost use Rattle.grid_text_spec.specs.Machine.{storedLevel, lengthsAfter, levelsAfter};
-use crate::word::capped_size;
 use grid_text_spec::TextShape;
 use grid_text_spec::TextWord;
+use grid_text_word::capped_size;
 
 // The level that a word is.
 fn stored_level(word: TextWord) -> i64

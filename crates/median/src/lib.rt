@@ -5,9 +5,6 @@ ghost use Rattle.numbers.specs.Refusal.{refusalOf, Answers};
 ghost use Rattle.median_spec.specs.Around.{medianAnswer};
 ghost use Rattle.median_spec.specs.Judge.{badAxes, badSingle, medianJudged};
 
-mod row;
-mod votes;
-
 // Condition 1: what condition 1 refuses of every grid, or not three axes. 2 2 2 passes, 2 2 does not.
 pub fn bad_axes(shape: &[usize]) -> bool
     ensures { λ r. ⌜ r ≡ badAxes (now (shape .entry)) ⌝ }
@@ -59,7 +56,7 @@ fn median_cells(mask: &[bool], shape: &[usize], out: &mut [bool])
     let planes = array::len_of(shape, 0);
     let rows = array::len_of(shape, 1);
     let n = array::len_of(shape, 2);
-    row::median_rows(mask, planes, rows, n, out);
+    median_row::median_rows(mask, planes, rows, n, out);
 }
 
 // The median of each cell and its neighbours on three axes: true where more than floor((cells - 1)/2) of them are true.

@@ -1,4 +1,2 @@
 -- Laws.
 pub mod EveryAxis
-pub mod ByLanes
-pub mod OnePass

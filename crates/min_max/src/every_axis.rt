@@ -7,10 +7,10 @@ ghost use lib.Signed.{leZ};
 ghost use Rattle.numbers.specs.Order.{atLeast};
 ghost use Rattle.numbers.specs.Refusal.{refusalOf, ScratchAnswers};
 ghost use Rattle.min_max_judge.specs.Judge.{callOf, filterJudged};
-ghost use Rattle.min_max.specs.Lane.{orderOf};
+ghost use Rattle.min_max_axis.specs.Lane.{orderOf};
 ghost use Rattle.min_max_spec.specs.Filters.{filterAnswer};
-use crate::extreme::Extreme;
 use border::BorderMode;
+use min_max_axis::Extreme;
 
 // Fills out with the answer of an accepted grid call; second holds what a pass between leaves.
 fn passes(
@@ -30,17 +30,17 @@ fn passes(
 {
     let axes = shape.len();
     if axes == 1 {
-        crate::one_axis::pass(extreme, data, shape, size, 0, mode, origin, out);
+        min_max_axis::pass(extreme, data, shape, size, 0, mode, origin, out);
         return;
     }
     if axes == 2 {
-        crate::one_axis::pass(extreme, data, shape, size, 0, mode, origin, second);
-        crate::one_axis::pass(extreme, second, shape, size, 1, mode, origin, out);
+        min_max_axis::pass(extreme, data, shape, size, 0, mode, origin, second);
+        min_max_axis::pass(extreme, second, shape, size, 1, mode, origin, out);
         return;
     }
-    crate::one_axis::pass(extreme, data, shape, size, 0, mode, origin, out);
-    crate::one_axis::pass(extreme, out, shape, size, 1, mode, origin, second);
-    crate::one_axis::pass(extreme, second, shape, size, 2, mode, origin, out);
+    min_max_axis::pass(extreme, data, shape, size, 0, mode, origin, out);
+    min_max_axis::pass(extreme, out, shape, size, 1, mode, origin, second);
+    min_max_axis::pass(extreme, second, shape, size, 2, mode, origin, out);
 }
 
 // Judges a grid call, and fills out where it is accepted; second then holds zeros.

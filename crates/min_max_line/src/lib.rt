@@ -1,10 +1,6 @@
 // The least, or the greatest, level of each window of a line: the hot functions.
 
-mod maximum;
-mod minimum;
-mod three_cells;
-
-pub use maximum::maximum_line;
-pub use maximum::maximum_windows;
-pub use minimum::minimum_line;
-pub use minimum::minimum_windows;
+pub use min_max_greatest::maximum_line;
+pub use min_max_greatest::maximum_windows;
+pub use min_max_least::minimum_line;
+pub use min_max_least::minimum_windows;

@@ -1,17 +1,17 @@
 // The filters of whole levels: each calls the library on what was read, and answers the call's number.
 use border::BorderMode;
-use ndimage_read::requests::CORRELATE;
-use ndimage_read::requests::CORRELATE1D;
-use ndimage_read::requests::MAXIMUM;
-use ndimage_read::requests::MINIMUM;
-use ndimage_read::requests::MINIMUM1D;
-use ndimage_read::requests::PREWITT;
-use ndimage_read::requests::UNIFORM;
-use ndimage_read::state::AXIS;
-use ndimage_read::state::REQUEST;
-use ndimage_read::state::SECOND;
-use ndimage_read::state::SIZE;
-use ndimage_read::state::State;
+use ndimage_parts::requests::CORRELATE;
+use ndimage_parts::requests::CORRELATE1D;
+use ndimage_parts::requests::MAXIMUM;
+use ndimage_parts::requests::MINIMUM;
+use ndimage_parts::requests::MINIMUM1D;
+use ndimage_parts::requests::PREWITT;
+use ndimage_parts::requests::UNIFORM;
+use ndimage_parts::state::AXIS;
+use ndimage_parts::state::REQUEST;
+use ndimage_parts::state::SECOND;
+use ndimage_parts::state::SIZE;
+use ndimage_parts::state::State;
 
 // Grid kernels.
 pub(crate) fn kernel(

@@ -1,11 +1,11 @@
 // Correlation and convolution of floats along an axis.
 use border::BorderModeF64;
-use ndimage_read::requests::CORRELATE1D;
-use ndimage_read::state::AXIS;
-use ndimage_read::state::Floats;
-use ndimage_read::state::OUT;
-use ndimage_read::state::REQUEST;
-use ndimage_read::state::State;
+use ndimage_parts::requests::CORRELATE1D;
+use ndimage_parts::state::AXIS;
+use ndimage_parts::state::Floats;
+use ndimage_parts::state::OUT;
+use ndimage_parts::state::REQUEST;
+use ndimage_parts::state::State;
 
 // The call, and its number.
 fn apply(state: &State, floats: &[f64], mode: BorderModeF64, origin: i64, out: &mut [f64]) -> u8 {

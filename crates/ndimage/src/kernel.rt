@@ -1,9 +1,9 @@
 // `symmetry` and `kernel3d`.
-use ndimage_read::state::CELLS;
-use ndimage_read::state::FORM;
-use ndimage_read::state::Floats;
-use ndimage_read::state::Levels;
-use ndimage_read::state::State;
+use ndimage_parts::state::CELLS;
+use ndimage_parts::state::FORM;
+use ndimage_parts::state::Floats;
+use ndimage_parts::state::Levels;
+use ndimage_parts::state::State;
 use symmetry_spec::SymmetryState;
 
 const MOST: usize = 8192;

@@ -1,9 +1,9 @@
 // `play`, `read_recipe` and `write_recipe`.
-use ndimage_read::state::File;
-use ndimage_read::state::OUT;
-use ndimage_read::state::SECOND;
-use ndimage_read::state::STEPS;
-use ndimage_read::state::State;
+use ndimage_parts::state::File;
+use ndimage_parts::state::OUT;
+use ndimage_parts::state::SECOND;
+use ndimage_parts::state::STEPS;
+use ndimage_parts::state::State;
 
 // The player, and its number; the second grid has what was asked, or one cell more than any call takes.
 pub(crate) fn play(

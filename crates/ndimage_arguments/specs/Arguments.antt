@@ -34,7 +34,7 @@ use Rattle.border.specs.declared.BorderModeF64.{BorderModeF64}
 use Rattle.border.specs.declared.PadMode.{PadMode}
 use Rattle.pad_spec.specs.declared.pairs.Pair.{Pair}
 use Rattle.kernel3d.specs.declared.Kernel3d.{Kernel3d}
-use Rattle.codes.specs.Cells.{kernelCell}
+use Rattle.codes_cells.specs.Cells.{kernelCell}
 use Rattle.codes.specs.Codes.{modeOf, modeOfF64, paddingOf}
 
 abbrev pub cellsFrom : {A : Type 0} → ℕ → ℕ → List A → List A

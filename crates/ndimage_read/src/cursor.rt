@@ -1,13 +1,13 @@
 // Reading standard input token by token. A token is what stands between spaces; only its first bytes are kept.
-use crate::state::AT;
-use crate::state::Buffer;
-use crate::state::END;
-use crate::state::FAULT;
-use crate::state::LEN;
-use crate::state::LINE;
-use crate::state::STAGE;
-use crate::state::State;
 use libc::STDIN_FILENO;
+use ndimage_parts::state::AT;
+use ndimage_parts::state::Buffer;
+use ndimage_parts::state::END;
+use ndimage_parts::state::FAULT;
+use ndimage_parts::state::LEN;
+use ndimage_parts::state::LINE;
+use ndimage_parts::state::STAGE;
+use ndimage_parts::state::State;
 use ndimage_write::EXTRA;
 use ndimage_write::LONG;
 ghost use mathlib.Core.Path.{_≡_};

@@ -1,30 +1,27 @@
 // What the program `ndimage` reads: a request, token by token, part by part. After a fault nothing more is read.
 //
-// What parts a request has, and what is read for each, is promised (requests.rt, parts.rt), and so is what a token
-// is. These promise nothing but that they are safe and end: `bring` and `fill`, which read; and what steps the state,
-// the levels, the floats and the file that are lent: in cursor.rt `begin_line`, `faulty`, `lengthen`, `advance`, `keep`,
-// `take`, `turn`, `run`, `next`, `expect_end`, `measure` and `finish`, in number.rt `keep` and what begins with
-// `take_`, and here `clear`, `begin`, `open`, `take`, `read_token`, `read_part`, `read_parts` and `read`.
+// What parts a request has, and what is read for each, is promised (`ndimage_parts`), and so is what a token is. These
+// promise nothing but that they are safe and end: `bring` and `fill`, which read; and what steps the state, the levels,
+// the floats and the file that are lent: in cursor.rt `begin_line`, `faulty`, `lengthen`, `advance`, `keep`, `take`,
+// `turn`, `run`, `next`, `expect_end`, `measure` and `finish`, in number.rt `keep` and what begins with `take_`, and
+// here `clear`, `begin`, `open`, `take`, `read_token`, `read_part`, `read_parts` and `read`.
+use ndimage_parts::state::Buffer;
+use ndimage_parts::state::FAULT;
+use ndimage_parts::state::FORM;
+use ndimage_parts::state::File;
+use ndimage_parts::state::Floats;
+use ndimage_parts::state::LAST;
+use ndimage_parts::state::LEN;
+use ndimage_parts::state::Levels;
+use ndimage_parts::state::REQUEST;
+use ndimage_parts::state::State;
 use ndimage_spec::Kind;
 use ndimage_spec::Part;
-use state::Buffer;
-use state::FAULT;
-use state::FORM;
-use state::File;
-use state::Floats;
-use state::LAST;
-use state::LEN;
-use state::Levels;
-use state::REQUEST;
-use state::State;
 use words::Found;
 
 pub mod cursor;
 mod hexadecimal;
 mod number;
-mod parts;
-pub mod requests;
-pub mod state;
 
 // No part was read.
 fn clear(state: &mut State) {
@@ -89,13 +86,13 @@ fn read_token(
     i: usize,
 ) {
     let kind = part.0;
-    let at = parts::slot_of(part.2, part.3, i);
+    let at = ndimage_parts::slot_of(part.2, part.3, i);
     cursor::next(buffer, state);
     if state[LEN] == 0 {
         cursor::faulty(state, ndimage_write::MISSING);
         return;
     }
-    if parts::is_float(kind, state[FORM]) {
+    if ndimage_parts::is_float(kind, state[FORM]) {
         number::take_float(buffer, state, floats, at);
         return;
     }
@@ -112,7 +109,7 @@ fn read_part(
     part: Part,
 ) {
     let rule = part.1;
-    let times = parts::times(rule, state[LAST]);
+    let times = ndimage_parts::times(rule, state[LAST]);
     let mut i = 0;
     while i < times {
         if state[FAULT] != 0 {
@@ -143,7 +140,7 @@ fn read_parts(
             levels,
             floats,
             file,
-            parts::part_of(letters[i]),
+            ndimage_parts::part_of(letters[i]),
         );
         i += 1;
     }
@@ -157,7 +154,7 @@ pub fn read(
     floats: &mut Floats,
     file: &mut File,
 ) {
-    let table = requests::table();
+    let table = ndimage_parts::requests::table();
     open(buffer, state, &table);
     let letters = words::rest_at(&table, state[REQUEST]);
     read_parts(buffer, state, levels, floats, file, letters);

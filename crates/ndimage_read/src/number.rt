@@ -2,13 +2,12 @@
 // floats: only the token itself is promised.
 use crate::cursor;
 use crate::hexadecimal;
-use crate::parts;
-use crate::state::File;
-use crate::state::Floats;
-use crate::state::LAST;
-use crate::state::LEN;
-use crate::state::Levels;
-use crate::state::State;
+use ndimage_parts::state::File;
+use ndimage_parts::state::Floats;
+use ndimage_parts::state::LAST;
+use ndimage_parts::state::LEN;
+use ndimage_parts::state::Levels;
+use ndimage_parts::state::State;
 use ndimage_spec::Kind;
 use text_f64::Token;
 use text_spec::Signed;
@@ -84,10 +83,10 @@ pub(crate) fn take_bytes(buffer: &[u8], state: &mut State, file: &mut File, at: 
 
 // The code of a word.
 pub(crate) fn take_word(buffer: &[u8], state: &mut State, kind: Kind, at: usize) {
-    if let Found::At(code) = crate::parts::code_of(kind, shown(buffer, state[LEN])) {
-        state[LAST] = crate::parts::last_after(code);
+    if let Found::At(code) = ndimage_parts::code_of(kind, shown(buffer, state[LEN])) {
+        state[LAST] = ndimage_parts::last_after(code);
         keep(state, at, code);
         return;
     }
-    crate::cursor::faulty(state, crate::parts::fault_of(kind));
+    crate::cursor::faulty(state, ndimage_parts::fault_of(kind));
 }

@@ -23,7 +23,7 @@ use Rattle.pad_spec.specs.Levels.{keepsRim, levelTo, ownCells, paddedLevel, pad
 use Rattle.pad_spec.specs.Pads.{inMiddle, allFrom, middleFrom, paddedShape}
 use Rattle.pad_spec.proofs.Levels.{level-middle}
 use Rattle.pad_spec.specs.Frame.{middleSet}
-use Rattle.pad.specs.Around.{aroundSet}
+use Rattle.pad_middle.specs.Around.{aroundSet}
 use Rattle.pad.specs.Laid.{laid}
 use Rattle.pad.proofs.Laid.{middle-final, middle-read, middle-kept}
 

@@ -12,11 +12,11 @@ ghost use Rattle.pad_spec.specs.Conditions.{padJudged};
 ghost use Rattle.pad_spec.specs.Levels.{paddedGrid, paddedOver};
 ghost use Rattle.pad_spec.specs.Pads.{leftsOf, rightsOf};
 ghost use Rattle.pad_spec.specs.Frame.{Framed, Filling, middleSet};
-ghost use Rattle.pad.specs.Around.{aroundSet};
+ghost use Rattle.pad_middle.specs.Around.{aroundSet};
 ghost use Rattle.pad.specs.Laid.{laid};
-use crate::middle::copy_middle;
 use border::CellBorder;
 use border::PadMode;
+use pad_middle::copy_middle;
 use pad_spec::Filler;
 use pad_spec::Pair;
 use pad_spec::Statistic;
@@ -41,7 +41,7 @@ fn start(
     if !whole {
         return;
     }
-    crate::around::fill_around(c, cells, shape, lefts, padded, out);
+    pad_middle::fill_around(c, cells, shape, lefts, padded, out);
 }
 
 // Lays a grid in the middle of a padded grid under Constant: the rim holds the constant where the whole is asked for,
@@ -99,7 +99,7 @@ fn lay_statistic(
         (now (padded .entry)) (now («data» .entry)) ⌝ }
 {
     copy_middle(data, shape, lefts, padded, out);
-    crate::rims::fill_levels(statistic, shape, lefts, padded, out);
+    pad_statistic::fill_levels(statistic, shape, lefts, padded, out);
 }
 
 // Lays a grid in a padded one from the pairs of pads, by what the mode fills a rim with; lefts and padded are

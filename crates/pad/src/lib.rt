@@ -2,10 +2,7 @@
 // Its workers set the rim to a constant, copy the grid into the middle, and have the rims filled.
 ghost use Rattle.pad.specs.Rows.{PadRows};
 
-mod around;
 mod calls;
-mod middle;
-mod rims;
 
 pub use calls::pad;
 pub use calls::pad_to;

@@ -23,7 +23,7 @@ use Rattle.border.specs.declared.CellBorder.{CellBorder}
 use Rattle.pad_line.specs.Line.{paddedAt}
 use Rattle.pad_spec.proofs.Rims.{ownOf, length-own, getD-own}
 use Rattle.pad_spec.specs.Runs.{Runs, extendedAt, axisSet}
-use Rattle.pad_copy.proofs.CopiedRims.{some-cells, cell-in}
+use Rattle.pad_copy_axis.proofs.CopiedRims.{some-cells, cell-in}
 
 -- ---- places of a part that starts after i blocks
 module _ (p s : ℕ) (pp : 0 < p) (ps : 0 < s) (i r : ℕ) where

@@ -1,7 +1,3 @@
--- Laws of one coordinate of an axis copied onto another.
-pub mod RunByRun
-pub mod CopiedRims
-pub mod Steps
-pub mod LaneByLane
+-- Laws of an axis whose rims are copied.
 pub mod FewBlocks
 pub mod CopiedAxis

@@ -9,8 +9,8 @@ ghost use Rattle.pad_spec.specs.Fill.{modeAlong};
 ghost use Rattle.pad_spec.specs.Filled.{Fills};
 ghost use Rattle.pad_spec.specs.Frame.{Filling};
 ghost use Rattle.pad_spec.specs.Runs.{Runs, axisSet};
-use crate::rims::copy_rims;
 use border::CellBorder;
+use pad_copy_axis::copy_rims;
 
 // About how many cells of the grid are filled together: 32 kB.
 const NEAR_CELLS: usize = 4096;

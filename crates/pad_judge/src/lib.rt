@@ -1,13 +1,11 @@
 // Conditions 9 and 11 on the pads of a grid, and the judge of `pad` and `pad_to`: what both refuse, before anything
-// is stored. Condition 10 stands in count.rt.
+// is stored. Condition 10 stands in `pad_count`.
 ghost use mathlib.Core.Path.{_≡_};
 ghost use Rattle.numbers.specs.Refusal.{refusalOf};
 ghost use Rattle.pad_spec.specs.Conditions.{badConstant, badPadReachOn, badPadReach, padJudged};
 use pad_spec::Filler;
 use pad_spec::Pair;
 use pad_spec::pair_of;
-
-mod count;
 
 // Condition 9: whether mode carries a level that condition 3 would refuse.
 fn bad_constant(mode: border::PadMode) -> bool
@@ -80,7 +78,7 @@ pub fn judge(
     if bad_constant(mode) {
         return numbers::CONSTANT;
     }
-    if count::bad_pads(shape, pads, count, out) {
+    if pad_count::bad_pads(shape, pads, count, out) {
         return numbers::PADS;
     }
     if bad_reach(mode, shape, pads, count) {

@@ -1,4 +1,4 @@
-// What the padding modes fill the rims of a lane with, and condition 11 of a lane by padding's names. `pad_statistic`
+// What the padding modes fill the rims of a lane with, and condition 11 of a lane by padding's names. `pad_statistic_axis`
 // fills a lane with a statistic of its cells, in the grid itself.
 ghost use mathlib.Core.Path.{_≡_};
 ghost use mathlib.Core.List.{[]};

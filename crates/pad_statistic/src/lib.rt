@@ -1,8 +1,5 @@
-// The rims of a padded grid under the modes that take one level for a lane: Maximum, Mean, Median and Minimum.
+// The rims of a padded grid under a mode that takes a statistic, axis by axis.
 
-mod axis;
-mod level;
-mod place;
 mod rims;
 
-pub use axis::fill_axis;
+pub use rims::fill_levels;

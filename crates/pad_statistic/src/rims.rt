@@ -1,102 +1,75 @@
-// A lane padded in place by a statistic: its two rims are filled in the grid itself, with one level of its own cells.
+// The rims of a padded grid filled with a statistic of each lane, axis by axis in rising order.
 ghost use mathlib.Core.Path.{_≡_};
-ghost use mathlib.Core.Bool.{true, cond};
-ghost use Prim.Native.Nat.{_+_, _-_, _≤_};
-ghost use lib.IntN.{pos};
-ghost use lib.ListN.{length, take, drop};
+ghost use lib.ListN.{length};
 ghost use Rattle.numbers.specs.Limits.{longestPaddedAxis};
-ghost use Rattle.lanes.specs.Lanes.{lane, laneBase, laneInside, withLane};
-ghost use Rattle.border.specs.Border.{constant};
-ghost use Rattle.pad_line.specs.Line.{paddedLine};
-ghost use Rattle.pad_spec.specs.Fill.{laneServes, filledLane};
+ghost use Rattle.array_spec.specs.Grid.{cellCount};
+ghost use Rattle.pad_spec.specs.Fill.{modeTaking};
+ghost use Rattle.pad_spec.specs.Filled.{Fills};
+ghost use Rattle.pad_spec.specs.Frame.{Framed};
 use pad_spec::Statistic;
+use pad_statistic_axis::fill_axis;
 
-// A lane has at most 1,024 cells of its own and two pads of 64.
-const MOST_CELLS: usize = numbers::LONGEST_PADDED_AXIS;
-
-// Stores one level in both rims of lane `l`, which has `p` cells `s` apart from `base` on; its own are the n cells
-// from place left on.
-fn fill_level(
-    c: i64,
-    base: usize,
-    p: usize,
-    s: usize,
-    l: usize,
-    left: usize,
-    n: usize,
-    out: &mut [i64],
-)
-    requires { ⌜ (laneInside p s l (length (now out)) ≡ true) × (base ≡ laneBase p s l) × (left + n ≤ p) ⌝ }
-    ensures { λ _. ⌜ now (out .exit) ≡ withLane (pos 0) p s l
-        (paddedLine (pos 0) (constant c) left (p - (left + n))
-        (take n (drop left (lane (pos 0) p s l (now (out .entry)))))) (now (out .entry)) ⌝ }
-{
-    let mut k = 0;
-    while k < left {
-        let at = base + k * s;
-        out[at] = c;
-        k += 1;
-    }
-    let mut j = left + n;
-    while j < p {
-        let at = base + j * s;
-        out[at] = c;
-        j += 1;
-    }
-}
-
-// Whether the lane is inside the grid, and its own cells are some and lie in it.
-fn serves(base: usize, p: usize, s: usize, l: usize, count: usize, left: usize, n: usize) -> bool
-    requires { ⌜ base ≡ cond (laneInside p s l count) (laneBase p s l) count ⌝ }
-    ensures { λ r. ⌜ r ≡ laneServes p s l count left n ⌝ }
-{
-    if base == count {
-        return false;
-    }
-    if MOST_CELLS < p {
-        return false;
-    }
-    if n < 1 {
-        return false;
-    }
-    if p < n {
-        return false;
-    }
-    if p - n < left {
-        return false;
-    }
-    true
-}
-
-// Pads a lane of a grid in place: its own cells are extended to both ends of the lane by a level of them.
-//
-// * `statistic` - which level.
-// * `p`, `s` - the cells of the lane with both rims, and how many places apart they stand.
-// * `l` - the number of the lane, counted from 0 in stored order of the lanes' first cells.
-// * `left`, `n` - the place in the lane where its own cells start, and how many they are.
-// * `line` - a buffer of 1,152 cells, where the lane's cells stand apart, else of any length; what it holds affects
-//   nothing.
-// * `out` - the cells of the grid.
-//
-// Where the lane is not inside the grid or over 1,152 cells, or its own cells are none or pass its end, the grid stays.
-// The cells 9 1 2 3 9, a lane of 5 cells with 3 of its own from place 1 on, become 3 1 2 3 3 by Statistic::Maximum.
-pub(crate) fn fill_lane(
+// Fills every axis in rising order; the line is a buffer of 1,152 cells.
+fn fill_in(
     statistic: Statistic,
-    p: usize,
-    s: usize,
-    l: usize,
-    left: usize,
-    n: usize,
+    shape: &[usize],
+    lefts: &[usize],
+    padded: &[usize],
     line: &mut [i64],
     out: &mut [i64],
 )
-    requires { ⌜ ((s ≡ 1 → ⊥) → length (now line) ≡ longestPaddedAxis) ⌝ }
-    ensures { λ _. ⌜ now (out .exit) ≡ filledLane statistic p s l left n (now (out .entry)) ⌝ }
+    requires { ⌜ Framed (now shape) (now lefts) (now padded) × (length (now line) ≡ longestPaddedAxis)
+        × (length (now out) ≡ cellCount (now padded)) ⌝ }
+    ensures { λ _. ⌜ Fills (modeTaking statistic) (now (shape .entry)) (now (lefts .entry)) (now (padded .entry)) 0
+        (length (now (shape .entry))) (now (out .entry)) (now (out .exit)) ⌝ }
 {
-    let base = lanes::first_place(out.len(), p, s, l);
-    if !serves(base, p, s, l, out.len(), left, n) {
+    let mut axis = 0;
+    while axis < shape.len() {
+        fill_axis(statistic, shape, lefts, padded, axis, line, out);
+        axis += 1;
+    }
+}
+
+// Fills every axis of any grid; the line that lanes are read into is set to 0 once.
+fn fill_by_line(
+    statistic: Statistic,
+    shape: &[usize],
+    lefts: &[usize],
+    padded: &[usize],
+    out: &mut [i64],
+)
+    requires { ⌜ Framed (now shape) (now lefts) (now padded) × (length (now out) ≡ cellCount (now padded)) ⌝ }
+    ensures { λ _. ⌜ Fills (modeTaking statistic) (now (shape .entry)) (now (lefts .entry)) (now (padded .entry)) 0
+        (length (now (shape .entry))) (now (out .entry)) (now (out .exit)) ⌝ }
+{
+    let mut line = [0; numbers::LONGEST_PADDED_AXIS];
+    fill_in(statistic, shape, lefts, padded, &mut line, out);
+}
+
+// Fills every axis: where the middle held its levels, every place then does. The cells of a grid of one axis stand side
+// by side, and no lane is read into a line.
+//
+// * `statistic` - which level of a lane's own cells fills its rims.
+// * `shape` - the length of each axis of the grid in the middle.
+// * `lefts`, `padded` - the pad before each axis, and its padded length.
+// * `out` - the padded grid.
+//
+// Supposes `Framed`. Of 9 1 2 8 with 1 2 in the middle, by Statistic::Minimum: 1 1 2 1.
+pub fn fill_levels(
+    statistic: Statistic,
+    shape: &[usize],
+    lefts: &[usize],
+    padded: &[usize],
+    out: &mut [i64],
+)
+    requires { ⌜ Framed (now shape) (now lefts) (now padded) × (length (now out) ≡ cellCount (now padded)) ⌝ }
+    ensures { λ _. ⌜ Fills (modeTaking statistic) (now (shape .entry)) (now (lefts .entry)) (now (padded .entry)) 0
+        (length (now (shape .entry))) (now (out .entry)) (now (out .exit)) ⌝ }
+{
+    if shape.len() == 1 {
+        let mut none = [0; 0];
+        fill_axis(statistic, shape, lefts, padded, 0, &mut none, out);
         return;
     }
-    let c = crate::level::level_in(statistic, base, p, s, l, left, n, out, line);
-    fill_level(c, base, p, s, l, left, n, out);
+    fill_by_line(statistic, shape, lefts, padded, out);
 }

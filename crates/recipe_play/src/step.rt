@@ -2,7 +2,7 @@
 ghost use mathlib.Core.Path.{_≡_};
 ghost use lib.ListN.{length};
 ghost use Rattle.numbers.specs.Refusal.{refusalOf};
-ghost use Rattle.min_max.specs.Lane.{orderOf};
+ghost use Rattle.min_max_axis.specs.Lane.{orderOf};
 ghost use Rattle.recipe_spec.specs.Player.{stepMode, stepOrder, stepJudged, stepAnswer};
 ghost use Rattle.recipe_spec.specs.Before.{windowOfStep};
 use border::BorderMode;

@@ -15,7 +15,7 @@ pub fn median(line: &[i64]) -> i64
     if n == 0 {
         return 0;
     }
-    if crate::means::not_served(line) {
+    if statistics_mean::not_served(line) {
         return 0;
     }
     if n <= 128 {

@@ -157,8 +157,8 @@ fn median_in(line: &[i64], levels: &mut [i32]) -> i64
     ensures { λ r. ⌜ r ≡ medianOf (now (line .entry)) ⌝ }
 {
     narrow(line, levels);
-    let low = crate::extremes::minimum(line);
-    let high = crate::extremes::maximum(line);
+    let low = statistics_extremes::minimum(line);
+    let high = statistics_extremes::maximum(line);
     middle_level(levels, low, high)
 }
 

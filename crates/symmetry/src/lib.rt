@@ -5,8 +5,10 @@ ghost use Prim.Native.Nat.{_%_};
 ghost use lib.ListN.{length};
 ghost use lib.Ieee.{nan};
 ghost use lib.IntN.{pos};
+ghost use Rattle.direction.specs.Direction.{directed};
 ghost use Rattle.symmetry_spec.specs.declared.SymmetryState.the-variants.{NonSymmetric};
 ghost use Rattle.symmetry_spec.specs.Class.{exceeds, pairDiffers, differZ, differF, classZ, classF};
+use direction::weight_at_f64;
 use symmetry_spec::SymmetryState;
 
 // f64::EPSILON, which is 2^-52.
@@ -64,15 +66,23 @@ fn check_pairs_i64(weights: &[i64], turned: bool, state: SymmetryState) -> Symme
     found
 }
 
-// The same of floats.
-fn check_pairs_f64(weights: &[f64], turned: bool, state: SymmetryState) -> SymmetryState
+// The same of floats, of the weights as they are applied.
+fn check_pairs_f64(
+    weights: &[f64],
+    backward: bool,
+    turned: bool,
+    state: SymmetryState,
+) -> SymmetryState
     requires { ⌜ length (now weights) % 2 ≡ 1 ⌝ }
-    ensures { λ r. ⌜ r ≡ cond (pairDiffers (differF turned) nan (now (weights .entry))) NonSymmetric state ⌝ }
+    ensures { λ r. ⌜ r ≡ cond (pairDiffers (differF turned) nan (directed backward (now (weights .entry))))
+        NonSymmetric state ⌝ }
 {
     let middle = weights.len() / 2;
     let mut found = state;
     for i in 1..=middle {
-        if differ_f64(weights[middle + i], weights[middle - i], turned) {
+        let right = weight_at_f64(weights, backward, middle + i);
+        let left = weight_at_f64(weights, backward, middle - i);
+        if differ_f64(right, left, turned) {
             found = SymmetryState::NonSymmetric;
             break;
         }
@@ -99,20 +109,32 @@ pub fn symmetry_state_i64(weights: &[i64]) -> SymmetryState
     check_pairs_i64(weights, true, SymmetryState::AntiSymmetric)
 }
 
-// The symmetry class of float weights: a pair differs by more than 2^-52.
+// The symmetry class of float weights as they are applied: a pair differs by more than 2^-52.
 //
 // * `weights` - the kernel's weights along one axis, any number of them and any floats.
+// * `backward` - whether they are applied from the last to the first.
 //
-// An even number of weights is NonSymmetric, and a pair with a NaN does not differ. 0, 1, 2^-53 is Symmetric.
-pub fn symmetry_state_f64(weights: &[f64]) -> SymmetryState
-    ensures { λ r. ⌜ r ≡ classF (now (weights .entry)) ⌝ }
+// An even number of weights is NonSymmetric, and a pair with a NaN does not differ. 2 5 -2 is AntiSymmetric either way.
+pub fn directed_state_f64(weights: &[f64], backward: bool) -> SymmetryState
+    ensures { λ r. ⌜ r ≡ classF (directed backward (now (weights .entry))) ⌝ }
 {
     if weights.len() % 2 == 0 {
         return SymmetryState::NonSymmetric;
     }
-    let state = check_pairs_f64(weights, false, SymmetryState::Symmetric);
+    let state = check_pairs_f64(weights, backward, false, SymmetryState::Symmetric);
     let SymmetryState::NonSymmetric = state else {
         return state;
     };
-    check_pairs_f64(weights, true, SymmetryState::AntiSymmetric)
+    check_pairs_f64(weights, backward, true, SymmetryState::AntiSymmetric)
+}
+
+// The symmetry class of float weights in the caller's order.
+//
+// * `weights` - as for `directed_state_f64`.
+//
+// 0, 1, 2^-53 is Symmetric.
+pub fn symmetry_state_f64(weights: &[f64]) -> SymmetryState
+    ensures { λ r. ⌜ r ≡ classF (now (weights .entry)) ⌝ }
+{
+    directed_state_f64(weights, false)
 }

@@ -26,7 +26,7 @@ use Rattle.border.specs.Reach.{badPad}
 use Rattle.pad_line.specs.Lane.{AxisNeeds}
 use Rattle.window_spec.specs.Window.{badReach}
 use Rattle.uniform_spec.specs.Mean.{means}
-use Rattle.uniform.specs.MeanAxisNeeds.{MeanAxisNeeds}
+use Rattle.uniform_axis.specs.MeanAxisNeeds.{MeanAxisNeeds}
 use Rattle.uniform_spec.specs.Uniform.{paddedFor, uniform1d}
 use Rattle.uniform_spec.specs.Judge.{halfOver, badGridReach, uniform1dJudged, uniformJudged}
 use Rattle.uniform_spec.proofs.Sums.{levels-kept}

@@ -11,13 +11,9 @@ ghost use Rattle.uniform_spec.specs.Uniform.{uniform1d, uniform as uniformOf};
 ghost use Rattle.uniform_spec.specs.Judge.{uniform1dJudged, uniformJudged};
 ghost use Rattle.uniform.specs.PassNeeds.{PassNeeds};
 use border::BorderMode;
-
-mod judge;
-mod lane_loop;
-
-pub use judge::judge_along;
-pub use judge::judge_uniform;
-pub use judge::judge_uniform1d;
+pub use uniform_judge::judge_along;
+pub use uniform_judge::judge_uniform;
+pub use uniform_judge::judge_uniform1d;
 
 // Fills out with the means along the axis; `uniform_filter` makes one pass for each axis, and a recipe one for a step.
 //
@@ -38,7 +34,7 @@ pub fn pass(
 {
     let left = size / 2;
     let right = size - left - 1;
-    lane_loop::uniform_axis(mode, data, shape, axis, left, right, out);
+    uniform_axis::uniform_axis(mode, data, shape, axis, left, right, out);
 }
 
 // Fills out with the answer of an accepted grid call; second holds what a pass between leaves.
@@ -92,7 +88,7 @@ pub fn uniform_filter1d(
         (length (now (out .entry)))) (uniform1d (borderOf mode) size (now (shape .entry)) axis (now («data» .entry)))
         (now (out .entry)) r (now (out .exit)) ⌝ }
 {
-    let refusal = judge::judge_uniform1d(data, shape, size, axis, mode, out.len());
+    let refusal = uniform_judge::judge_uniform1d(data, shape, size, axis, mode, out.len());
     if refusal != 0 {
         return refusal;
     }
@@ -125,7 +121,7 @@ pub fn uniform_filter(
         (uniformOf (borderOf mode) size (now (shape .entry)) (now («data» .entry))) (now (out .entry))
         (now (second .entry) ∷ []) r (now (out .exit)) (now (second .exit) ∷ []) ⌝ }
 {
-    let refusal = judge::judge_uniform(data, shape, size, mode, out.len(), second.len());
+    let refusal = uniform_judge::judge_uniform(data, shape, size, mode, out.len(), second.len());
     if refusal != 0 {
         return refusal;
     }

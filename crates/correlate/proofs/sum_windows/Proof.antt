@@ -10,7 +10,8 @@ use Rattle.window_spec.specs.Origin.{originPads}
 use Rattle.window_spec.proofs.Answered.{not-refused, left-is, right-is}
 use Rattle.correlate_spec.specs.Kernel.{sidesOf, kernelAnswer}
 use Rattle.window_spec.specs.Window.{kernelLeft, kernelRight}
-use Rattle.correlate.proofs.Accepted.{padded-as, exchanged}
+use Rattle.correlate.proofs.Accepted.{padded-as}
+use Rattle.direction.specs.Direction.{directed}
 use borrow.Author.Needs.{needs}
 use Rattle.correlate.proofs.sum_windows.Statement.{statement}
 use Rattle.correlate.proofs.sum_windows.Tie as tie
@@ -43,8 +44,7 @@ enum-known-left c = search needs
 correlate-cells-requires : tie.Need-correlate-cells-requires
 correlate-cells-requires c κs =
     let s = c .before .before .before .before .before .before in
-    let K = padded-as (s .pre .1) (left-given (c .before .before)) (right-given (c .before .before)) in
-    search (K, exchanged K)
+    padded-as (s .pre .1) (left-given (c .before .before)) (right-given (c .before .before))
 
 returns : tie.Need-returns
 returns c =
@@ -57,7 +57,7 @@ same-length c = search needs
 returns-2 : tie.Need-returns-2
 returns-2 c =
     let a = c .before .before .before .before .before .before .before .before .args in
-    c .before .correlate-cells .ensures ∙ ap (λ (l : ℕ). kernelAnswer (borderOf (a .mode)) l (sidesOf (now (a .shape)) (a .side)) (now (a .weights)) (now (a .shape)) (now (a .«data»)))
+    c .before .correlate-cells .ensures ∙ ap (λ (l : ℕ). kernelAnswer (borderOf (a .mode)) l (sidesOf (now (a .shape)) (a .side)) (directed (a .backward) (now (a .weights))) (now (a .shape)) (now (a .«data»)))
     (left-given (c .before .before .before .before))
 
 pub sum-windows-spec : {M : Type 1} → statement M

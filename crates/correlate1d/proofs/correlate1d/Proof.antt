@@ -11,7 +11,7 @@ use Rattle.numbers.specs.Refusal.{refusalOf}
 use Rattle.numbers.proofs.Refusal.{answers-refused, answers-accepted}
 use Rattle.border.specs.Modes.{borderOf}
 use Rattle.correlate_spec.specs.Correlated.{correlate1dZ}
-use Rattle.correlate_judge.specs.Judge.{correlateJudged}
+use Rattle.correlate_judge_spec.specs.Judge.{correlateJudged}
 use borrow.Author.Needs.{needs}
 use Rattle.correlate1d.proofs.correlate1d.Statement.{statement}
 use Rattle.correlate1d.proofs.correlate1d.Tie as tie

@@ -12,7 +12,7 @@ use mir.Val.{toZ}
 use mir.ValLaws.{toZ-ofZ}
 use Rattle.numbers.specs.Lists.{tabulate}
 use Rattle.numbers.proofs.Stored.{Stored, front-none, front-more, front-all}
-use Rattle.correlate_spec.proofs.Reversed.{map-table}
+use Rattle.correlate_spec.proofs.Mapped.{map-table}
 use Rattle.correlate_spec.proofs.Computed.{computed-read}
 use Rattle.correlate1d.proofs.Stores.{scaled}
 use borrow.Author.Needs.{needs}

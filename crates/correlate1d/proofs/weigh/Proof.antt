@@ -58,7 +58,7 @@ returns-2 : tie.Need-returns-2
 returns-2 c =
     let s = c .before .before .before .before .before .before .before .before in
     let G = given (c .before .before .before .before) in
-    weighed-answer (s .pre .placed) (G .left) (G .right) wholeOps NonSymmetric (c .before .correlate-axis .ensures)
+    weighed-answer (s .pre .placed) (G .left) (G .right) wholeOps NonSymmetric (s .args .backward) (c .before .correlate-axis .ensures)
 
 pub weigh-spec : {M : Type 1} → statement M
 weigh-spec =

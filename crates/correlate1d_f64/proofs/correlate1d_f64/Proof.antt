@@ -11,7 +11,7 @@ use Rattle.numbers.specs.Refusal.{refusalOf}
 use Rattle.numbers.proofs.Refusal.{answers-refused, answers-accepted}
 use Rattle.border.specs.Modes.{borderOfF64}
 use Rattle.correlate_spec.specs.Correlated.{correlate1dF}
-use Rattle.correlate_judge.specs.Judge.{correlateJudgedF}
+use Rattle.correlate_judge_spec.specs.Judge.{correlateJudgedF}
 use borrow.Author.Needs.{needs}
 use Rattle.correlate1d_f64.proofs.correlate1d_f64.Statement.{statement}
 use Rattle.correlate1d_f64.proofs.correlate1d_f64.Tie as tie

@@ -9,7 +9,7 @@ use lib.ListN.{length, getD}
 use denote.Ref.{now}
 use Rattle.numbers.specs.Lists.{tabulate}
 use Rattle.numbers.proofs.Stored.{Stored, front-none, front-more, front-all}
-use Rattle.correlate_spec.proofs.Reversed.{map-table}
+use Rattle.correlate_spec.proofs.Mapped.{map-table}
 use borrow.Author.Needs.{needs}
 use Rattle.correlate1d_f64.proofs.scale.Statement.{statement}
 use Rattle.correlate1d_f64.proofs.scale.Tie as tie

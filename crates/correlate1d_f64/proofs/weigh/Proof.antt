@@ -8,6 +8,7 @@ use lib.ListN.{length}
 use mir.Syntax.{w64}
 use mir.Val.{toZ, ofZ}
 use Rattle.window_spec.specs.Origin.{originPads}
+use Rattle.direction.specs.Direction.{directed}
 use Rattle.window_spec.proofs.Reach.{PadsAre, origin-refused, pads-are}
 use Rattle.symmetry_spec.specs.Class.{classF}
 use Rattle.symmetry_spec.specs.declared.SymmetryState.{SymmetryState}
@@ -44,8 +45,8 @@ enum-told c = search needs
 enum-known-left : tie.Need-enum-known-left
 enum-known-left c = search needs
 
-symmetry-state-f64-requires : tie.Need-symmetry-state-f64-requires
-symmetry-state-f64-requires c κs = search needs
+directed-state-f64-requires : tie.Need-directed-state-f64-requires
+directed-state-f64-requires c κs = search needs
 
 correlate-axis-f64-requires : tie.Need-correlate-axis-f64-requires
 correlate-axis-f64-requires c κs =
@@ -65,10 +66,10 @@ returns-2 : tie.Need-returns-2
 returns-2 c =
     let s = c .before .before .before .before .before .before .before .before .before .before .before .before .before in
     let G = given (c .before .before .before .before .before .before) in
-    weighed-answer (s .pre) (G .left) (G .right) floatOps (classF (now (s .args .weights))) (c .before .before .correlate-axis-f64 .ensures
+    weighed-answer (s .pre) (G .left) (G .right) floatOps (classF (directed (s .args .backward) (now (s .args .weights)))) (s .args .backward) (c .before .before .correlate-axis-f64 .ensures
     ∙ ap (λ (k : SymmetryState). alongAxis nan (correlatedLine floatOps k (borderOfF64 (s .args .mode)) (c .before .before .before .before .before .before .left .given .0 .0)
-    (c .before .before .before .before .before .before .left .given .0 .1 .0) (now (s .args .weights))) (now (s .args .shape)) (s .args .axis) (now (s .args .«data»)))
-    (c .before .before .before .before .symmetry-state-f64 .ensures))
+    (c .before .before .before .before .before .before .left .given .0 .1 .0) (directed (s .args .backward) (now (s .args .weights)))) (now (s .args .shape)) (s .args .axis) (now (s .args .«data»)))
+    (c .before .before .before .before .directed-state-f64 .ensures))
 
 pub weigh-spec : {M : Type 1} → statement M
 weigh-spec =
@@ -77,7 +78,7 @@ weigh-spec =
     origin-check-requires
     enum-told
     enum-known-left
-    symmetry-state-f64-requires
+    directed-state-f64-requires
     correlate-axis-f64-requires
     returns
     same-length

@@ -1,18 +1,34 @@
 -- `rows` meets its contract: every row holds by computing.
 -- Assumes nothing.
 use mathlib.Core.Path.{refl}
-use Rattle.numbers.specs.Lists.{tabulate}
-use Rattle.array_spec.specs.Grid.{placeOf, coordinate}
-use Rattle.border.specs.Border.{cellFor, allInside, extendedGrid}
-use Rattle.correlate_spec.specs.Weighed.{summed}
-use Rattle.correlate_grid.specs.Axes.{sourceFor}
-use Rattle.correlate_grid.specs.ByRows.{rowSum, rowsTo}
+use mathlib.Core.Bool.{true≢false}
+use native.Mathlib.Omega.{arith}
+use Rattle.array_spec.specs.Conditions.{badShape, badLevel}
 use Rattle.correlate_grid.proofs.rows.Statement.{statement}
 use Rattle.correlate_grid.proofs.rows.Tie as tie
 
 returns : tie.Need-returns
-unfolding tabulate placeOf coordinate cellFor allInside extendedGrid summed sourceFor rowSum rowsTo
-returns c = record { sources = refl; no-source = refl; by-rows = refl }
+unfolding badShape badLevel
+returns c = record {
+  called = record {
+    shape = refl;
+    count = refl;
+    same = refl;
+    some = omega arith;
+    narrow = omega arith;
+    many = refl;
+    wide = omega arith;
+    pads = omega arith;
+    fills-left = λ a h. refl;
+    fills-right = λ a h. refl;
+    weights = refl;
+    level = refl;
+    levels = refl;
+  };
+  called-few = λ K. omega (arith, K .many);
+  called-heavy = λ K. true≢false (K .weights);
+  called-wide = λ w K. omega (arith, K .wide);
+}
 
 pub rows-spec : {M : Type 1} → statement M
 rows-spec = tie.close (tie.spec returns)

@@ -10,9 +10,9 @@ use Rattle.numbers.specs.Refusal.{Judged}
 use Rattle.array_spec.specs.Conditions.{badLevel}
 use Rattle.array_spec.proofs.Judged.{grid-refused, grid-ends}
 use Rattle.border.specs.Modes.{borderOf}
-use Rattle.correlate_judge.specs.Judge.{badWeight, weightsJudged, placeJudged, badCorrelateSums, correlateJudged}
-use Rattle.correlate_judge.proofs.Sums.{no-bad-sums}
-use Rattle.correlate_judge.proofs.Chain.{weighed}
+use Rattle.correlate_judge_spec.specs.Judge.{badWeight, weightsJudged, placeJudged, badCorrelateSums, correlateJudged}
+use Rattle.correlate_judge_spec.proofs.Sums.{no-bad-sums}
+use Rattle.correlate_judge_spec.proofs.Chain.{weighed}
 use borrow.Author.Needs.{needs}
 use Rattle.correlate_judge.proofs.judge_correlate.Statement.{statement}
 use Rattle.correlate_judge.proofs.judge_correlate.Tie as tie

@@ -12,8 +12,8 @@ use Rattle.array_spec.proofs.Judged.{grid-refused, grid-accepted}
 use Rattle.border.specs.Modes.{borderOf, borderOfF64}
 use Rattle.border.specs.declared.BorderMode.{BorderMode}
 use Rattle.border.specs.Reach.{badPad}
-use Rattle.correlate_judge.specs.Judge.{correlateJudgedF}
-use Rattle.correlate_judge.proofs.Chain.{SamePads, kind-pads, weighed}
+use Rattle.correlate_judge_spec.specs.Judge.{correlateJudgedF}
+use Rattle.correlate_judge_spec.proofs.Chain.{SamePads, kind-pads, weighed}
 use borrow.Author.Needs.{needs}
 use Rattle.correlate_judge.proofs.judge_correlate_f64.Statement.{statement}
 use Rattle.correlate_judge.proofs.judge_correlate_f64.Tie as tie

@@ -30,7 +30,9 @@ same-length-4 : tie.Need-same-length-4
 same-length-4 c = search needs
 
 returns-2 : tie.Need-returns-2
-returns-2 c = zero-added (c .before .before .before .before .before .before .before .before .pre .0) (c .before .before .before .before .before .fill .ensures) (c .before .add-line .ensures)
+returns-2 c =
+    let s = c .before .before .before .before .before .before .before .before in
+    zero-added (s .pre .0) (c .before .before .before .before .before .fill .ensures) (s .args .backward) (c .before .add-line .ensures)
 
 pub correlate-line-spec : {M : Type 1} → statement M
 correlate-line-spec =

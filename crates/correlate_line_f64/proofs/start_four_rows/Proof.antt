@@ -5,6 +5,7 @@ use Prim.Native.Nat.{_-_}
 use native.Mathlib.Omega.{arith}
 use denote.Ref.{now}
 use lib.Ieee.{nan, ofBits}
+use Rattle.direction.specs.Direction.{directed}
 use Rattle.correlate_spec.specs.Weighed.{floatOps, plainTo}
 use Rattle.correlate_spec.proofs.Along.{Pass, pass-none, pass-more, pass-all}
 use Rattle.correlate_line_f64.proofs.Turns.{plain-first, four-terms}
@@ -13,19 +14,20 @@ use Rattle.correlate_line_f64.proofs.start_four_rows.Statement.{stateme
 use Rattle.correlate_line_f64.proofs.start_four_rows.Tie as tie
 
 abbrev Inv-loop : tie.InvT-loop
-Inv-loop weights line out₀ four n i₀ out i = Pass nan (plainTo floatOps weights line 4) out₀ n i out
+Inv-loop weights backward line out₀ four n i₀ out i = Pass nan (plainTo floatOps (directed backward weights) line 4) out₀ n i out
 
 abbrev μ-loop : tie.MeasureT-loop
-μ-loop weights line out₀ four n i₀ out i = n - i
+μ-loop weights backward line out₀ four n i₀ out i = n - i
 
 loop-again : tie.Need-loop-again Inv-loop μ-loop
 unfolding ofBits
 loop-again c =
     let a = c .before .before .before .before .before .before .before .args in
     let l = c .before .before .loop in
+    let w = directed (a .backward) (now (a .weights)) in
     pass-more (l .inv) (c .before .loop-test .taken) (c .four-more .ensures
-    ∙ four-terms (now (a .weights)) (now (a .line)) (l .i) 0 (l .i) (floatOps .none) (omega arith) (c .before .before .before .four-weights .ensures)
-    ∙ plain-first (now (a .weights)) (now (a .line)) (l .i) 4)
+    ∙ four-terms w (now (a .line)) (l .i) 0 (l .i) (floatOps .none) (omega arith) (c .before .before .before .four-weights .ensures)
+    ∙ plain-first w (now (a .line)) (l .i) 4)
 
 pub start-four-rows-spec : {M : Type 1} → statement M
 start-four-rows-spec =

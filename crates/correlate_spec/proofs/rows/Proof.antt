@@ -11,13 +11,14 @@ use Rattle.pad_line.specs.Line.{paddedAt, paddedLine}
 use Rattle.symmetry_spec.specs.Class.{someDiffers, exceeds}
 use Rattle.correlate_spec.specs.Weighed.{summed}
 use Rattle.correlate_spec.specs.Correlated.{correlatedBy}
-use Rattle.correlate_spec.specs.Kernel.{kernelSum, kernelAnswer}
+use Rattle.correlate_spec.specs.Convolved.{convolvedAt, convolvedBy}
+use Rattle.correlate_spec.specs.Kernel.{kernelSum, kernelAnswer, convolvedSum}
 use Rattle.correlate_spec.proofs.rows.Statement.{statement}
 use Rattle.correlate_spec.proofs.rows.Tie as tie
 
 returns : tie.Need-returns
-unfolding tabulate windowOf summed add mul alongAxis laneAt paddedAt paddedLine extendedLane cellFor correlatedBy someDiffers exceeds sub lt placeOf coordinate allInside extendedGrid kernelSum
-    kernelAnswer
+unfolding tabulate windowOf summed add mul alongAxis laneAt paddedAt paddedLine extendedLane cellFor correlatedBy convolvedAt convolvedBy someDiffers exceeds sub lt placeOf coordinate allInside extendedGrid kernelSum
+    kernelAnswer convolvedSum
 returns c = record {
   padded = refl;
   window-sums = refl;
@@ -27,6 +28,7 @@ returns c = record {
   t3 = refl;
   moved = refl;
   one-weight = refl;
+  met = refl;
   box-correlated = refl;
   box-convolved = refl;
   odds-correlated = refl;

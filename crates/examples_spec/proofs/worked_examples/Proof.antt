@@ -1,4 +1,4 @@
--- `worked_examples` meets its contract: every example holds by computing, T9 of every mask by one sum; the rule is that of `sweeps`.
+-- `worked_examples` meets its contract: every example holds by computing, T9 of every mask by one sum; the rules are those of the crates below.
 -- Assumes nothing.
 use Prim.Native.Nat.{ℕ, _+_}
 use mathlib.Core.Path.{_≡_, refl, ap}
@@ -22,7 +22,8 @@ use Rattle.min_max_spec.specs.Call.{firstIn, lastIn, numberOf, gridNumber}
 use Rattle.min_max_spec.specs.Run.{answerOf, after, run}
 use Rattle.correlate_spec.specs.Weighed.{summed}
 use Rattle.correlate_spec.specs.Correlated.{correlatedBy}
-use Rattle.correlate_spec.specs.Kernel.{kernelSum, kernelAnswer}
+use Rattle.correlate_spec.specs.Convolved.{convolvedAt, convolvedBy}
+use Rattle.correlate_spec.specs.Kernel.{kernelSum, kernelAnswer, convolvedSum}
 use Rattle.gradient_spec.specs.Gradient.{gradientTo}
 use Rattle.median_spec.specs.Around.{one, cellsAround, trueAround, medianAnswer}
 use Rattle.examples_spec.specs.Examples.{WorkedExamples}
@@ -41,14 +42,18 @@ eight a b c d e f g h = ap (λ n. replicate 8 (ltb 3 n)) (together (one a) (one 
 
 examples : WorkedExamples
 unfolding tabulate windowOf badShape gridCount badLevel placeOf coordinate laneAt alongAxis cellFor extendedLane allInside extendedGrid badOrigin paddedAt paddedLine inserted sorted medianOf levelTo
-    paddedGrid firstIn lastIn numberOf gridNumber answerOf after run summed correlatedBy kernelSum kernelAnswer gradientTo
+    paddedGrid firstIn lastIn numberOf gridNumber answerOf after run summed correlatedBy convolvedAt convolvedBy kernelSum kernelAnswer convolvedSum
+    gradientTo
 examples = record { t1 = refl; t2 = refl; t3 = refl; t4 = refl; t5 = refl; t6 = refl; t7 = refl; t8 = refl; t9 = eight; t10 = refl }
 
 order-of-axes-requires : tie.Need-order-of-axes-requires
 order-of-axes-requires c κs = search needs
 
+convolution-is-correlation-requires : tie.Need-convolution-is-correlation-requires
+convolution-is-correlation-requires c κs = search needs
+
 returns : tie.Need-returns
-returns c = (examples, c .order-of-axes .ensures)
+returns c = (examples, c .before .order-of-axes .ensures, c .convolution-is-correlation .ensures)
 
 pub worked-examples-spec : {M : Type 1} → statement M
-worked-examples-spec = tie.close (tie.spec order-of-axes-requires returns)
+worked-examples-spec = tie.close (tie.spec order-of-axes-requires convolution-is-correlation-requires returns)

@@ -1,30 +1,21 @@
 -- `rows` meets its contract: every row holds by computing.
 -- Assumes nothing.
 use mathlib.Core.Path.{refl}
-use native.Mathlib.Omega.{arith}
 use Rattle.numbers.specs.Lists.{tabulate}
 use Rattle.array_spec.specs.Grid.{placeOf, coordinate}
 use Rattle.border.specs.Border.{cellFor, extendedLane}
 use Rattle.pad_line.specs.Line.{paddedAt}
 use Rattle.pad_spec.specs.Levels.{levelTo}
-use Rattle.pad.specs.Around.{gapSet, aroundSet}
 use Rattle.pad.specs.Laid.{laid}
 use Rattle.pad.proofs.rows.Statement.{statement}
 use Rattle.pad.proofs.rows.Tie as tie
 
 returns : tie.Need-returns
-unfolding tabulate placeOf coordinate cellFor extendedLane paddedAt levelTo laid gapSet aroundSet
+unfolding tabulate placeOf coordinate cellFor extendedLane paddedAt levelTo laid
 returns c = record {
   laid-constant = refl;
   laid-edge = refl;
   laid-maximum = refl;
-  first-row = record { place = λ h. refl; offset = λ e. absurd (omega arith) };
-  second-row = record { place = λ h. refl; offset = λ e. absurd (omega arith) };
-  third-axis = λ t r. (r .place (omega arith), r .offset refl);
-  gap = refl;
-  gap-none = refl;
-  around = refl;
-  around-rows = refl;
 }
 
 pub rows-spec : {M : Type 1} → statement M

@@ -1,14 +1,25 @@
--- `rows` meets its contract: the rows of each part.
+-- `rows` meets its contract: every row holds by computing.
 -- Assumes nothing.
-use Rattle.uniform.proofs.LaneRows.{lane-rows}
-use Rattle.uniform.proofs.CallRows.{call-rows}
+use mathlib.Core.Path.{refl}
+use Rattle.numbers.specs.Lists.{tabulate}
+use Rattle.numbers.specs.Windows.{windowOf}
+use Rattle.array_spec.specs.Grid.{placeOf, coordinate}
+use Rattle.array_spec.specs.Conditions.{badShape, gridCount, badLevel}
+use Rattle.lanes.specs.Lanes.{laneAt, alongAxis}
+use Rattle.border.specs.Border.{cellFor, extendedLane}
+use Rattle.pad_line.specs.Line.{paddedAt, paddedLine}
 use Rattle.uniform.proofs.rows.Statement.{statement}
 use Rattle.uniform.proofs.rows.Tie as tie
 
 returns : tie.Need-returns
+unfolding badShape gridCount badLevel tabulate windowOf laneAt alongAxis cellFor extendedLane paddedAt paddedLine placeOf coordinate
 returns c = record {
-  lanes = lane-rows;
-  calls = call-rows;
+  t6-line = refl;
+  t6-grid = refl;
+  even = refl;
+  both = refl;
+  half-over = refl;
+  half-along = refl;
 }
 
 pub rows-spec : {M : Type 1} → statement M

@@ -6,9 +6,11 @@ use native.Mathlib.Nat.{add-mul}
 use native.Mathlib.Omega.{arith}
 use Rattle.lanes.proofs.Cells.{step-le}
 use Rattle.border.specs.Modes.{borderOf}
-use Rattle.correlate_grid.specs.ByRows.{RowSumNeeds}
-use Rattle.correlate_grid.proofs.KernelRow.{rows-few, kernel-few}
-use Rattle.correlate_grid.proofs.Sources.{place-in, table-held}
+use Rattle.direction.specs.Direction.{directed}
+use Rattle.correlate_grid_row.specs.ByRows.{RowSumNeeds}
+use Rattle.correlate_grid.proofs.Directed.{mapped-directed}
+use Rattle.correlate_grid_row.proofs.KernelRow.{rows-few, kernel-few}
+use Rattle.correlate_grid_axes.proofs.Sources.{place-in, table-held}
 use Rattle.correlate_grid.proofs.Turn.{kernel-in, reading, summing-more}
 use Rattle.correlate_grid.proofs.EveryRow.{summing-start, summing-length, summing-to}
 use borrow.Author.Needs.{needs}
@@ -16,11 +18,12 @@ use Rattle.correlate_grid.proofs.cells.add_kernel_plane.Statement.{stat
 use Rattle.correlate_grid.proofs.cells.add_kernel_plane.Tie as tie
 
 abbrev Inv-loop : tie.InvT-loop
-Inv-loop «data» weights mode axes first second p s i line₀ out₀ plane per none side q j₀ line out j =
-    (j ≤ axes .rows .side) × RowSumNeeds (borderOf mode) (axes .planes) (axes .rows) (axes .cells) weights «data» (p * axes .rows .len + s) (i * axes .rows .side + j) line out
+Inv-loop «data» weights backward mode axes first second p s i line₀ out₀ plane per none side q j₀ line out j =
+    (j ≤ axes .rows .side)
+    × RowSumNeeds (borderOf mode) (axes .planes) (axes .rows) (axes .cells) (directed backward weights) «data» (p * axes .rows .len + s) (i * axes .rows .side + j) line out
 
 abbrev μ-loop : tie.MeasureT-loop
-μ-loop «data» weights mode axes first second p s i line₀ out₀ plane per none side q j₀ line out j =
+μ-loop «data» weights backward mode axes first second p s i line₀ out₀ plane per none side q j₀ line out j =
     axes .rows .side - j
 
 add-plane : tie.Need-add-plane Inv-loop μ-loop
@@ -66,8 +69,11 @@ add-add-kernel-row c = let s = c .before .before .before .before .before .before
 
 add-kernel-row-requires : tie.Need-add-kernel-row-requires Inv-loop μ-loop
 add-kernel-row-requires c κs = let s = c .before .before .before .before .before .before .before .before in
-    let h : c .before .before .before .before .before .loop .j < s .args .axes .rows .side = search needs in
-    (s .pre .0 .laid, reading (s .pre .0) (s .pre .1) (s .pre .2) (s .pre .3) h (c .before .before .row-for .ensures) (c .before .before .before .before .before .loop .inv .1))
+    let h : c .before .before .before .before .before .loop .j < s .args .axes .rows .side = search needs in (
+      s .pre .0 .laid,
+      reading (mapped-directed (s .args .backward) (s .pre .0)) (s .pre .1) (s .pre .2) (s .pre .3) h (c .before .before .row-for .ensures)
+          (c .before .before .before .before .before .loop .inv .1),
+    )
 
 add-j : tie.Need-add-j Inv-loop μ-loop
 add-j c = search needs
@@ -80,8 +86,8 @@ loop-again c = let s = c .before .before .before .before .before .before .before
     let h : c .before .before .before .before .before .before .before .before .loop .j < s .args .axes .rows .side = search needs in
     let k = c .before .before .add-kernel-row in (
       search needs,
-      summing-more (s .pre .0) (s .pre .1) (s .pre .2) (s .pre .3) h (c .before .before .before .before .before .row-for .ensures)
-          (c .before .before .before .before .before .before .before .before .loop .inv .1) (k .kept .1 .1 .1 .1 .1 .1 .0) (k .ensures),
+      summing-more (mapped-directed (s .args .backward) (s .pre .0)) (s .pre .1) (s .pre .2) (s .pre .3) h (c .before .before .before .before .before .row-for .ensures)
+          (c .before .before .before .before .before .before .before .before .loop .inv .1) (k .kept .1 .1 .1 .1 .1 .1 .1 .0) (k .ensures),
     )
 
 same-length : tie.Need-same-length Inv-loop μ-loop

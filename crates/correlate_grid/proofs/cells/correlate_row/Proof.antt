@@ -5,18 +5,20 @@ use Prim.Native.Nat.{ℕ, _+_, _-_, _*_, _≤_}
 use native.Mathlib.Omega.{arith}
 use denote.Ref.{now}
 use Rattle.border.specs.Modes.{borderOf}
-use Rattle.correlate_grid.specs.ByRows.{RowSumNeeds}
+use Rattle.direction.specs.Direction.{directed}
+use Rattle.correlate_grid_row.specs.ByRows.{RowSumNeeds}
 use Rattle.correlate_grid.proofs.EveryRow.{summing-none, summing-length, summing-to}
 use borrow.Author.Needs.{needs}
 use Rattle.correlate_grid.proofs.cells.correlate_row.Statement.{statement}
 use Rattle.correlate_grid.proofs.cells.correlate_row.Tie as tie
 
 abbrev Inv-loop : tie.InvT-loop
-Inv-loop «data» weights mode axes first second p s line₀ out₀ count i₀ line out i =
-    (i ≤ axes .planes .side) × RowSumNeeds (borderOf mode) (axes .planes) (axes .rows) (axes .cells) weights «data» (p * axes .rows .len + s) (i * axes .rows .side) line out
+Inv-loop «data» weights backward mode axes first second p s line₀ out₀ count i₀ line out i =
+    (i ≤ axes .planes .side)
+    × RowSumNeeds (borderOf mode) (axes .planes) (axes .rows) (axes .cells) (directed backward weights) «data» (p * axes .rows .len + s) (i * axes .rows .side) line out
 
 abbrev μ-loop : tie.MeasureT-loop
-μ-loop «data» weights mode axes first second p s line₀ out₀ count i₀ line out i =
+μ-loop «data» weights backward mode axes first second p s line₀ out₀ count i₀ line out i =
     axes .planes .side - i
 
 fill-requires : tie.Need-fill-requires Inv-loop μ-loop
@@ -36,7 +38,7 @@ loop-less c = search needs
 
 loop-again : tie.Need-loop-again Inv-loop μ-loop
 loop-again c = let k = c .before .before .add-kernel-plane in
-    (search needs, record { line-long = k .kept .1 .1 .1 .1 .1 .1 .1 .1 .1 .0 ∙ c .before .before .before .before .before .before .loop .inv .1 .line-long; sums = k .ensures })
+    (search needs, record { line-long = k .kept .1 .1 .1 .1 .1 .1 .1 .1 .1 .1 .0 ∙ c .before .before .before .before .before .before .loop .inv .1 .line-long; sums = k .ensures })
 
 same-length : tie.Need-same-length Inv-loop μ-loop
 same-length c = c .before .loop .inv .1 .line-long ∙ sym (c .before .before .before .before .before .pre .3)

@@ -5,18 +5,19 @@ use Prim.Native.Nat.{_-_, _*_, _<_}
 use native.Mathlib.Nat.{mod-lt, div-lt-iff-lt-mul}
 use native.Mathlib.Omega.{arith}
 use Rattle.border.specs.Modes.{borderOf}
+use Rattle.direction.specs.Direction.{directed}
 use Rattle.correlate_grid.proofs.EveryRow.{Storing, storing-none, row-room, part-long, storing-more, storing-all}
-use Rattle.correlate_grid.proofs.KernelRow.{rows-few}
+use Rattle.correlate_grid_row.proofs.KernelRow.{rows-few}
 use borrow.Author.Needs.{needs}
 use Rattle.correlate_grid.proofs.cells.correlate_rows.Statement.{statement}
 use Rattle.correlate_grid.proofs.cells.correlate_rows.Tie as tie
 
 abbrev Inv-loop : tie.InvT-loop
-Inv-loop «data» weights mode axes first second line₀ out₀ per count n r₀ line out r =
-    Storing (borderOf mode) (axes .planes) (axes .rows) (axes .cells) weights «data» r line out
+Inv-loop «data» weights backward mode axes first second line₀ out₀ per count n r₀ line out r =
+    Storing (borderOf mode) (axes .planes) (axes .rows) (axes .cells) (directed backward weights) «data» r line out
 
 abbrev μ-loop : tie.MeasureT-loop
-μ-loop «data» weights mode axes first second line₀ out₀ per count n r₀ line out r =
+μ-loop «data» weights backward mode axes first second line₀ out₀ per count n r₀ line out r =
     axes .planes .len * axes .rows .len - r
 
 mul-count : tie.Need-mul-count Inv-loop μ-loop
@@ -66,7 +67,7 @@ loop-less c = search needs
 loop-again : tie.Need-loop-again Inv-loop μ-loop
 loop-again c = let s = c .before .before .before .before .before .before .before .before in
     let k = c .before .before .correlate-row in
-    storing-more (s .pre .0 .laid) (c .before .before .before .before .before .before .loop .inv) (search needs) (k .kept .1 .1 .1 .1 .1 .1 .1 .1 .0) (k .ensures) refl
+    storing-more (s .pre .0 .laid) (c .before .before .before .before .before .before .loop .inv) (search needs) (k .kept .1 .1 .1 .1 .1 .1 .1 .1 .1 .0) (k .ensures) refl
 
 same-length : tie.Need-same-length Inv-loop μ-loop
 same-length c = c .before .loop .inv .line-long ∙ sym (c .before .before .before .pre .1)

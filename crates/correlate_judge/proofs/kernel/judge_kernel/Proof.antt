@@ -11,8 +11,8 @@ use Rattle.numbers.specs.Refusal.{Judged, refusalOf}
 use Rattle.array_spec.specs.Conditions.{badLevel}
 use Rattle.array_spec.proofs.Judged.{grid-passed, grid-refused, grid-ends}
 use Rattle.border.specs.Modes.{borderOf}
-use Rattle.correlate_judge.specs.KernelJudge.{kernelPlaced, badKernelSums, kernelJudged}
-use Rattle.correlate_judge.proofs.KernelChain.{no-bad-sums}
+use Rattle.correlate_judge_spec.specs.KernelJudge.{kernelPlaced, badKernelSums, kernelJudged}
+use Rattle.correlate_judge_spec.proofs.KernelChain.{no-bad-sums}
 use borrow.Author.Needs.{needs}
 use Rattle.correlate_judge.proofs.kernel.judge_kernel.Statement.{statement}
 use Rattle.correlate_judge.proofs.kernel.judge_kernel.Tie as tie

@@ -12,9 +12,9 @@ use Rattle.array_spec.specs.Conditions.{badLevel}
 use Rattle.border.specs.Modes.{borderOf, badConstantBy}
 use Rattle.window_spec.specs.Origin.{badOrigin}
 use Rattle.correlate_spec.specs.Kernel.{sideOf}
-use Rattle.correlate_judge.specs.Judge.{badWeight}
+use Rattle.correlate_judge_spec.specs.Judge.{badWeight}
 use Rattle.window_spec.specs.Window.{appliedOrigin, badKernelReach}
-use Rattle.correlate_judge.specs.KernelJudge.{badKernel}
+use Rattle.correlate_judge_spec.specs.KernelJudge.{badKernel}
 use borrow.Author.Needs.{needs}
 use Rattle.correlate_judge.proofs.kernel.judge_placed.Statement.{statement}
 use Rattle.correlate_judge.proofs.kernel.judge_placed.Tie as tie

@@ -94,7 +94,7 @@ weigh-requires-6 c κs =
     let s = c .before .before .before .before .before .before .before .before .before .before .before .before .before .before .before in
     let B = between-pass (taken s) (record { three = refl; small = refl }) (between-input (taken s)) _ (c .before .before .before .before .before .before .before .weigh4 .ensures) in
     weighs-pass (taken s) (s .pre .0) (between-pass (taken s) (s .pre .0) B _ (c .before .before .before .weigh5 .ensures)) (omega arith)
-    (c .before .before .before .before .before .before .before .weigh4 .kept .1 .1 .1 .1 .1 .1 .0 ∙ taken s .grid .lengths .0)
+    (c .before .before .before .before .before .before .before .weigh4 .kept .1 .1 .1 .1 .1 .1 .1 .0 ∙ taken s .grid .lengths .0)
     (omega (
       arith,
       c .before .before .before .before .before .before .before .before .before .before .last-other .ensures,

@@ -3,7 +3,7 @@
 use mathlib.Core.Path.{refl, sym, _∙_}
 use borrow.Author.Needs.{needs}
 use Rattle.grid_text_spec.specs.Machine.{byteFed, stateAfter}
-use Rattle.grid_text.proofs.Digit.{plain-is, plain-gap}
+use Rattle.grid_text_word.proofs.Digit.{plain-is, plain-gap}
 use Rattle.grid_text.proofs.machine.step.Statement.{statement}
 use Rattle.grid_text.proofs.machine.step.Tie as tie
 

@@ -11,7 +11,7 @@ use Prim.Native.Nat.{ℕ}
 use Rattle.numbers.specs.Refusal.{refusalOf}
 use Rattle.numbers.proofs.Refusal.{scratch-refused, scratch-accepted}
 use Rattle.min_max_judge.specs.Judge.{callOf, filterJudged}
-use Rattle.min_max.specs.Lane.{orderOf}
+use Rattle.min_max_axis.specs.Lane.{orderOf}
 use Rattle.min_max_spec.specs.Filters.{filterAnswer}
 use borrow.Author.Needs.{needs}
 use Rattle.min_max.proofs.every_axis.filter.Statement.{statement}

@@ -11,7 +11,7 @@ use lib.ListN.{length}
 use Rattle.numbers.specs.Refusal.{refusalOf}
 use Rattle.array_spec.proofs.Judged.{axes-three}
 use Rattle.min_max_judge.specs.Judge.{callOf, filterJudged}
-use Rattle.min_max.specs.Lane.{orderOf}
+use Rattle.min_max_axis.specs.Lane.{orderOf}
 use Rattle.min_max_spec.specs.Filters.{filterAnswer}
 use Rattle.min_max.proofs.EveryAxis.{Filtered, filtered, between-input, pass-accepted, between-pass, one-pass, two-passes, three-passes}
 use Rattle.min_max.proofs.every_axis.passes.Statement.{statement}

@@ -10,7 +10,7 @@ use Rattle.numbers.proofs.Refusal.{answers-refused, answers-accepted}
 use Rattle.min_max_spec.specs.Run.{answerOf}
 use Rattle.min_max_spec.specs.Call.{callJudged, numberOf}
 use Rattle.min_max_judge.specs.Judge.{callOf}
-use Rattle.min_max.specs.Lane.{orderOf}
+use Rattle.min_max_axis.specs.Lane.{orderOf}
 use borrow.Author.Needs.{needs}
 use Rattle.min_max.proofs.one_axis.filter1d.Statement.{statement}
 use Rattle.min_max.proofs.one_axis.filter1d.Tie as tie

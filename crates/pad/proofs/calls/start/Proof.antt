@@ -3,7 +3,7 @@
 use mathlib.Core.Path.{refl, ap, _∙_}
 use denote.Ref.{now}
 use Rattle.numbers.proofs.Read.{read}
-use Rattle.pad.specs.Around.{aroundSet}
+use Rattle.pad_middle.specs.Around.{aroundSet}
 use Rattle.pad.proofs.Started.{none-started, constant-started}
 use borrow.Author.Needs.{needs}
 use Rattle.pad.proofs.calls.start.Statement.{statement}

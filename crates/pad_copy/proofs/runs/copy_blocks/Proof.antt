@@ -4,7 +4,7 @@ use mathlib.Core.Path.{refl}
 use Prim.Native.Nat.{_+_, _-_, _*_, _≤_}
 use native.Mathlib.Omega.{arith}
 use lib.ListN.{length}
-use Rattle.pad_copy.proofs.RunByRun.{block-in}
+use Rattle.pad_copy_axis.proofs.RunByRun.{block-in}
 use Rattle.pad_copy.proofs.FewBlocks.{BlocksFilled, filled-none, filled-more, filled-all, part-in, part-runs}
 use borrow.Author.Needs.{needs}
 use Rattle.pad_copy.proofs.runs.copy_blocks.Statement.{statement}

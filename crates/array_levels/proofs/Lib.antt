@@ -1,0 +1,4 @@
+-- Laws.
+pub mod Finite
+pub mod Raising
+pub mod Halves

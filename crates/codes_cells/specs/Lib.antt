@@ -1,0 +1,3 @@
+-- Pads and kernels as slices.
+pub mod Cells
+pub mod Rows

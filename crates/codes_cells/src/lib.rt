@@ -1,0 +1,14 @@
+// What the entry points (`capi`) read from and write to slices where the libraries take and give values: the pads of
+// each axis, and the cells of a kernel.
+ghost use Rattle.codes_cells.specs.Rows.{CodesCellsRows};
+
+mod kernel;
+mod pads;
+
+pub use kernel::write_kernel;
+pub use pads::pairs_of;
+
+// Worked rows of this crate's definitions: pads that are missing, and the cells of the star.
+pub fn rows()
+    ensures { λ _. ⌜ CodesCellsRows ⌝ }
+{}

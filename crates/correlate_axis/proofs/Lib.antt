@@ -1,0 +1,2 @@
+-- Laws of the sums of each lane.
+pub mod LaneSums

@@ -1,0 +1,3 @@
+-- Laws of the loops along a row.
+pub mod Parts
+pub mod Turns

@@ -1,0 +1,6 @@
+-- Laws of the sums of raised terms.
+pub mod Directed
+pub mod RaisedBase
+pub mod RaisedStart
+pub mod RaisedTurns
+pub mod RaisedSums

@@ -1,0 +1,3 @@
+-- Weighted sums of raised numbers.
+pub mod Raised
+pub mod Rows

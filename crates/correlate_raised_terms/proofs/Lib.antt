@@ -1,0 +1,4 @@
+-- Laws of raised numbers.
+pub mod RaisedLists
+pub mod RaisedNumber
+pub mod RaisedCells

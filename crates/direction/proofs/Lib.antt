@@ -1,0 +1,2 @@
+-- Laws of directed weights.
+pub mod Directed

@@ -1,2 +1,0 @@
--- Laws of digits that reach no cap.
-pub mod Digit

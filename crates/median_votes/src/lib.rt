@@ -1,0 +1,5 @@
+// The votes of the cells of a row, by the counts of the rows around it.
+
+mod votes;
+
+pub use votes::vote_row;

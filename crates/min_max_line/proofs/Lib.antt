@@ -1,2 +1,0 @@
--- What the loop over windows of three cells rests on.
-pub mod Three

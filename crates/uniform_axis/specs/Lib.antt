@@ -1,0 +1,3 @@
+-- The means on the lanes of an axis.
+pub mod MeanAxisNeeds
+pub mod Rows
