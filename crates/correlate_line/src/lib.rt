@@ -1,5 +1,5 @@
-// The weighted sums of a whole line: four weights a pass where they are five or more (correlate_raised), else added to
-// a row of 0, three a pass (correlate_plain).
+// The weighted sums of a whole line: four weights a pass where they are five or more (correlate_raised), else without
+// raising (correlate_plain).
 ghost use mathlib.Core.Path.{_≡_};
 ghost use Prim.Native.Nat.{_≤_};
 ghost use lib.ListN.{length};
@@ -8,8 +8,8 @@ ghost use Rattle.direction.specs.Direction.{directed};
 ghost use Rattle.correlate_spec.specs.Weighed.{wholeOps, weighedLine};
 ghost use Rattle.correlate_spec.specs.Sizes.{LineSumNeeds};
 ghost use Rattle.correlate_raised_terms.specs.Narrow.{Narrow};
-use array::fill;
 pub use correlate_plain::add_line;
+use correlate_plain::set_line;
 pub use correlate_plain::sum_of;
 use correlate_raised::raised_line;
 
@@ -26,6 +26,5 @@ pub fn correlate_line(weights: &[i64], backward: bool, line: &mut [i64], out: &m
         raised_line(weights, backward, line, out);
         return;
     }
-    fill(out, 0);
-    add_line(weights, backward, line, out);
+    set_line(weights, backward, line, out);
 }

@@ -1,4 +1,4 @@
--- One turn of a loop along a row: what the code adds to a cell is the sum of its next terms, whether it takes one or four weights a pass.
+-- One turn of a loop along a row: what the code adds to a cell is the sum of its next terms, whether it takes one, three, four or five weights a pass.
 -- Assumes nothing.
 use Prim.Native.Nat.{ℕ, _+_, _<_}
 use mathlib.Core.Path.{_≡_, ap, _∙_}
@@ -46,6 +46,16 @@ module _ (w s : List Float) where
     unfolding summed
     one-term q = ap (floatOps .sum y) (first q)
 
+    pub three-terms : {p q r : Float} → p ≡ getD w j nan → q ≡ getD w (j + 1) nan → r ≡ getD w (j + 2) nan
+        → floatOps .sum (floatOps .sum (floatOps .sum y (floatOps .product (getD s a nan) p)) (floatOps .product (getD s (a + 1) nan) q)) (floatOps .product (getD s (a + 2) nan) r)
+        ≡ more i j 3 y
+    unfolding summed
+    three-terms p q r =
+        let t₀ = first p in
+        let t₁ = term (a + 1) 1 (omega arith) q in
+        let t₂ = term (a + 2) 2 (omega arith) r in
+        (λ τ. floatOps .sum (floatOps .sum (floatOps .sum y (t₀ τ)) (t₁ τ)) (t₂ τ))
+
     pub four-terms : {p q r t : Float} → Weights w j p q r t → fourMore y s a p q r t ≡ more i j 4 y
     unfolding summed
     four-terms {p} {q} {r} {t} v =
@@ -54,3 +64,9 @@ module _ (w s : List Float) where
         let t₂ = term (a + 2) 2 (omega arith) (v .2) in
         let t₃ = term (a + 3) 3 (omega arith) (v .3) in
         (λ τ. floatOps .sum (floatOps .sum (floatOps .sum (floatOps .sum y (t₀ τ)) (t₁ τ)) (t₂ τ)) (t₃ τ))
+
+  -- and of five, the fifth after four
+  pub five-terms : (i : ℕ) (y : Float) {x p q r t v : Float} → Weights w 0 p q r t → v ≡ getD w 4 nan → x ≡ fourMore y s i p q r t
+      → floatOps .sum x (floatOps .product (getD s (i + 4) nan) v) ≡ more i 0 5 y
+  unfolding summed
+  five-terms i y u ev ex = (λ τ. floatOps .sum ((ex ∙ four-terms i 0 i y (omega arith) u) τ) (floatOps .product (getD s (i + 4) nan) (ev τ)))

@@ -1,4 +1,4 @@
--- One turn of a loop along a row: what the code adds to a cell is the sum of its next terms, whether it takes one pair a pass or two.
+-- One turn of a loop along a row: what the code adds to a cell is the sum of its next terms, whether it takes one pair a pass or three; and the sum that the row starts with.
 -- Assumes nothing.
 use Prim.Native.Nat.{ℕ, _+_, _-_, _/_, _<_}
 use mathlib.Core.Path.{_≡_, sym, ap, _∙_}
@@ -46,12 +46,26 @@ module _ (w s : List Float) (minus : Bool) where
     unfolding summed
     one-pair u q = ap (floatOps .sum y) (outer u q)
 
-    pub two-pairs : {x z u v : Float} → u ≡ getD w j nan → v ≡ getD w (j + 1) nan → x ≡ joined (i + j) (i + r) u → z ≡ joined (i + j + 1) (i + (r - 1)) v
-        → floatOps .sum (floatOps .sum y x) z ≡ summed (floatOps .sum) y (λ k. pairTerm floatOps op w s i (j + k)) 2
+    pub three-pairs : {x z q u v t : Float} → u ≡ getD w j nan → v ≡ getD w (j + 1) nan → t ≡ getD w (j + 2) nan
+        → x ≡ joined (i + j) (i + r) u → z ≡ joined (i + j + 1) (i + (r - 1)) v → q ≡ joined (i + j + 2) (i + (r - 2)) t
+        → floatOps .sum (floatOps .sum (floatOps .sum y x) z) q ≡ summed (floatOps .sum) y (λ k. pairTerm floatOps op w s i (j + k)) 3
     unfolding summed
-    two-pairs eu ev q p =
-        let t₁ = pair (i + j + 1) (i + (r - 1)) 1 p (omega arith) (mirror 1) ev in
-        (λ τ. floatOps .sum (floatOps .sum y (outer eu q τ)) (t₁ τ))
+    three-pairs eu ev et ex ez eq =
+        let t₁ = pair (i + j + 1) (i + (r - 1)) 1 ez (omega arith) (mirror 1) ev in
+        let t₂ = pair (i + j + 2) (i + (r - 2)) 2 eq (omega arith) (mirror 2) et in
+        (λ τ. floatOps .sum (floatOps .sum (floatOps .sum y (outer eu ex τ)) (t₁ τ)) (t₂ τ))
+
+  -- the middle cell and the outermost pair, whose places are 0 and r; m is the middle
+  module _ (i m r : ℕ) (em : m ≡ length w / 2) (er : r ≡ length w - 1 - 0) where
+    middle : {v : Float} → v ≡ getD w m nan → floatOps .product (getD s (i + m) nan) v ≡ cellTerm floatOps w s i (length w / 2)
+    middle ev = (λ t. floatOps .product (getD s (i + m) nan) (ev t)) ∙ ap (cellTerm floatOps w s i) em
+
+    outermost : {x u : Float} → u ≡ getD w 0 nan → x ≡ joined i (i + r) u → x ≡ pairTerm floatOps op w s i 0
+    outermost eu ex = ex ∙ (λ t. joined (sym (add-zero i) t) (i + er t) (eu t))
+
+    pub first-pair : {x u v : Float} → v ≡ getD w m nan → u ≡ getD w 0 nan → x ≡ joined i (i + r) u → floatOps .sum (floatOps .product (getD s (i + m) nan) v) x ≡ pairsTo floatOps op w s 1 i
+    unfolding summed
+    first-pair ev eu ex = (λ t. floatOps .sum (middle ev t) (outermost eu ex t))
 
 -- a pair that was joined as the code tested is joined as it was told: m is what the code tested for
 pub condition-is : (m minus : Bool) (x y v : Float) → m ≡ minus → floatOps .product (joinedBy floatOps minus x y) v ≡ floatOps .product (joinedBy floatOps m x y) v

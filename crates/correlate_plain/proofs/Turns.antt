@@ -3,9 +3,9 @@
 use Prim.Native.Nat.{ℕ, _+_, _^_, _<_}
 use mathlib.Core.Path.{_≡_, sym, ap, subst, _∙_}
 use mathlib.Core.List.{List}
-use native.Mathlib.Nat.{add-assoc}
+use native.Mathlib.Nat.{add-assoc, add-zero}
 use native.Mathlib.Omega.{arith}
-use lib.IntN.{ℤ, pos, _+ℤ_, _*ℤ_}
+use lib.IntN.{ℤ, pos, _+ℤ_, _*ℤ_, +ℤ-idl}
 use lib.ListN.{getD, set}
 use mir.Syntax.{w64}
 use mir.Val.{SFits}
@@ -13,11 +13,12 @@ use Rattle.numbers.proofs.Size.{Size, size-add, size-le, member-sized, tested-s
 use Rattle.correlate_spec.proofs.Along.{Pass, pass-more, pass-old}
 use Rattle.correlate_spec.proofs.Sizes.{size-cell}
 use Rattle.correlate_spec.specs.Sizes.{LineSumNeeds}
+use Rattle.correlate_spec.specs.Weighed.{summed, wholeOps, cellTerm, plainTo}
 use Rattle.correlate_spec.proofs.Computed.{read, Computed, computed-level, computed-read, computed}
 use Rattle.correlate_spec.proofs.Terms.{cell-size, weight-size}
-use Rattle.correlate_plain.specs.Added.{plus, threeTerms, Passed}
+use Rattle.correlate_plain.specs.Added.{plus, threeTerms, fourTerms, Passed}
 
--- ---- the terms of one and of three weights: cell a times weight k, whichever they are
+-- ---- the terms of one, of three and of four weights: cell a times weight k, whichever they are
 module _ {w s : List ℤ} {n : ℕ} (W : LineSumNeeds w s n) where
   abbrev meant : ℕ → ℕ → ℤ
   meant a k = getD s a (pos 0) *ℤ getD w k (pos 0)
@@ -33,6 +34,9 @@ module _ {w s : List ℤ} {n : ℕ} (W : LineSumNeeds w s n) where
 
   pub three-size : (a b c k l m : ℕ) → Size (meant a k +ℤ meant b l +ℤ meant c m) (2 ^ 56)
   three-size a b c k l m = size-le (size-add (two-size a b k l) (one-size c m)) (omega arith)
+
+  pub four-size : (a b c d k l m n : ℕ) → Size (meant a k +ℤ meant b l +ℤ meant c m +ℤ meant d n) (2 ^ 56)
+  four-size a b c d k l m n = size-le (size-add (size-add (two-size a b k l) (one-size c m)) (one-size d n)) (omega arith)
 
   pub cell-read : (a : ℕ) → read (getD s a (pos 0)) ≡ getD s a (pos 0)
   cell-read a = computed-read (computed-level (cell-size W a) (omega arith))
@@ -51,16 +55,35 @@ module _ {w s : List ℤ} {n : ℕ} (W : LineSumNeeds w s n) where
     pub two : Computed (read (x *ℤ read u) +ℤ read (y *ℤ read v)) (meant a k +ℤ meant b l)
     two = computed _+ℤ_ (one a k ex eu) (one b l ey ev) (two-size a b k l) (omega arith)
 
-    pub three : (c m : ℕ) {z q : ℤ} → z ≡ getD s c (pos 0) → q ≡ getD w m (pos 0)
-        → Computed (read (read (x *ℤ read u) +ℤ read (y *ℤ read v)) +ℤ read (z *ℤ read q)) (meant a k +ℤ meant b l +ℤ meant c m)
-    three c m ez eq = computed _+ℤ_ two (one c m ez eq) (three-size a b c k l m) (omega arith)
+    module _ (c m : ℕ) {z q : ℤ} (ez : z ≡ getD s c (pos 0)) (eq : q ≡ getD w m (pos 0)) where
+      pub three : Computed (read (read (x *ℤ read u) +ℤ read (y *ℤ read v)) +ℤ read (z *ℤ read q)) (meant a k +ℤ meant b l +ℤ meant c m)
+      three = computed _+ℤ_ two (one c m ez eq) (three-size a b c k l m) (omega arith)
 
--- the three terms of cell i, at the places where the code reads them
+      pub four : (d n : ℕ) {y₃ v₃ : ℤ} → y₃ ≡ getD s d (pos 0) → v₃ ≡ getD w n (pos 0)
+          → Computed (read (read (read (x *ℤ read u) +ℤ read (y *ℤ read v)) +ℤ read (z *ℤ read q)) +ℤ read (y₃ *ℤ read v₃)) (meant a k +ℤ meant b l +ℤ meant c m +ℤ meant d n)
+      four d n ed en = computed _+ℤ_ three (one d n ed en) (four-size a b c d k l m n) (omega arith)
+
+-- the three and the four terms of cell i, at the places where the code reads them
 pub three-places : (w s : List ℤ) (i j : ℕ)
     → getD s (i + j) (pos 0) *ℤ getD w j (pos 0) +ℤ getD s (i + j + 1) (pos 0) *ℤ getD w (j + 1) (pos 0) +ℤ getD s (i + j + 2) (pos 0) *ℤ getD w (j + 2) (pos 0) ≡ threeTerms w s i j
 three-places w s i j t =
     getD s (i + j) (pos 0) *ℤ getD w j (pos 0) +ℤ getD s (add-assoc i j 1 t) (pos 0) *ℤ getD w (j + 1) (pos 0)
     +ℤ getD s (add-assoc i j 2 t) (pos 0) *ℤ getD w (j + 2) (pos 0)
+
+pub four-places : (w s : List ℤ) (i j : ℕ)
+    → getD s (i + j) (pos 0) *ℤ getD w j (pos 0) +ℤ getD s (i + j + 1) (pos 0) *ℤ getD w (j + 1) (pos 0) +ℤ getD s (i + j + 2) (pos 0) *ℤ getD w (j + 2) (pos 0)
+    +ℤ getD s (i + j + 3) (pos 0) *ℤ getD w (j + 3) (pos 0) ≡ fourTerms w s i j
+four-places w s i j t = three-places w s i j t +ℤ getD s (add-assoc i j 3 t) (pos 0) *ℤ getD w (j + 3) (pos 0)
+
+-- the sums of the first one and of the first three weights, where the code reads them
+pub first-one : (w s : List ℤ) (i : ℕ) → getD s i (pos 0) *ℤ getD w 0 (pos 0) ≡ plainTo wholeOps w s 1 i
+unfolding summed
+first-one w s i = let t = cellTerm wholeOps w s i 0 in ap (λ k. getD s k (pos 0) *ℤ getD w 0 (pos 0)) (sym (add-zero i)) ∙ sym (+ℤ-idl t)
+
+pub first-three : (w s : List ℤ) (i : ℕ)
+    → getD s i (pos 0) *ℤ getD w 0 (pos 0) +ℤ getD s (i + 1) (pos 0) *ℤ getD w 1 (pos 0) +ℤ getD s (i + 2) (pos 0) *ℤ getD w 2 (pos 0) ≡ plainTo wholeOps w s 3 i
+unfolding summed
+first-three w s i = ap (λ (x : ℤ). x +ℤ getD s (i + 1) (pos 0) *ℤ getD w 1 (pos 0) +ℤ getD s (i + 2) (pos 0) *ℤ getD w 2 (pos 0)) (first-one w s i)
 
 -- a cell by another name of its place
 pub cell-at : (s : List ℤ) (a b : ℕ) {x : ℤ} → x ≡ getD s a (pos 0) → a ≡ b → x ≡ getD s b (pos 0)

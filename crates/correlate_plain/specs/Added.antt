@@ -1,6 +1,7 @@
 -- A row that holds sums, and what is added to it, cell by cell.
 --   plus held f i         cell i of what is held, plus f i
 --   threeTerms w s i j    the terms of cells j, j + 1 and j + 2 of the window of cell i, in one sum
+--   fourTerms w s i j     those of cells j to j + 3
 --   addedTo held w s n i  cell i of what is held, plus the first n terms of its window
 --   AddNeeds w s held      weights, line and row are as the sums ask, and the row holds at most 2^61 in size
 --   Passed w s out        the same for one pass along the row, which then holds at most 2^62
@@ -20,6 +21,9 @@ plus held f i = getD held i (pos 0) +ℤ f i
 
 abbrev pub threeTerms : List ℤ → List ℤ → ℕ → ℕ → ℤ
 threeTerms w s i j = cellTerm wholeOps w s i j +ℤ cellTerm wholeOps w s i (j + 1) +ℤ cellTerm wholeOps w s i (j + 2)
+
+abbrev pub fourTerms : List ℤ → List ℤ → ℕ → ℕ → ℤ
+fourTerms w s i j = threeTerms w s i j +ℤ cellTerm wholeOps w s i (j + 3)
 
 abbrev pub addedTo : List ℤ → List ℤ → List ℤ → ℕ → ℕ → ℤ
 addedTo held w s n = plus held (plainTo wholeOps w s n)

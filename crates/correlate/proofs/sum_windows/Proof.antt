@@ -57,7 +57,8 @@ same-length c = search needs
 returns-2 : tie.Need-returns-2
 returns-2 c =
     let a = c .before .before .before .before .before .before .before .before .args in
-    c .before .correlate-cells .ensures ∙ ap (λ (l : ℕ). kernelAnswer (borderOf (a .mode)) l (sidesOf (now (a .shape)) (a .side)) (directed (a .backward) (now (a .weights))) (now (a .shape)) (now (a .«data»)))
+    c .before .correlate-cells .ensures
+    ∙ ap (λ (l : ℕ). kernelAnswer (borderOf (a .mode)) l (sidesOf (now (a .shape)) (a .side)) (directed (a .backward) (now (a .weights))) (now (a .shape)) (now (a .«data»)))
     (left-given (c .before .before .before .before))
 
 pub sum-windows-spec : {M : Type 1} → statement M

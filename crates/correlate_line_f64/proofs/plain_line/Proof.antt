@@ -1,4 +1,4 @@
--- `plain_line` meets its contract: from a row that is begun, each turn adds the terms of four weights to the whole row, and then of one.
+-- `plain_line` meets its contract: the row is begun, the passes by fours go on from there, and each turn adds the term of one weight that they left.
 -- Assumes nothing.
 use mathlib.Core.Path.{_≡_, refl, _∙_}
 use Prim.Native.Nat.{_+_, _-_, _≤_}
@@ -14,73 +14,52 @@ use Rattle.correlate_line_f64.proofs.plain_line.Statement.{statement}
 use Rattle.correlate_line_f64.proofs.plain_line.Tie as tie
 
 abbrev Inv-loop : tie.InvT-loop
-Inv-loop weights backward line out₀ count k₀ out k = (k ≤ count) × (count ≡ length weights) × Row (plainTo floatOps (directed backward weights) line k) (length out₀) out
+Inv-loop weights backward line out₀ count taken k₀ out k = (k ≤ count) × (count ≡ length weights) × Row (plainTo floatOps (directed backward weights) line k) (length out₀) out
 
 abbrev μ-loop : tie.MeasureT-loop
-μ-loop weights backward line out₀ count k₀ out k = count - k
+μ-loop weights backward line out₀ count taken k₀ out k = count - k
 
-abbrev Inv-loop2 : tie.InvT-loop2
-Inv-loop2 weights backward line out₀ count k₀ out k = (k ≤ count) × (count ≡ length weights) × Row (plainTo floatOps (directed backward weights) line k) (length out₀) out
-
-abbrev μ-loop2 : tie.MeasureT-loop2
-μ-loop2 weights backward line out₀ count k₀ out k = count - k
-
-start-rows-requires : tie.Need-start-rows-requires Inv-loop μ-loop Inv-loop2 μ-loop2
+start-rows-requires : tie.Need-start-rows-requires Inv-loop μ-loop
 start-rows-requires c κs = search needs
 
-loop-holds : tie.Need-loop-holds Inv-loop μ-loop Inv-loop2 μ-loop2
-loop-holds c = (c .before .before .start-rows .ensures .0, refl, row-made _ _ (c .before .before .start-rows .ensures .1))
+add-fours-requires : tie.Need-add-fours-requires Inv-loop μ-loop
+add-fours-requires c κs =
+    let q = c .before .before .before .start-rows .ensures in
+    let e = c .before .before .before .start-rows .kept .1 .1 .1 .0 in
+    (record { some = omega arith; long = omega arith }, q .0, row-own (row-made _ _ (q .1)))
 
-sub-loop : tie.Need-sub-loop Inv-loop μ-loop Inv-loop2 μ-loop2
-sub-loop c = search needs
+loop-holds : tie.Need-loop-holds Inv-loop μ-loop
+loop-holds c = let q = c .before .before .add-fours .ensures in (q .0, refl, row-made _ _ (q .1))
 
-add-four-rows-requires : tie.Need-add-four-rows-requires Inv-loop μ-loop Inv-loop2 μ-loop2
-add-four-rows-requires c κs =
+add-row-requires : tie.Need-add-row-requires Inv-loop μ-loop
+add-row-requires c κs =
     let r = c .before .before .loop .inv .2 in
-    let e = row-length r ∙ c .before .before .before .before .before .start-rows .kept .1 .1 .1 .0 in
+    let e = row-length r ∙ c .before .before .before .before .before .add-fours .kept .1 .1 .1 .1 .0
+    ∙ c .before .before .before .before .before .before .before .before .before .start-rows .kept .1 .1 .1 .0 in
     (record { some = omega arith; long = omega arith }, search needs, row-own r)
 
-add-k : tie.Need-add-k Inv-loop μ-loop Inv-loop2 μ-loop2
+add-k : tie.Need-add-k Inv-loop μ-loop
 add-k c = search needs
 
-loop-less : tie.Need-loop-less Inv-loop μ-loop Inv-loop2 μ-loop2
+loop-less : tie.Need-loop-less Inv-loop μ-loop
 loop-less c = search needs
 
-loop-again : tie.Need-loop-again Inv-loop μ-loop Inv-loop2 μ-loop2
+loop-again : tie.Need-loop-again Inv-loop μ-loop
 loop-again c =
-    let a = c .before .before .before .before .before .before .before .before .before .before .before .before .before .args in
+    let a = c .before .before .before .before .before .before .before .before .before .before .before .before .before .before .before .before .before .args in
     let l = c .before .before .before .before .before .loop in
-    (search needs, l .inv .1, row-next (l .inv .2) {h = plainTo floatOps (directed (a .backward) (now (a .weights))) (now (a .line)) (l .k + 4)} (c .before .before .add-four-rows .ensures))
-
-loop2-holds : tie.Need-loop2-holds Inv-loop μ-loop Inv-loop2 μ-loop2
-loop2-holds c = let l = c .before .loop in (l .inv .0, l .inv .1, row-made _ _ (l .inv .2 .is))
-
-add-row-requires : tie.Need-add-row-requires Inv-loop μ-loop Inv-loop2 μ-loop2
-add-row-requires c κs =
-    let r = c .before .before .loop2 .inv .2 in
-    let e = row-length r ∙ row-length (c .before .before .before .before .loop .inv .2) ∙ c .before .before .before .before .before .before .before .start-rows .kept .1 .1 .1 .0 in
-    (record { some = omega arith; long = omega arith }, search needs, row-own r)
-
-add-k-2 : tie.Need-add-k-2 Inv-loop μ-loop Inv-loop2 μ-loop2
-add-k-2 c = search needs
-
-loop2-less : tie.Need-loop2-less Inv-loop μ-loop Inv-loop2 μ-loop2
-loop2-less c = search needs
-
-loop2-again : tie.Need-loop2-again Inv-loop μ-loop Inv-loop2 μ-loop2
-loop2-again c =
-    let a = c .before .before .before .before .before .before .before .before .before .before .before .before .before .before .before .args in
-    let l = c .before .before .before .before .before .loop2 in
     (search needs, l .inv .1, row-next (l .inv .2) {h = plainTo floatOps (directed (a .backward) (now (a .weights))) (now (a .line)) (l .k + 1)} (c .before .before .add-row .ensures))
 
-same-length : tie.Need-same-length Inv-loop μ-loop Inv-loop2 μ-loop2
-same-length c = row-length (c .before .loop2 .inv .2) ∙ row-length (c .before .before .before .loop .inv .2) ∙ c .before .before .before .before .before .before .start-rows .kept .1 .1 .1 .0
+same-length : tie.Need-same-length Inv-loop μ-loop
+same-length c = row-length (c .before .loop .inv .2) ∙ c .before .before .before .before .add-fours .kept .1 .1 .1 .1 .0
+    ∙ c .before .before .before .before .before .before .before .before .start-rows .kept .1 .1 .1 .0
 
-returns : tie.Need-returns Inv-loop μ-loop Inv-loop2 μ-loop2
+returns : tie.Need-returns Inv-loop μ-loop
 returns c =
-    let a = c .before .before .before .before .before .before .before .before .before .before .before .args in
-    plain-end floatOps (directed (a .backward) (now (a .weights))) (now (a .line)) (c .before .loop2 .inv .2) (omega (arith, directed-length (a .backward) (now (a .weights))))
-    (row-length (c .before .before .before .loop .inv .2) ∙ c .before .before .before .before .before .before .start-rows .kept .1 .1 .1 .0)
+    let a = c .before .before .before .before .before .before .before .before .before .before .before .before .before .args in
+    plain-end floatOps (directed (a .backward) (now (a .weights))) (now (a .line)) (c .before .loop .inv .2) (omega (arith, directed-length (a .backward) (now (a .weights))))
+    (c .before .before .before .before .add-fours .kept .1 .1 .1 .1 .0
+    ∙ c .before .before .before .before .before .before .before .before .start-rows .kept .1 .1 .1 .0)
 
 pub plain-line-spec : {M : Type 1} → statement M
 plain-line-spec =
@@ -88,19 +67,12 @@ plain-line-spec =
     (tie.spec
     Inv-loop
     μ-loop
-    Inv-loop2
-    μ-loop2
     start-rows-requires
+    add-fours-requires
     loop-holds
-    sub-loop
-    add-four-rows-requires
+    add-row-requires
     add-k
     loop-less
     loop-again
-    loop2-holds
-    add-row-requires
-    add-k-2
-    loop2-less
-    loop2-again
     same-length
     returns)

@@ -19,6 +19,7 @@ unfolding summed
 returns c = record {
   held = refl;
   three = refl;
+  four = refl;
   added = refl;
   addable = record { line = weighable; small = refl };
   addable-large = λ a. true≢false (a .small);

@@ -17,8 +17,8 @@ use Rattle.correlate_spec.proofs.rows.Statement.{statement}
 use Rattle.correlate_spec.proofs.rows.Tie as tie
 
 returns : tie.Need-returns
-unfolding tabulate windowOf summed add mul alongAxis laneAt paddedAt paddedLine extendedLane cellFor correlatedBy convolvedAt convolvedBy someDiffers exceeds sub lt placeOf coordinate allInside extendedGrid kernelSum
-    kernelAnswer convolvedSum
+unfolding tabulate windowOf summed add mul alongAxis laneAt paddedAt paddedLine extendedLane cellFor correlatedBy convolvedAt convolvedBy someDiffers exceeds sub lt
+    placeOf coordinate allInside extendedGrid kernelSum kernelAnswer convolvedSum
 returns c = record {
   padded = refl;
   window-sums = refl;

@@ -9,8 +9,8 @@ use Rattle.correlate_spec.specs.Weighed.{floatOps, plainTo}
 use Rattle.correlate_spec.proofs.Along.{Pass, pass-none, pass-all}
 use Rattle.correlate_line_f64.proofs.Turns.{plain-more, four-terms}
 use borrow.Author.Needs.{needs}
-use Rattle.correlate_line_f64.proofs.add_four_rows.Statement.{statement}
-use Rattle.correlate_line_f64.proofs.add_four_rows.Tie as tie
+use Rattle.correlate_line_f64.proofs.add.add_four_rows.Statement.{statement}
+use Rattle.correlate_line_f64.proofs.add.add_four_rows.Tie as tie
 
 abbrev Inv-loop : tie.InvT-loop
 Inv-loop weights backward line j out₀ four n i₀ out i = Pass nan (plainTo floatOps (directed backward weights) line (j + 4)) out₀ n i out

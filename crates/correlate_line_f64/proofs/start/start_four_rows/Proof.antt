@@ -10,8 +10,8 @@ use Rattle.correlate_spec.specs.Weighed.{floatOps, plainTo}
 use Rattle.correlate_spec.proofs.Along.{Pass, pass-none, pass-more, pass-all}
 use Rattle.correlate_line_f64.proofs.Turns.{plain-first, four-terms}
 use borrow.Author.Needs.{needs}
-use Rattle.correlate_line_f64.proofs.start_four_rows.Statement.{statement}
-use Rattle.correlate_line_f64.proofs.start_four_rows.Tie as tie
+use Rattle.correlate_line_f64.proofs.start.start_four_rows.Statement.{statement}
+use Rattle.correlate_line_f64.proofs.start.start_four_rows.Tie as tie
 
 abbrev Inv-loop : tie.InvT-loop
 Inv-loop weights backward line out₀ four n i₀ out i = Pass nan (plainTo floatOps (directed backward weights) line 4) out₀ n i out

@@ -1,2 +1,0 @@
--- Laws of the sums of a line.
-pub mod FromZero
