@@ -69,11 +69,16 @@ static void t7_t8(void) {
     const size_t shape[] = {2, 2};
     const int64_t weights[] = {1, 0, 0, 10};
     const size_t sides[] = {2, 2};
+    const uint8_t nearest[] = {SUVVOKAL_NEAREST, SUVVOKAL_NEAREST};
+    const uint8_t constant[] = {SUVVOKAL_CONSTANT, SUVVOKAL_CONSTANT};
+    const uint8_t both[] = {SUVVOKAL_CONSTANT, SUVVOKAL_NEAREST};
     int64_t second[4] = {0}, out[4] = {0};
-    uint8_t r = suvvokal_sobel(data, LEN(data), shape, LEN(shape), 0, SUVVOKAL_NEAREST, 0, second, LEN(second), out, LEN(out));
+    uint8_t r = suvvokal_sobel(data, LEN(data), shape, LEN(shape), 0, nearest, LEN(nearest), NULL, 0, second, LEN(second), out, LEN(out));
     show("T7 sobel, nearest", r, out, LEN(out));
-    r = suvvokal_sobel(data, LEN(data), shape, LEN(shape), 0, SUVVOKAL_CONSTANT, 0, second, LEN(second), out, LEN(out));
+    r = suvvokal_sobel(data, LEN(data), shape, LEN(shape), 0, constant, LEN(constant), NULL, 0, second, LEN(second), out, LEN(out));
     show("T7 sobel, constant 0", r, out, LEN(out));
+    r = suvvokal_sobel(data, LEN(data), shape, LEN(shape), 0, both, LEN(both), NULL, 0, second, LEN(second), out, LEN(out));
+    show("sobel, constant 0 on axis 0 and nearest on axis 1", r, out, LEN(out));
     r = suvvokal_correlate(data, LEN(data), shape, LEN(shape), weights, LEN(weights), sides, LEN(sides), SUVVOKAL_NEAREST, 0, 0, out, LEN(out));
     show("T8 correlate", r, out, LEN(out));
 }
@@ -116,13 +121,15 @@ static void others(void) {
 static void refused(void) {
     const int64_t data[] = {1, 2, 3};
     const size_t shape[] = {3};
-    int64_t out[3] = {7, 7, 7};
+    int64_t second[3] = {7, 7, 7}, out[3] = {7, 7, 7};
     uint8_t r = suvvokal_minimum_filter1d(data, LEN(data), shape, LEN(shape), 7, 0, SUVVOKAL_MIRROR, 0, 0, out, LEN(out));
     show("refused, a pad that mirror cannot fill", r, out, LEN(out));
     r = suvvokal_minimum_filter1d(data, LEN(data), shape, LEN(shape), 3, 0, 5, 0, 0, out, LEN(out));
     show("refused, an unknown border", r, out, LEN(out));
     r = suvvokal_minimum_filter1d(data, LEN(data), shape, LEN(shape), 66, 0, 5, 0, 0, out, LEN(out));
     show("refused, an unknown border and a size of 66", r, out, LEN(out));
+    r = suvvokal_uniform_filter(data, LEN(data), shape, LEN(shape), 3, NULL, 0, NULL, 0, second, LEN(second), out, LEN(out));
+    show("refused, a missing border", r, out, LEN(out));
     r = suvvokal_minimum_filter1d(NULL, 0, NULL, 0, 3, 0, SUVVOKAL_NEAREST, 0, 0, NULL, 0);
     show("refused, no axes", r, NULL, 0);
 }

@@ -128,7 +128,9 @@ uint8_t suvvokal_minimum_filter1d(const int64_t *data, size_t data_len, const si
 uint8_t suvvokal_maximum_filter1d(const int64_t *data, size_t data_len, const size_t *shape, size_t axes, size_t size, size_t axis, uint8_t border,
                                   int64_t constant, ptrdiff_t origin, int64_t *out, size_t out_len);
 
-/* ---- On whole grids. Calls that make several passes are lent a second grid as long as data; an accepted call leaves zeros in it. */
+/* ---- On whole grids. Calls that make several passes take a border for each axis: `borders` has the codes and `constants` the constants, in the
+ * order of the axes; those past the axis count are not read, a missing code is unknown and a missing constant 0. Such calls are lent a second grid
+ * as long as data; an accepted call leaves zeros in it. */
 
 /* The sums of each window times the weights of a grid kernel, whose sides are all equal. */
 uint8_t suvvokal_correlate(const int64_t *data, size_t data_len, const size_t *shape, size_t axes, const int64_t *weights, size_t weights_len,
@@ -140,25 +142,30 @@ uint8_t suvvokal_convolve(const int64_t *data, size_t data_len, const size_t *sh
                           const size_t *sides, size_t sides_len, uint8_t border, int64_t constant, ptrdiff_t origin, int64_t *out,
                           size_t out_len);
 
-/* The differences of the neighbours along an axis, smoothed along every other axis by 1 1 1. */
-uint8_t suvvokal_prewitt(const int64_t *data, size_t data_len, const size_t *shape, size_t axes, size_t axis, uint8_t border, int64_t constant,
-                         int64_t *second, size_t second_len, int64_t *out, size_t out_len);
+/* The differences of the neighbours along an axis, smoothed along every other axis by 1 1 1; each pass uses the border of its own axis. */
+uint8_t suvvokal_prewitt(const int64_t *data, size_t data_len, const size_t *shape, size_t axes, size_t axis, const uint8_t *borders,
+                         size_t borders_len, const int64_t *constants, size_t constants_len, int64_t *second, size_t second_len, int64_t *out,
+                         size_t out_len);
 
 /* As suvvokal_prewitt, smoothed by 1 2 1. */
-uint8_t suvvokal_sobel(const int64_t *data, size_t data_len, const size_t *shape, size_t axes, size_t axis, uint8_t border, int64_t constant,
-                       int64_t *second, size_t second_len, int64_t *out, size_t out_len);
+uint8_t suvvokal_sobel(const int64_t *data, size_t data_len, const size_t *shape, size_t axes, size_t axis, const uint8_t *borders,
+                       size_t borders_len, const int64_t *constants, size_t constants_len, int64_t *second, size_t second_len, int64_t *out,
+                       size_t out_len);
 
 /* The means along every axis in rising order, each pass cut toward zero. */
-uint8_t suvvokal_uniform_filter(const int64_t *data, size_t data_len, const size_t *shape, size_t axes, size_t size, uint8_t border,
-                                int64_t constant, int64_t *second, size_t second_len, int64_t *out, size_t out_len);
+uint8_t suvvokal_uniform_filter(const int64_t *data, size_t data_len, const size_t *shape, size_t axes, size_t size, const uint8_t *borders,
+                                size_t borders_len, const int64_t *constants, size_t constants_len, int64_t *second, size_t second_len, int64_t *out,
+                                size_t out_len);
 
 /* The least level of each cell's box. */
-uint8_t suvvokal_minimum_filter(const int64_t *data, size_t data_len, const size_t *shape, size_t axes, size_t size, uint8_t border,
-                                int64_t constant, ptrdiff_t origin, int64_t *second, size_t second_len, int64_t *out, size_t out_len);
+uint8_t suvvokal_minimum_filter(const int64_t *data, size_t data_len, const size_t *shape, size_t axes, size_t size, const uint8_t *borders,
+                                size_t borders_len, const int64_t *constants, size_t constants_len, ptrdiff_t origin, int64_t *second,
+                                size_t second_len, int64_t *out, size_t out_len);
 
 /* The greatest level of each cell's box. */
-uint8_t suvvokal_maximum_filter(const int64_t *data, size_t data_len, const size_t *shape, size_t axes, size_t size, uint8_t border,
-                                int64_t constant, ptrdiff_t origin, int64_t *second, size_t second_len, int64_t *out, size_t out_len);
+uint8_t suvvokal_maximum_filter(const int64_t *data, size_t data_len, const size_t *shape, size_t axes, size_t size, const uint8_t *borders,
+                                size_t borders_len, const int64_t *constants, size_t constants_len, ptrdiff_t origin, int64_t *second,
+                                size_t second_len, int64_t *out, size_t out_len);
 
 /* The median of each cell of a mask and its neighbours on three axes; at the border only the neighbours inside the grid count. */
 uint8_t suvvokal_median_filter(const bool *mask, size_t mask_len, const size_t *shape, size_t axes, bool *out, size_t out_len);

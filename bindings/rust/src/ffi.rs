@@ -46,24 +46,24 @@ extern "C" {
         sides_len: usize, border: u8, constant: i64, origin: isize, out: *mut i64, out_len: usize,
     ) -> u8;
     pub fn suvvokal_prewitt(
-        data: *const i64, data_len: usize, shape: *const usize, axes: usize, axis: usize, border: u8, constant: i64, second: *mut i64,
-        second_len: usize, out: *mut i64, out_len: usize,
+        data: *const i64, data_len: usize, shape: *const usize, axes: usize, axis: usize, borders: *const u8, borders_len: usize,
+        constants: *const i64, constants_len: usize, second: *mut i64, second_len: usize, out: *mut i64, out_len: usize,
     ) -> u8;
     pub fn suvvokal_sobel(
-        data: *const i64, data_len: usize, shape: *const usize, axes: usize, axis: usize, border: u8, constant: i64, second: *mut i64,
-        second_len: usize, out: *mut i64, out_len: usize,
+        data: *const i64, data_len: usize, shape: *const usize, axes: usize, axis: usize, borders: *const u8, borders_len: usize,
+        constants: *const i64, constants_len: usize, second: *mut i64, second_len: usize, out: *mut i64, out_len: usize,
     ) -> u8;
     pub fn suvvokal_uniform_filter(
-        data: *const i64, data_len: usize, shape: *const usize, axes: usize, size: usize, border: u8, constant: i64, second: *mut i64,
-        second_len: usize, out: *mut i64, out_len: usize,
+        data: *const i64, data_len: usize, shape: *const usize, axes: usize, size: usize, borders: *const u8, borders_len: usize,
+        constants: *const i64, constants_len: usize, second: *mut i64, second_len: usize, out: *mut i64, out_len: usize,
     ) -> u8;
     pub fn suvvokal_minimum_filter(
-        data: *const i64, data_len: usize, shape: *const usize, axes: usize, size: usize, border: u8, constant: i64, origin: isize,
-        second: *mut i64, second_len: usize, out: *mut i64, out_len: usize,
+        data: *const i64, data_len: usize, shape: *const usize, axes: usize, size: usize, borders: *const u8, borders_len: usize,
+        constants: *const i64, constants_len: usize, origin: isize, second: *mut i64, second_len: usize, out: *mut i64, out_len: usize,
     ) -> u8;
     pub fn suvvokal_maximum_filter(
-        data: *const i64, data_len: usize, shape: *const usize, axes: usize, size: usize, border: u8, constant: i64, origin: isize,
-        second: *mut i64, second_len: usize, out: *mut i64, out_len: usize,
+        data: *const i64, data_len: usize, shape: *const usize, axes: usize, size: usize, borders: *const u8, borders_len: usize,
+        constants: *const i64, constants_len: usize, origin: isize, second: *mut i64, second_len: usize, out: *mut i64, out_len: usize,
     ) -> u8;
     pub fn suvvokal_median_filter(
         mask: *const bool, mask_len: usize, shape: *const usize, axes: usize, out: *mut bool, out_len: usize,

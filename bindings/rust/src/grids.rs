@@ -1,6 +1,7 @@
-//! The calls on whole grids. Those that make several passes are lent a second grid, in which an accepted call leaves zeros.
+//! The calls on whole grids. Those that make several passes take a border for each axis, and are lent a second grid, in which an accepted
+//! call leaves zeros.
 use crate::ffi;
-use crate::modes::BorderMode;
+use crate::modes::{BorderMode, Borders};
 use crate::refusal::{answer, Refusal};
 
 /// The sums of each window times the weights of a grid kernel, whose sides are all equal.
@@ -59,7 +60,7 @@ pub fn convolve(
     })
 }
 
-/// The differences of the neighbours along an axis, smoothed along every other axis by 1 1 1.
+/// The differences of the neighbours along an axis, smoothed along every other axis by 1 1 1; each pass uses the border of its own axis.
 ///
 /// Refuses: `Shape`, `Length`, `Level`, `Axis`, `Constant`, `Reach`, `Sum`.
 ///
@@ -73,16 +74,16 @@ pub fn prewitt(
     data: &[i64],
     shape: &[usize],
     axis: usize,
-    mode: BorderMode<i64>,
+    borders: impl Into<Borders>,
     second: &mut [i64],
     out: &mut [i64],
 ) -> Result<(), Refusal> {
-    let (code, constant) = mode.coded();
-    // SAFETY: as in `correlate`; second is borrowed alone too.
+    let (codes, constants) = borders.into().coded();
+    // SAFETY: as in `correlate`; second is borrowed alone too, and the codes and constants live until the call is over.
     answer(unsafe {
         ffi::suvvokal_prewitt(
-            data.as_ptr(), data.len(), shape.as_ptr(), shape.len(), axis, code, constant, second.as_mut_ptr(), second.len(), out.as_mut_ptr(),
-            out.len(),
+            data.as_ptr(), data.len(), shape.as_ptr(), shape.len(), axis, codes.as_ptr(), codes.len(), constants.as_ptr(), constants.len(),
+            second.as_mut_ptr(), second.len(), out.as_mut_ptr(), out.len(),
         )
     })
 }
@@ -99,16 +100,16 @@ pub fn sobel(
     data: &[i64],
     shape: &[usize],
     axis: usize,
-    mode: BorderMode<i64>,
+    borders: impl Into<Borders>,
     second: &mut [i64],
     out: &mut [i64],
 ) -> Result<(), Refusal> {
-    let (code, constant) = mode.coded();
-    // SAFETY: as in `correlate`; second is borrowed alone too.
+    let (codes, constants) = borders.into().coded();
+    // SAFETY: as in `prewitt`.
     answer(unsafe {
         ffi::suvvokal_sobel(
-            data.as_ptr(), data.len(), shape.as_ptr(), shape.len(), axis, code, constant, second.as_mut_ptr(), second.len(), out.as_mut_ptr(),
-            out.len(),
+            data.as_ptr(), data.len(), shape.as_ptr(), shape.len(), axis, codes.as_ptr(), codes.len(), constants.as_ptr(), constants.len(),
+            second.as_mut_ptr(), second.len(), out.as_mut_ptr(), out.len(),
         )
     })
 }
@@ -127,16 +128,16 @@ pub fn uniform_filter(
     data: &[i64],
     shape: &[usize],
     size: usize,
-    mode: BorderMode<i64>,
+    borders: impl Into<Borders>,
     second: &mut [i64],
     out: &mut [i64],
 ) -> Result<(), Refusal> {
-    let (code, constant) = mode.coded();
+    let (codes, constants) = borders.into().coded();
     // SAFETY: as in `prewitt`.
     answer(unsafe {
         ffi::suvvokal_uniform_filter(
-            data.as_ptr(), data.len(), shape.as_ptr(), shape.len(), size, code, constant, second.as_mut_ptr(), second.len(), out.as_mut_ptr(),
-            out.len(),
+            data.as_ptr(), data.len(), shape.as_ptr(), shape.len(), size, codes.as_ptr(), codes.len(), constants.as_ptr(), constants.len(),
+            second.as_mut_ptr(), second.len(), out.as_mut_ptr(), out.len(),
         )
     })
 }
@@ -155,17 +156,17 @@ pub fn minimum_filter(
     data: &[i64],
     shape: &[usize],
     size: usize,
-    mode: BorderMode<i64>,
+    borders: impl Into<Borders>,
     origin: isize,
     second: &mut [i64],
     out: &mut [i64],
 ) -> Result<(), Refusal> {
-    let (code, constant) = mode.coded();
+    let (codes, constants) = borders.into().coded();
     // SAFETY: as in `prewitt`.
     answer(unsafe {
         ffi::suvvokal_minimum_filter(
-            data.as_ptr(), data.len(), shape.as_ptr(), shape.len(), size, code, constant, origin, second.as_mut_ptr(), second.len(),
-            out.as_mut_ptr(), out.len(),
+            data.as_ptr(), data.len(), shape.as_ptr(), shape.len(), size, codes.as_ptr(), codes.len(), constants.as_ptr(), constants.len(),
+            origin, second.as_mut_ptr(), second.len(), out.as_mut_ptr(), out.len(),
         )
     })
 }
@@ -184,17 +185,17 @@ pub fn maximum_filter(
     data: &[i64],
     shape: &[usize],
     size: usize,
-    mode: BorderMode<i64>,
+    borders: impl Into<Borders>,
     origin: isize,
     second: &mut [i64],
     out: &mut [i64],
 ) -> Result<(), Refusal> {
-    let (code, constant) = mode.coded();
+    let (codes, constants) = borders.into().coded();
     // SAFETY: as in `prewitt`.
     answer(unsafe {
         ffi::suvvokal_maximum_filter(
-            data.as_ptr(), data.len(), shape.as_ptr(), shape.len(), size, code, constant, origin, second.as_mut_ptr(), second.len(),
-            out.as_mut_ptr(), out.len(),
+            data.as_ptr(), data.len(), shape.as_ptr(), shape.len(), size, codes.as_ptr(), codes.len(), constants.as_ptr(), constants.len(),
+            origin, second.as_mut_ptr(), second.len(), out.as_mut_ptr(), out.len(),
         )
     })
 }

@@ -25,7 +25,7 @@ pub use kernels::{kernel3d, symmetry_state_f64, symmetry_state_i64};
 pub use lines::{
     convolve1d, convolve1d_f64, correlate1d, correlate1d_f64, maximum_filter1d, minimum_filter1d, uniform_filter1d,
 };
-pub use modes::{BorderMode, Kernel3d, PadMode, SymmetryState};
+pub use modes::{BorderMode, Borders, Kernel3d, PadMode, SymmetryState};
 pub use pads::{pad, pad_to};
 pub use recipes::{play, read_recipe, write_recipe, Recipe, Step, StepKind};
 pub use refusal::Refusal;

@@ -38,6 +38,40 @@ impl<T: Default> BorderMode<T> {
     }
 }
 
+/// The border of each axis, which the calls that make several passes take: three, or one that stands for all. Those past the axis count are
+/// neither read nor judged.
+///
+/// ```
+/// use suvvokal::{minimum_filter, BorderMode};
+/// let (data, mut second, mut out) = ([5, 3, 4, 9], [0; 4], [0; 4]);
+/// minimum_filter(&data, &[2, 2], 2, BorderMode::Constant(0), 0, &mut second, &mut out)?;
+/// assert_eq!(out, [0, 0, 0, 3]);
+/// minimum_filter(&data, &[2, 2], 2, [BorderMode::Nearest, BorderMode::Constant(0), BorderMode::Nearest], 0, &mut second, &mut out)?;
+/// assert_eq!(out, [0, 3, 0, 3]);
+/// # Ok::<(), suvvokal::Refusal>(())
+/// ```
+#[derive(Clone, Copy, Debug, PartialEq)]
+pub struct Borders(pub [BorderMode<i64>; 3]);
+
+impl From<[BorderMode<i64>; 3]> for Borders {
+    fn from(borders: [BorderMode<i64>; 3]) -> Borders {
+        Borders(borders)
+    }
+}
+
+impl From<BorderMode<i64>> for Borders {
+    fn from(border: BorderMode<i64>) -> Borders {
+        Borders([border; 3])
+    }
+}
+
+impl Borders {
+    pub(crate) fn coded(self) -> ([u8; 3], [i64; 3]) {
+        let coded = self.0.map(BorderMode::coded);
+        (coded.map(|(code, _)| code), coded.map(|(_, constant)| constant))
+    }
+}
+
 /// What a grid is padded with. The pictures show the cells 1 2 3 with pads of 2.
 #[derive(Clone, Copy, Debug, PartialEq, Eq)]
 pub enum PadMode {

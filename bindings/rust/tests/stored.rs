@@ -33,7 +33,18 @@ fn stored_requests() {
 #[test]
 fn lent_beyond_memory() {
     assert_eq!(requests::answer("pad 1 3 3 1 2 3 reflect 1 2 2 18446744073709551615"), "refused 10");
-    assert_eq!(requests::answer("sobel 1 3 3 1 2 3 0 nearest 3 18446744073709551615"), "refused 2");
+    assert_eq!(requests::answer("sobel 1 3 3 1 2 3 0 nearest nearest nearest 3 18446744073709551615"), "refused 2");
+}
+
+/// A border for each axis; those past the axis count are neither read nor judged.
+#[test]
+fn borders_of_each_axis() {
+    assert_eq!(requests::answer("sobel 2 2 2 4 1 2 3 4 0 constant 0 nearest mirror 4 4"), "13 15 -5 -7");
+    assert_eq!(requests::answer("minimum_filter 2 2 2 4 5 3 4 9 2 nearest wrap mirror 0 4 4"), "3 3 3 3");
+    assert_eq!(requests::answer("uniform_filter 2 2 3 6 9 6 -3 12 0 15 2 constant 5 constant 9 mirror 6 6"), "8 6 3 9 6 4");
+    assert_eq!(requests::answer("maximum_filter 1 1 1 7 5 nearest mirror constant 2147483648 0 1 1"), "7");
+    assert_eq!(requests::answer("maximum_filter 2 1 1 1 7 5 nearest mirror constant 2147483648 0 1 1"), "refused 11");
+    assert_eq!(requests::answer("prewitt 3 1 1 1 1 7 0 nearest nearest constant 2147483648 1 1"), "refused 9");
 }
 
 /// More pairs of pads than axes.

@@ -8,12 +8,18 @@
 --   inside n z                     whether coordinate z is on an axis of n cells
 --   allInside ns q                 whether the coordinate of q on every axis is inside
 --   extendedLane b n h z           the level at coordinate z of the n cells h, extended on both sides
---   extendedGrid d b ns cells q    the level at coordinates q of the extended grid; d as in levelAt
+--   ownConstant b n z              the constant of an axis of n cells, where its border is constant and z is outside
+--   outerConstants bs ns q         the constants of the axes along which q is so outside, the lowest axis first
+--   cellUnder b n z                the cell that coordinate z reads on an axis of n cells, where it reads one
+--   extendedGridBy d bs ns cells q    the level at coordinates q of the grid, extended along axis a by bs a; d as in
+--                                  levelAt
+--   extendedGrid d b ns cells q    the same with one border for every axis
 use Prim.Native.Nat.{ℕ, suc, _+_, _-_}
 use mathlib.Core.Bool.{Bool, true, false, _&&_, cond}
-use mathlib.Core.List.{List, [], _∷_}
+use mathlib.Core.List.{List, [], _∷_, _++_}
 use lib.Dec.{ltb}
 use lib.IntN.{ℤ, pos, negsuc, natAbs}
+use lib.ListN.{getD}
 use Rattle.array_spec.specs.Grid.{lengthOf, levelAt}
 use Rattle.border.specs.declared.CellBorder.{CellBorder}
 use Rattle.border.specs.declared.CellBorder.the-variants.{Nearest, Mirror, Reflect, Wrap}
@@ -51,8 +57,23 @@ unfoldable pub extendedLane : {A : Type 0} → Border A → ℕ → (ℕ → A) 
 extendedLane (constant c) n h z = cond (inside n z) (h (natAbs z)) c
 extendedLane (along m) n h z = h (cellFor m n z)
 
--- Under constant a cell is the constant as soon as one coordinate is outside; under other borders each coordinate is
--- mapped by itself.
-unfoldable pub extendedGrid : {A : Type 0} → A → Border A → List ℕ → List A → (ℕ → ℤ) → A
-extendedGrid d (constant c) ns cells q = cond (allInside ns q) (levelAt d ns cells (λ a. natAbs (q a))) c
-extendedGrid d (along m) ns cells q = levelAt d ns cells (λ a. cellFor m (lengthOf ns a) (q a))
+abbrev pub ownConstant : {A : Type 0} → Border A → ℕ → ℤ → List A
+ownConstant (constant c) n z = cond (inside n z) [] (c ∷ [])
+ownConstant (along m) n z = []
+
+unfoldable pub outerConstants : {A : Type 0} → (ℕ → Border A) → List ℕ → (ℕ → ℤ) → List A
+outerConstants bs [] q = []
+outerConstants bs (n ∷ ns) q = ownConstant (bs 0) n (q 0) ++ outerConstants (λ a. bs (suc a)) ns (λ a. q (suc a))
+
+abbrev pub cellUnder : {A : Type 0} → Border A → ℕ → ℤ → ℕ
+cellUnder (constant c) n z = natAbs z
+cellUnder (along m) n z = cellFor m n z
+
+-- A cell outside along one or more constant axes takes the constant of the lowest of them; for any other each
+-- coordinate is mapped by its own axis's border.
+unfoldable pub extendedGridBy : {A : Type 0} → A → (ℕ → Border A) → List ℕ → List A → (ℕ → ℤ) → A
+extendedGridBy d bs ns cells q = getD (outerConstants bs ns q) 0
+    (levelAt d ns cells (λ a. cellUnder (bs a) (lengthOf ns a) (q a)))
+
+abbrev pub extendedGrid : {A : Type 0} → A → Border A → List ℕ → List A → (ℕ → ℤ) → A
+extendedGrid d b ns cells q = extendedGridBy d (λ _. b) ns cells q

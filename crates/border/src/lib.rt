@@ -2,13 +2,19 @@
 // What a border extends a lane and a grid to is a definition: specs/Border.antt.
 ghost use mathlib.Core.Path.{_≡_};
 ghost use Prim.Native.Nat.{_-_};
+ghost use lib.IntN.{ℤ};
+ghost use Rattle.border.specs.Axes.{OneBorder};
+ghost use Rattle.border.specs.AxesRows.{AxesRows};
 ghost use Rattle.border.specs.Border.{cellBefore, cellAfter};
 ghost use Rattle.border.specs.Modes.{padModeOf, kindOf};
 ghost use Rattle.border.specs.Rows.{BorderRows};
 
+mod axes;
 mod constant;
 mod reach;
 
+pub use axes::bad_constant_any;
+pub use axes::mode_on;
 pub use constant::bad_constant;
 pub use constant::bad_constant_f64;
 pub use reach::bad_along;
@@ -156,7 +162,13 @@ pub fn kind_of(mode: BorderModeF64) -> BorderMode
     }
 }
 
-// Worked rows of this crate's definitions: T1, cells of extended grids, padding modes, and constants at their limits.
+// The extended grid of one border for every axis is document 01's.
+pub fn one_border()
+    ensures { λ _. ⌜ OneBorder ℤ ⌝ }
+{}
+
+// Worked rows of this crate's definitions: T1, cells of extended grids, padding modes, and constants at their limits;
+// the same with a border for each axis.
 pub fn rows()
-    ensures { λ _. ⌜ BorderRows ⌝ }
+    ensures { λ _. ⌜ BorderRows × AxesRows ⌝ }
 {}

@@ -6,8 +6,9 @@ ghost use lib.ListN.{length};
 ghost use lib.Signed.{leZ};
 ghost use Rattle.numbers.specs.Order.{atLeast};
 ghost use Rattle.numbers.specs.Refusal.{Answers, ScratchAnswers};
+ghost use Rattle.border.specs.Axes.{bordersOf};
 ghost use Rattle.border.specs.Modes.{borderOf};
-ghost use Rattle.min_max_judge.specs.Judge.{callOf, filterJudged};
+ghost use Rattle.min_max_judge.specs.Judge.{gridCallOf, filterJudged};
 ghost use Rattle.correlate_spec.specs.Kernel.{correlateZ, convolveZ};
 ghost use Rattle.correlate_judge_spec.specs.KernelJudge.{kernelJudged};
 ghost use Rattle.gradient_spec.specs.Gradient.{prewittWeights, sobelWeights, gradient as gradientOf};
@@ -16,6 +17,7 @@ ghost use Rattle.uniform_spec.specs.Uniform.{uniform as uniformOf};
 ghost use Rattle.uniform_spec.specs.Judge.{uniformJudged};
 ghost use Rattle.min_max_spec.specs.Filters.{filterAnswer};
 ghost use Rattle.codes.specs.Codes.{modeOf, unknownBorder, coded};
+ghost use Rattle.codes_cells.specs.Borders.{modesOf, unknownBorders};
 
 // The sums of each window times the weights of a grid kernel; the call `correlate`.
 //
@@ -102,7 +104,8 @@ pub extern "C" fn suvvokal_convolve(
 // * `data` - the cells of the grid, in row-major order.
 // * `shape` - the length of each axis.
 // * `axis` - the axis of the difference.
-// * `code`, `constant` - the border: 0 constant, 1 mirror, 2 nearest, 3 reflect, 4 wrap.
+// * `codes`, `constants` - the border of each axis: 0 constant, 1 mirror, 2 nearest, 3 reflect, 4 wrap; those past the
+//   axis count are not read, a missing code is unknown and a missing constant 0.
 // * `second` - a second grid as long as data; an accepted call leaves zeros in it.
 // * `out` - as long as data. A refused call leaves both lent grids as they were.
 //
@@ -113,23 +116,25 @@ pub extern "C" fn suvvokal_prewitt(
     data: &[i64],
     shape: &[usize],
     axis: usize,
-    code: u8,
-    constant: i64,
+    codes: &[u8],
+    constants: &[i64],
     second: &mut [i64],
     out: &mut [i64],
 ) -> u8
     ensures { λ r. ⌜ ScratchAnswers (pos 0) (coded
-        (gradientJudged prewittWeights (borderOf (modeOf code constant)) (now (shape .entry)) axis (now («data» .entry))
-        (length (now (out .entry))) (length (now (second .entry)))) (unknownBorder code))
-        (gradientOf prewittWeights (borderOf (modeOf code constant)) (now (shape .entry)) axis (now («data» .entry)))
-        (now (out .entry)) (now (second .entry) ∷ []) r (now (out .exit)) (now (second .exit) ∷ []) ⌝ }
+        (gradientJudged prewittWeights (bordersOf (modesOf (now (codes .entry)) (now (constants .entry))))
+        (now (shape .entry)) axis (now («data» .entry)) (length (now (out .entry))) (length (now (second .entry))))
+        (unknownBorders (now (codes .entry)) (now (shape .entry))))
+        (gradientOf prewittWeights (bordersOf (modesOf (now (codes .entry)) (now (constants .entry))))
+        (now (shape .entry)) axis (now («data» .entry))) (now (out .entry)) (now (second .entry) ∷ []) r
+        (now (out .exit)) (now (second .exit) ∷ []) ⌝ }
 {
-    let mode = codes::mode_of(code, constant);
-    if 4 < code {
-        let refusal = gradient::judge_gradient(data, shape, axis, mode, out.len(), second.len());
+    let modes = codes_cells::modes_of(codes, constants);
+    if codes_cells::unknown_any(codes, shape) {
+        let refusal = gradient::judge_gradient(data, shape, axis, modes, out.len(), second.len());
         return codes::unknown_after(refusal);
     }
-    gradient::prewitt(data, shape, axis, mode, second, out)
+    gradient::prewitt(data, shape, axis, modes, second, out)
 }
 
 // As `suvvokal_prewitt`, smoothed by 1 2 1; the call `sobel`. Of the rows 1 2 / 3 4 along axis 0 under constant 0: 10
@@ -139,23 +144,25 @@ pub extern "C" fn suvvokal_sobel(
     data: &[i64],
     shape: &[usize],
     axis: usize,
-    code: u8,
-    constant: i64,
+    codes: &[u8],
+    constants: &[i64],
     second: &mut [i64],
     out: &mut [i64],
 ) -> u8
     ensures { λ r. ⌜ ScratchAnswers (pos 0) (coded
-        (gradientJudged sobelWeights (borderOf (modeOf code constant)) (now (shape .entry)) axis (now («data» .entry))
-        (length (now (out .entry))) (length (now (second .entry)))) (unknownBorder code))
-        (gradientOf sobelWeights (borderOf (modeOf code constant)) (now (shape .entry)) axis (now («data» .entry)))
-        (now (out .entry)) (now (second .entry) ∷ []) r (now (out .exit)) (now (second .exit) ∷ []) ⌝ }
+        (gradientJudged sobelWeights (bordersOf (modesOf (now (codes .entry)) (now (constants .entry))))
+        (now (shape .entry)) axis (now («data» .entry)) (length (now (out .entry))) (length (now (second .entry))))
+        (unknownBorders (now (codes .entry)) (now (shape .entry))))
+        (gradientOf sobelWeights (bordersOf (modesOf (now (codes .entry)) (now (constants .entry))))
+        (now (shape .entry)) axis (now («data» .entry))) (now (out .entry)) (now (second .entry) ∷ []) r
+        (now (out .exit)) (now (second .exit) ∷ []) ⌝ }
 {
-    let mode = codes::mode_of(code, constant);
-    if 4 < code {
-        let refusal = gradient::judge_gradient(data, shape, axis, mode, out.len(), second.len());
+    let modes = codes_cells::modes_of(codes, constants);
+    if codes_cells::unknown_any(codes, shape) {
+        let refusal = gradient::judge_gradient(data, shape, axis, modes, out.len(), second.len());
         return codes::unknown_after(refusal);
     }
-    gradient::sobel(data, shape, axis, mode, second, out)
+    gradient::sobel(data, shape, axis, modes, second, out)
 }
 
 // The means along every axis, in rising order, each pass cut toward zero; the call `uniform_filter`.
@@ -163,7 +170,8 @@ pub extern "C" fn suvvokal_sobel(
 // * `data` - the cells of the grid, in row-major order.
 // * `shape` - the length of each axis.
 // * `size` - the length of the window on every axis.
-// * `code`, `constant` - the border: 0 constant, 1 mirror, 2 nearest, 3 reflect, 4 wrap.
+// * `codes`, `constants` - the border of each axis: 0 constant, 1 mirror, 2 nearest, 3 reflect, 4 wrap; those past the
+//   axis count are not read, a missing code is unknown and a missing constant 0.
 // * `second` - a second grid as long as data; an accepted call leaves zeros in it.
 // * `out` - as long as data. A refused call leaves both lent grids as they were.
 //
@@ -174,23 +182,25 @@ pub extern "C" fn suvvokal_uniform_filter(
     data: &[i64],
     shape: &[usize],
     size: usize,
-    code: u8,
-    constant: i64,
+    codes: &[u8],
+    constants: &[i64],
     second: &mut [i64],
     out: &mut [i64],
 ) -> u8
     ensures { λ r. ⌜ ScratchAnswers (pos 0) (coded
-        (uniformJudged (borderOf (modeOf code constant)) size (now (shape .entry)) (now («data» .entry))
-        (length (now (out .entry))) (length (now (second .entry)))) (unknownBorder code))
-        (uniformOf (borderOf (modeOf code constant)) size (now (shape .entry)) (now («data» .entry))) (now (out .entry))
-        (now (second .entry) ∷ []) r (now (out .exit)) (now (second .exit) ∷ []) ⌝ }
+        (uniformJudged (bordersOf (modesOf (now (codes .entry)) (now (constants .entry)))) size (now (shape .entry))
+        (now («data» .entry)) (length (now (out .entry))) (length (now (second .entry))))
+        (unknownBorders (now (codes .entry)) (now (shape .entry))))
+        (uniformOf (bordersOf (modesOf (now (codes .entry)) (now (constants .entry)))) size (now (shape .entry))
+        (now («data» .entry))) (now (out .entry)) (now (second .entry) ∷ []) r (now (out .exit))
+        (now (second .exit) ∷ []) ⌝ }
 {
-    let mode = codes::mode_of(code, constant);
-    if 4 < code {
-        let refusal = uniform::judge_uniform(data, shape, size, mode, out.len(), second.len());
+    let modes = codes_cells::modes_of(codes, constants);
+    if codes_cells::unknown_any(codes, shape) {
+        let refusal = uniform::judge_uniform(data, shape, size, modes, out.len(), second.len());
         return codes::unknown_after(refusal);
     }
-    uniform::uniform_filter(data, shape, size, mode, second, out)
+    uniform::uniform_filter(data, shape, size, modes, second, out)
 }
 
 // The least level of each cell's box: the minimum along every axis; the call `minimum_filter`.
@@ -198,7 +208,8 @@ pub extern "C" fn suvvokal_uniform_filter(
 // * `data` - the cells of the grid, in row-major order.
 // * `shape` - the length of each axis.
 // * `size` - the length of the window on every axis.
-// * `code`, `constant` - the border: 0 constant, 1 mirror, 2 nearest, 3 reflect, 4 wrap.
+// * `codes`, `constants` - the border of each axis: 0 constant, 1 mirror, 2 nearest, 3 reflect, 4 wrap; those past the
+//   axis count are not read, a missing code is unknown and a missing constant 0.
 // * `origin` - how far the window is moved on every axis.
 // * `second` - a second grid as long as data; an accepted call leaves zeros in it.
 // * `out` - as long as data. A refused call leaves both lent grids as they were.
@@ -210,33 +221,34 @@ pub extern "C" fn suvvokal_minimum_filter(
     data: &[i64],
     shape: &[usize],
     size: usize,
-    code: u8,
-    constant: i64,
+    codes: &[u8],
+    constants: &[i64],
     origin: isize,
     second: &mut [i64],
     out: &mut [i64],
 ) -> u8
     ensures { λ r. ⌜ ScratchAnswers (pos 0) (coded
-        (filterJudged (now («data» .entry)) (callOf (now (shape .entry)) size 0 (modeOf code constant) origin
-        (now (out .entry))) (length (now (second .entry)))) (unknownBorder code))
-        (filterAnswer leZ (callOf (now (shape .entry)) size 0 (modeOf code constant) origin (now (out .entry)))
-        (now («data» .entry))) (now (out .entry)) (now (second .entry) ∷ []) r (now (out .exit))
-        (now (second .exit) ∷ []) ⌝ }
+        (filterJudged (now («data» .entry)) (gridCallOf (now (shape .entry)) size
+        (modesOf (now (codes .entry)) (now (constants .entry))) origin (now (out .entry)))
+        (length (now (second .entry)))) (unknownBorders (now (codes .entry)) (now (shape .entry))))
+        (filterAnswer leZ (gridCallOf (now (shape .entry)) size
+        (modesOf (now (codes .entry)) (now (constants .entry))) origin (now (out .entry))) (now («data» .entry)))
+        (now (out .entry)) (now (second .entry) ∷ []) r (now (out .exit)) (now (second .exit) ∷ []) ⌝ }
 {
-    let mode = codes::mode_of(code, constant);
-    if 4 < code {
+    let modes = codes_cells::modes_of(codes, constants);
+    if codes_cells::unknown_any(codes, shape) {
         let refusal = min_max_judge::judge_filter(
             data,
             shape,
             size,
-            mode,
+            modes,
             origin,
             out,
             second.len(),
         );
         return codes::unknown_after(refusal);
     }
-    min_max::minimum_filter(data, shape, size, mode, origin, second, out)
+    min_max::minimum_filter(data, shape, size, modes, origin, second, out)
 }
 
 // As `suvvokal_minimum_filter`, with the greatest level; the call `maximum_filter`. Of the rows 5 3 / 4 9 with size 2
@@ -246,31 +258,32 @@ pub extern "C" fn suvvokal_maximum_filter(
     data: &[i64],
     shape: &[usize],
     size: usize,
-    code: u8,
-    constant: i64,
+    codes: &[u8],
+    constants: &[i64],
     origin: isize,
     second: &mut [i64],
     out: &mut [i64],
 ) -> u8
     ensures { λ r. ⌜ ScratchAnswers (pos 0) (coded
-        (filterJudged (now («data» .entry)) (callOf (now (shape .entry)) size 0 (modeOf code constant) origin
-        (now (out .entry))) (length (now (second .entry)))) (unknownBorder code))
-        (filterAnswer atLeast (callOf (now (shape .entry)) size 0 (modeOf code constant) origin (now (out .entry)))
-        (now («data» .entry))) (now (out .entry)) (now (second .entry) ∷ []) r (now (out .exit))
-        (now (second .exit) ∷ []) ⌝ }
+        (filterJudged (now («data» .entry)) (gridCallOf (now (shape .entry)) size
+        (modesOf (now (codes .entry)) (now (constants .entry))) origin (now (out .entry)))
+        (length (now (second .entry)))) (unknownBorders (now (codes .entry)) (now (shape .entry))))
+        (filterAnswer atLeast (gridCallOf (now (shape .entry)) size
+        (modesOf (now (codes .entry)) (now (constants .entry))) origin (now (out .entry))) (now («data» .entry)))
+        (now (out .entry)) (now (second .entry) ∷ []) r (now (out .exit)) (now (second .exit) ∷ []) ⌝ }
 {
-    let mode = codes::mode_of(code, constant);
-    if 4 < code {
+    let modes = codes_cells::modes_of(codes, constants);
+    if codes_cells::unknown_any(codes, shape) {
         let refusal = min_max_judge::judge_filter(
             data,
             shape,
             size,
-            mode,
+            modes,
             origin,
             out,
             second.len(),
         );
         return codes::unknown_after(refusal);
     }
-    min_max::maximum_filter(data, shape, size, mode, origin, second, out)
+    min_max::maximum_filter(data, shape, size, modes, origin, second, out)
 }

@@ -1,5 +1,5 @@
--- A call whose border or mode is a code: under a known code the library's answers stand as they are, and an unknown one gets the judge's number,
--- or 100, and nothing that was lent changes. n is the greatest code that names something.
+-- A call whose borders or mode are codes: under known codes the library's answers stand as they are, and an unknown one gets the judge's number,
+-- or 100, and nothing that was lent changes.
 -- Assumes nothing.
 use mathlib.Core.Path.{_≡_, refl, sym, ap, _∙_}
 use mathlib.Core.Bool.{Bool, true, false, cond}
@@ -39,21 +39,30 @@ never-accepted q f z = go (eqb q 0) refl (sym f ∙ z)
     go true e = hundred
     go false e = eqb-false q 0 e
 
+-- u is the last condition: whether some code is unknown
+module _ {A : Type 0} (js : Judged) {levels held : List A} {u : Bool} where
+  pub answers-without : {r : ℕ} {left : List A} → u ≡ false → Answers js levels held r left → Answers (coded js u) levels held r left
+  answers-without h a = record { number = a .number ∙ number-known js u h; cells = a .cells }
+
+  pub answers-with : (q : ℕ) {r : ℕ} → Every (λ j. T (ltb 0 (j .1))) js → u ≡ true → q ≡ refusalOf js → r ≡ cond (eqb q 0) 100 q
+      → Answers (coded js u) levels held r held
+  answers-with q {r} p h e f = answers-refused (coded js u) levels held r (number-unknown js u p e f h) (never-accepted q f)
+
+-- one code, of which n is the greatest that names something
 module _ {A : Type 0} (js : Judged) {levels held : List A} (n : ℕ) {code : ℕ} where
   pub answers-known : {r : ℕ} {left : List A} → code ≤ n → Answers js levels held r left → Answers (coded js (ltb n code)) levels held r left
-  answers-known h a = record { number = a .number ∙ number-known js (ltb n code) (le-ltb n code h); cells = a .cells }
+  answers-known h = answers-without js (le-ltb n code h)
 
   pub answers-unknown : (q : ℕ) {r : ℕ} → Every (λ j. T (ltb 0 (j .1))) js → n < code → q ≡ refusalOf js → r ≡ cond (eqb q 0) 100 q
       → Answers (coded js (ltb n code)) levels held r held
-  answers-unknown q {r} p h e f = answers-refused (coded js (ltb n code)) levels held r (number-unknown js (ltb n code) p e f (lt-ltb n code h)) (never-accepted q f)
+  answers-unknown q p h = answers-with js q p (lt-ltb n code h)
 
--- the same of a call that is lent scratch grids besides
-module _ {A : Type 0} (zero : A) (js : Judged) {levels held : List A} {scratch : List (List A)} (n : ℕ) {code : ℕ} where
-  pub scratch-known : {r : ℕ} {left : List A} {scratch′ : List (List A)} → code ≤ n → ScratchAnswers zero js levels held scratch r left scratch′
-      → ScratchAnswers zero (coded js (ltb n code)) levels held scratch r left scratch′
-  scratch-known h a = record { filled = answers-known js n h (a .filled); cleared = a .cleared }
+-- a call that is lent scratch grids besides
+module _ {A : Type 0} (zero : A) (js : Judged) {levels held : List A} {scratch : List (List A)} {u : Bool} where
+  pub scratch-known : {r : ℕ} {left : List A} {scratch′ : List (List A)} → u ≡ false → ScratchAnswers zero js levels held scratch r left scratch′
+      → ScratchAnswers zero (coded js u) levels held scratch r left scratch′
+  scratch-known h a = record { filled = answers-without js h (a .filled); cleared = a .cleared }
 
-  pub scratch-unknown : (q : ℕ) {r : ℕ} → Every (λ j. T (ltb 0 (j .1))) js → n < code → q ≡ refusalOf js → r ≡ cond (eqb q 0) 100 q
-      → ScratchAnswers zero (coded js (ltb n code)) levels held scratch r held scratch
-  scratch-unknown q {r} p h e f =
-      scratch-refused zero (coded js (ltb n code)) levels held scratch r (number-unknown js (ltb n code) p e f (lt-ltb n code h)) (never-accepted q f)
+  pub scratch-unknown : (q : ℕ) {r : ℕ} → Every (λ j. T (ltb 0 (j .1))) js → u ≡ true → q ≡ refusalOf js → r ≡ cond (eqb q 0) 100 q
+      → ScratchAnswers zero (coded js u) levels held scratch r held scratch
+  scratch-unknown q {r} p h e f = scratch-refused zero (coded js u) levels held scratch r (number-unknown js u p e f h) (never-accepted q f)

@@ -1,3 +1,4 @@
--- Pads and kernels as slices.
+-- Borders, pads and kernels as slices.
+pub mod Borders
 pub mod Cells
 pub mod Rows

@@ -1,18 +1,17 @@
 -- The sums row by row are the sums of the definition: on three axes, and on fewer, where an outer axis of one cell is added.
 -- Assumes nothing.
 use mathlib.Core.Path.{_≡_, refl, sym, ap, subst, _∙_}
-use mathlib.Core.Bool.{_&&_, cond}
-use mathlib.Core.List.{List, [], _∷_}
+use mathlib.Core.List.{List, [], _∷_, _++_}
 use Prim.Native.Nat.{ℕ, zero, suc, _+_, _*_, _/_, _%_, _<_}
 use native.Mathlib.Nat.{mul-one, mul-comm, mul-assoc, div-one, div-div-eq-div-mul, mod-eq-of-lt, div-eq-of-lt, suc-mul, add-zero, add-suc}
 use native.Mathlib.Omega.{arith}
 use lib.Arith.{digits-lt, digits-div, digits-mod}
-use lib.IntN.{ℤ, pos, natAbs, _+ℤ_, _-ℤ_, _*ℤ_, +ℤ-idr, +ℤ-assoc}
+use lib.IntN.{ℤ, pos, _+ℤ_, _-ℤ_, _*ℤ_, +ℤ-idr, +ℤ-assoc}
 use lib.ListN.{length, getD}
 use Rattle.array_spec.specs.Grid.{cellCount, lengthOf, placeOf, coordinate}
 use Rattle.array_spec.proofs.Places.{Positive}
 use Rattle.array_spec.proofs.Strides.{coordinate-digit}
-use Rattle.border.specs.Border.{Border, constant, along, cellFor, inside, allInside, extendedGrid}
+use Rattle.border.specs.Border.{Border, constant, along, cellFor, ownConstant, outerConstants, cellUnder, extendedGridBy, extendedGrid}
 use Rattle.correlate_spec.specs.Weighed.{summed}
 use Rattle.correlate_spec.proofs.Summed.{summed-agree}
 use Rattle.correlate_grid_axes.specs.declared.axes.Axis.{Axis}
@@ -61,9 +60,8 @@ module _ (a b c k : ℕ) (pa : 0 < a) (pb : 0 < b) (pc : 0 < c) (h : k < a * (b 
 
 -- a level on three axes depends on three coordinates
 level-three : (b : Border ℤ) (n m l : ℕ) (cells : List ℤ) (q : ℕ → ℤ) → extendedGrid (pos 0) b (n ∷ m ∷ l ∷ []) cells q ≡ extendedGrid (pos 0) b (n ∷ m ∷ l ∷ []) cells (three (q 0) (q 1) (q 2))
-unfolding extendedGrid allInside placeOf
-level-three (constant c) n m l cells q = refl
-level-three (along a) n m l cells q = refl
+unfolding extendedGridBy outerConstants placeOf
+level-three b n m l cells q = refl
 
 pub count-three : (a b c : ℕ) → a * (b * (c * 1)) ≡ a * b * c
 count-three a b c = ap (λ (x : ℕ). a * (b * x)) (mul-one c) ∙ sym (mul-assoc a b c)
@@ -118,19 +116,24 @@ module _ {b : Border ℤ} {x y z : Axis} {w cells : List ℤ} (L : KernelNeeds b
 
 -- ---- an outer axis of one cell
 level-lifted : (b : Border ℤ) (ns : List ℕ) (cells : List ℤ) (q : ℕ → ℤ) → q 0 ≡ pos 0 → extendedGrid (pos 0) b (1 ∷ ns) cells q ≡ extendedGrid (pos 0) b ns cells (λ a. q (suc a))
-unfolding extendedGrid allInside placeOf cellFor
-level-lifted (constant c) ns cells q e =
-    (λ i. cond (inside 1 (e i) && allInside ns (λ a. q (suc a))) (getD cells (natAbs (e i) * cellCount ns + placeOf ns (λ a. natAbs (q (suc a)))) (pos 0)) c)
-    ∙ ap (λ (k : ℕ). cond (allInside ns (λ a. q (suc a))) (getD cells k (pos 0)) c) (front (cellCount ns) (placeOf ns (λ a. natAbs (q (suc a)))))
+unfolding extendedGridBy outerConstants placeOf cellFor
+level-lifted b ns cells q e = (λ i. level (e i)) ∙ at-front b
   where
+    others : List ℤ
+    others = outerConstants (λ _. b) ns (λ a. q (suc a))
+
+    place : ℕ
+    place = placeOf ns (λ a. cellUnder b (lengthOf ns a) (q (suc a)))
+
+    level : ℤ → ℤ
+    level u = getD (ownConstant b 1 u ++ others) 0 (getD cells (cellUnder b 1 u * cellCount ns + place) (pos 0))
+
     front : (m p : ℕ) → 0 * m + p ≡ p
     front m p = omega arith
-level-lifted (along m) ns cells q e =
-    (λ i. getD cells (cellFor m 1 (e i) * cellCount ns + placeOf ns (λ a. cellFor m (lengthOf ns a) (q (suc a)))) (pos 0))
-    ∙ ap (λ (k : ℕ). getD cells k (pos 0)) (front (cellCount ns) (placeOf ns (λ a. cellFor m (lengthOf ns a) (q (suc a)))))
-  where
-    front : (m p : ℕ) → 0 * m + p ≡ p
-    front m p = omega arith
+
+    at-front : (b : Border ℤ) → getD (ownConstant b 1 (pos 0) ++ others) 0 (getD cells (cellUnder b 1 (pos 0) * cellCount ns + place) (pos 0)) ≡ getD others 0 (getD cells place (pos 0))
+    at-front (constant c) = ap (λ (k : ℕ). getD others 0 (getD cells k (pos 0))) (front (cellCount ns) place)
+    at-front (along m) = ap (λ (k : ℕ). getD others 0 (getD cells k (pos 0))) (front (cellCount ns) place)
 
 abbrev pub lifted : (ℕ → ℕ) → ℕ → ℕ
 lifted lefts zero = 0

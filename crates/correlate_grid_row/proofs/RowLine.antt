@@ -19,6 +19,7 @@ use Rattle.lanes.specs.Lanes.{lane, laneBase, laneAt}
 use Rattle.lanes.proofs.Cells.{length-laneAt, base-neighbours}
 use Rattle.border.specs.Border.{Border, constant, along, cellFor, inside, allInside, extendedLane, extendedGrid}
 use Rattle.border.specs.Modes.{badConstantBy}
+use Rattle.border.proofs.OneBorder.{under-constant, under-cells}
 use Rattle.pad_line.specs.Line.{paddedAt, paddedLine, PadNeeds}
 use Rattle.pad_line.proofs.Padded.{length-padded, getD-padded}
 use Rattle.pad_line.proofs.EveryPadded.{any-table, any-padded}
@@ -144,11 +145,12 @@ module _ (z : Axis) (n m : ℕ) (cells : List ℤ) (k : ℕ) (h : k < z .left + 
   -- the row that the sources of u and v name holds the extended grid at u and v
   pub row-level : (b : Border ℤ) (u v : ℤ) → ReadsIn b n u → ReadsIn b m v → ReadsIn b (z .len) (pos k -ℤ pos (z .left))
       → getD (rowLine b z (n * m) (rowFor (sourceFor b n u) (sourceFor b m v) m (n * m)) cells) k (pos 0) ≡ extendedGrid (pos 0) b (n ∷ m ∷ z .len ∷ []) cells (three u v (pos k -ℤ pos (z .left)))
-  unfolding extendedGrid sourceFor allInside placeOf extendedLane
-  row-level (constant c) u v p q r = constant-level c u v (inside n u) (inside m v) refl refl
+  unfolding sourceFor allInside placeOf extendedLane
+  row-level (constant c) u v p q r = constant-level c u v (inside n u) (inside m v) refl refl ∙ sym (under-constant (pos 0) c (n ∷ m ∷ z .len ∷ []) cells (three u v y))
   row-level (along a) u v p q r =
       row-cell (along a) z (n * m) (cellFor a n u * m + cellFor a m v) cells k h r (below p q)
       ∙ ap (λ (i : ℕ). getD cells i (pos 0)) (place-row (cellFor a n u) (cellFor a m v) (cellFor a (z .len) y) m (z .len))
+      ∙ sym (under-cells (pos 0) a (n ∷ m ∷ z .len ∷ []) cells (three u v y))
 
 -- ---- a level is within the limit of a line's cells
 any-imp : {A : Type 0} (t u : A → Bool) → ((x : A) → t x ≡ false → u x ≡ false) → (s : List A) → anyOf t s ≡ false → anyOf u s ≡ false

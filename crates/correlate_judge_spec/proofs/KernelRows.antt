@@ -4,7 +4,7 @@ use mathlib.Core.Path.{refl}
 use Rattle.numbers.specs.Lists.{tabulate}
 use Rattle.array_spec.specs.Conditions.{badShape, gridCount, badLevel}
 use Rattle.array_spec.specs.Grid.{placeOf, coordinate}
-use Rattle.border.specs.Border.{cellFor, extendedGrid}
+use Rattle.border.specs.Border.{cellFor, outerConstants, extendedGridBy}
 use Rattle.window_spec.specs.Origin.{badOrigin}
 use Rattle.correlate_spec.specs.Weighed.{summed}
 use Rattle.correlate_spec.specs.Kernel.{kernelSum, kernelAnswer}
@@ -13,7 +13,7 @@ use Rattle.correlate_judge_spec.specs.KernelJudge.{badKernel}
 use Rattle.correlate_judge_spec.specs.KernelRows.{KernelRows}
 
 pub kernel-rows : KernelRows
-unfolding badKernel badOrigin badShape gridCount badLevel badWeight tabulate placeOf coordinate cellFor extendedGrid summed kernelSum kernelAnswer
+unfolding badKernel badOrigin badShape gridCount badLevel badWeight tabulate placeOf coordinate cellFor outerConstants extendedGridBy summed kernelSum kernelAnswer
 kernel-rows = record {
   unequal = refl;
   sides = refl;

@@ -1,7 +1,7 @@
 -- The size of a grid kernel's sums: at most the number of weights, times the greatest level, times the greatest weight.
 -- Assumes nothing.
 use Prim.Native.Nat.{ℕ, _+_, _*_, _^_, _<_}
-use mathlib.Core.Path.{_≡_}
+use mathlib.Core.Path.{_≡_, sym, subst}
 use mathlib.Core.Bool.{false}
 use mathlib.Core.List.{List}
 use native.Mathlib.Omega.{arith}
@@ -15,17 +15,18 @@ use Rattle.numbers.proofs.Tabulate.{every-table}
 use Rattle.numbers.proofs.Tests.{cond-ind}
 use Rattle.array_spec.specs.Grid.{cellCount, lengthOf, placeOf, coordinate}
 use Rattle.border.specs.Border.{Border, constant, along, cellFor, allInside, extendedGrid}
+use Rattle.border.proofs.OneBorder.{under-constant, under-cells}
 use Rattle.pad_line.proofs.Sizes.{SizedBorder}
 use Rattle.correlate_spec.specs.Kernel.{kernelSum, kernelAnswer}
 use Rattle.correlate_spec.proofs.Sizes.{size-summed}
 
 -- a level of the extended grid
 pub extended-sized : (p : ℕ) (b : Border ℤ) → SizedBorder p b → (ns : List ℕ) (cells : List ℤ) → Sized p cells → (q : ℕ → ℤ) → Size (extendedGrid (pos 0) b ns cells q) p
-unfolding extendedGrid
 extended-sized p (constant c) r ns cells h q =
-    cond-ind (allInside ns q) (getD cells (placeOf ns (λ a. natAbs (q a))) (pos 0)) c (λ z. Size z p)
-    (λ t. member-sized p cells h (placeOf ns (λ a. natAbs (q a)))) (λ t. r)
-extended-sized p (along m) r ns cells h q = member-sized p cells h (placeOf ns (λ a. cellFor m (lengthOf ns a) (q a)))
+    subst (λ z. Size z p) (sym (under-constant (pos 0) c ns cells q))
+    (cond-ind (allInside ns q) (getD cells (placeOf ns (λ a. natAbs (q a))) (pos 0)) c (λ z. Size z p)
+    (λ t. member-sized p cells h (placeOf ns (λ a. natAbs (q a)))) (λ t. r))
+extended-sized p (along m) r ns cells h q = subst (λ z. Size z p) (sym (under-cells (pos 0) m ns cells q)) (member-sized p cells h (placeOf ns (λ a. cellFor m (lengthOf ns a) (q a))))
 
 module _ (p q : ℕ) (b : Border ℤ) (r : SizedBorder p b) (w : List ℤ) (k : Sized q w) (ns : List ℕ) (cells : List ℤ) (h : Sized p cells) where
   -- one term of a sum

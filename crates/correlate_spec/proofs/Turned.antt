@@ -2,16 +2,15 @@
 -- Assumes nothing.
 use Prim.Native.Nat.{ℕ, zero, suc, _+_, _-_, _*_, _/_, _%_, _<_, zero-le, suc-le-suc}
 use mathlib.Core.Path.{_≡_, refl, sym, ap, _∙_}
-use mathlib.Core.Bool.{_&&_, cond}
-use mathlib.Core.List.{List, [], _∷_}
+use mathlib.Core.List.{List, [], _∷_, _++_}
 use native.Mathlib.Nat.{not-suc-le-zero, le-of-suc-le-suc, mod-lt, div-add-mod', div-lt-iff-lt-mul, add-mul}
 use native.Mathlib.Omega.{arith}
 use lib.Arith.{digits-div, digits-mod}
-use lib.IntN.{ℤ, natAbs}
+use lib.IntN.{ℤ}
 use lib.ListN.{length, getD}
 use Rattle.array_spec.specs.Grid.{cellCount, lengthOf, placeOf, coordinate}
 use Rattle.array_spec.proofs.Places.{Positive, count-pos}
-use Rattle.border.specs.Border.{Border, constant, along, cellFor, inside, allInside, extendedGrid}
+use Rattle.border.specs.Border.{Border, ownConstant, outerConstants, cellUnder, extendedGridBy, extendedGrid}
 
 -- ---- from the end: q rows of m cells and r cells more, of n rows
 module _ (n m q r : ℕ) (rows : q < n) (rest : r < m) where
@@ -45,15 +44,14 @@ unfolding placeOf
 place-agrees [] p q h = refl
 place-agrees (n ∷ ns) p q h = λ t. h 0 (suc-le-suc zero-le) t * cellCount ns + place-agrees ns (λ a. p (suc a)) (λ a. q (suc a)) (λ a l. h (suc a) (suc-le-suc l)) t
 
-inside-agrees : (ns : List ℕ) (p q : ℕ → ℤ) → ((a : ℕ) → a < length ns → p a ≡ q a) → allInside ns p ≡ allInside ns q
-unfolding allInside
-inside-agrees [] p q h = refl
-inside-agrees (n ∷ ns) p q h = λ t. inside n (h 0 (suc-le-suc zero-le) t) && inside-agrees ns (λ a. p (suc a)) (λ a. q (suc a)) (λ a l. h (suc a) (suc-le-suc l)) t
+constants-agree : {A : Type 0} (b : Border A) (ns : List ℕ) (p q : ℕ → ℤ) → ((a : ℕ) → a < length ns → p a ≡ q a) → outerConstants (λ _. b) ns p ≡ outerConstants (λ _. b) ns q
+unfolding outerConstants
+constants-agree b [] p q h = refl
+constants-agree b (n ∷ ns) p q h = λ t. ownConstant b n (h 0 (suc-le-suc zero-le) t) ++ constants-agree b ns (λ a. p (suc a)) (λ a. q (suc a)) (λ a l. h (suc a) (suc-le-suc l)) t
 
 pub extended-agrees : {A : Type 0} (d : A) (b : Border A) (ns : List ℕ) (cells : List A) (p q : ℕ → ℤ) → ((a : ℕ) → a < length ns → p a ≡ q a)
     → extendedGrid d b ns cells p ≡ extendedGrid d b ns cells q
-unfolding extendedGrid
-extended-agrees d (constant c) ns cells p q h =
-    λ t. cond (inside-agrees ns p q h t) (getD cells (place-agrees ns (λ a. natAbs (p a)) (λ a. natAbs (q a)) (λ a l. ap natAbs (h a l)) t) d) c
-extended-agrees d (along m) ns cells p q h =
-    ap (λ k. getD cells k d) (place-agrees ns (λ a. cellFor m (lengthOf ns a) (p a)) (λ a. cellFor m (lengthOf ns a) (q a)) (λ a l. ap (cellFor m (lengthOf ns a)) (h a l)))
+unfolding extendedGridBy
+extended-agrees d b ns cells p q h =
+    λ t. getD (constants-agree b ns p q h t) 0
+    (getD cells (place-agrees ns (λ a. cellUnder b (lengthOf ns a) (p a)) (λ a. cellUnder b (lengthOf ns a) (q a)) (λ a l. ap (cellUnder b (lengthOf ns a)) (h a l)) t) d)

@@ -16,11 +16,11 @@ pub(crate) fn one_cell() {
     kernels(&[5], &[1], &[1, 1], &[2]);
 }
 
-// Both axes under Mirror.
+// Both axes, the second under Mirror.
 fn axes(cells: &[i64], shape: &[usize]) {
-    let mirror = BorderMode::Mirror;
-    line(gradient::judge_gradient(cells, shape, 0, mirror, 4, 4) as usize);
-    line(gradient::judge_gradient(cells, shape, 1, mirror, 4, 4) as usize);
+    let modes = [BorderMode::Nearest, BorderMode::Mirror, BorderMode::Nearest];
+    line(gradient::judge_gradient(cells, shape, 0, modes, 4, 4) as usize);
+    line(gradient::judge_gradient(cells, shape, 1, modes, 4, 4) as usize);
 }
 
 // An axis of one cell.
@@ -37,14 +37,25 @@ fn sizes(cells: &[i64], shape: &[usize]) {
 
 // Sizes 3 and 5 on one cell under Nearest.
 fn small_sizes(cells: &[i64], shape: &[usize]) {
-    let nearest = BorderMode::Nearest;
-    line(uniform::judge_uniform(cells, shape, 3, nearest, 1, 1) as usize);
-    line(uniform::judge_uniform(cells, shape, 5, nearest, 1, 1) as usize);
+    let modes = [
+        BorderMode::Nearest,
+        BorderMode::Nearest,
+        BorderMode::Nearest,
+    ];
+    line(uniform::judge_uniform(cells, shape, 3, modes, 1, 1) as usize);
+    line(uniform::judge_uniform(cells, shape, 5, modes, 1, 1) as usize);
+}
+
+// Size 5 under two borders, and under the same exchanged.
+fn own_sizes(cells: &[i64], shape: &[usize], first: BorderMode, next: BorderMode) {
+    line(uniform::judge_uniform(cells, shape, 5, [first, next, first], 18, 18) as usize);
+    line(uniform::judge_uniform(cells, shape, 5, [next, first, first], 18, 18) as usize);
 }
 
 pub(crate) fn means() {
     sizes(&[1, 2, 3], &[3]);
     small_sizes(&[5], &[1]);
+    own_sizes(&[0; 18], &[9, 2], BorderMode::Nearest, BorderMode::Mirror);
 }
 
 // Two axes, and an axis of one cell.

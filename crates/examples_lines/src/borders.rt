@@ -33,6 +33,25 @@ pub(crate) fn modes() {
     test(border::bad_constant(BorderMode::Wrap));
     test(border::bad_constant_f64(BorderModeF64::Constant(1.0 / 0.0)));
     test(border::bad_constant_f64(BorderModeF64::Constant(-0.0)));
+    mode(border::mode_on(
+        [
+            BorderMode::Nearest,
+            BorderMode::Mirror,
+            BorderMode::Constant(5),
+        ],
+        1,
+    ).to_pad_mode());
+    constants([
+        BorderMode::Nearest,
+        BorderMode::Constant(2147483648),
+        BorderMode::Wrap,
+    ]);
+}
+
+// On two axes and on one.
+fn constants(modes: [BorderMode; 3]) {
+    test(border::bad_constant_any(modes, &[4, 4]));
+    test(border::bad_constant_any(modes, &[16]));
 }
 
 // The two pads, or 7.

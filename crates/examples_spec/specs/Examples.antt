@@ -87,8 +87,8 @@ pub record WorkedExamples : Type 0 where
   pub t6 : uniform1d (constant (pos 0)) 3 (3 ∷ []) 0 (minus 1 ∷ minus 2 ∷ minus 4 ∷ [])
       ≡ minus 1 ∷ minus 2 ∷ minus 2 ∷ []
   pub t7 :
-      gradient sobelWeights (along borders.Nearest) (2 ∷ 2 ∷ []) 0 square
-      ∷ gradient sobelWeights (constant (pos 0)) (2 ∷ 2 ∷ []) 0 square ∷ []
+      gradient sobelWeights (λ _. along borders.Nearest) (2 ∷ 2 ∷ []) 0 square
+      ∷ gradient sobelWeights (λ _. constant (pos 0)) (2 ∷ 2 ∷ []) 0 square ∷ []
       ≡ replicate 4 (pos 8) ∷ (pos 10 ∷ pos 11 ∷ minus 4 ∷ minus 5 ∷ []) ∷ []
   pub t8 : correlateZ (along borders.Nearest) (pos 0) (2 ∷ 2 ∷ []) (wholes (1 ∷ 0 ∷ 0 ∷ 10 ∷ [])) (2 ∷ 2 ∷ []) square
       ≡ wholes (11 ∷ 21 ∷ 31 ∷ 41 ∷ [])

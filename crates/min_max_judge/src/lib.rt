@@ -1,13 +1,9 @@
 // The judge of the minimum and maximum filters: the conditions of the one-axis and the grid forms, in rising order.
 ghost use mathlib.Core.Path.{_≡_};
-ghost use mathlib.Core.Bool.{false, not, _&&_};
 ghost use mathlib.Core.List.{[]};
-ghost use lib.Dec.{eqb};
-ghost use Rattle.numbers.specs.Lists.{anyOf};
 ghost use Rattle.numbers.specs.Refusal.{refusalOf};
-ghost use Rattle.border.specs.Modes.{borderOf};
 ghost use Rattle.min_max_spec.specs.Call.{windowJudged, callJudged};
-ghost use Rattle.min_max_judge.specs.Judge.{callOf, sizeJudged, filterAxesJudged, filterJudged};
+ghost use Rattle.min_max_judge.specs.Judge.{callOf, gridCallOf, sizeJudged, filterAxesJudged, filterJudged};
 ghost use Rattle.min_max_judge.specs.Rows.{MinMaxJudgeRows};
 use border::BorderMode;
 
@@ -88,18 +84,18 @@ pub fn judge_call(
     judge_window(shape, size, axis, mode, origin)
 }
 
-// Conditions 5, 7, 9 and 11 of a window along every axis.
-fn judge_axes(shape: &[usize], size: usize, mode: BorderMode, origin: isize) -> u8
-    ensures { λ r. ⌜ r ≡ refusalOf (filterAxesJudged (now (shape .entry)) size (borderOf mode) origin) ⌝ }
+// Conditions 5, 7, 9 and 11 of a window along every axis, each with its own border.
+fn judge_axes(shape: &[usize], size: usize, modes: [BorderMode; 3], origin: isize) -> u8
+    ensures { λ r. ⌜ r ≡ refusalOf (filterAxesJudged (gridCallOf (now (shape .entry)) size modes origin [])) ⌝ }
 {
     let refusal = judge_size(size, origin);
     if refusal != 0 {
         return refusal;
     }
-    if border::bad_constant(mode) {
+    if border::bad_constant_any(modes, shape) {
         return numbers::CONSTANT;
     }
-    if window::bad_reach_any(mode, shape, size, origin) {
+    if window::bad_reach_any(modes, shape, size, origin) {
         return numbers::REACH;
     }
     numbers::ACCEPTED
@@ -107,30 +103,32 @@ fn judge_axes(shape: &[usize], size: usize, mode: BorderMode, origin: isize) -> 
 
 // The number of a grid call, which sweeps every axis and fills out where that is 0.
 //
-// * `data`, `shape`, `mode`, `origin` - as in `judge_call`.
+// * `data`, `shape`, `origin` - as in `judge_call`.
 // * `size` - the length of the window on every axis.
+// * `modes` - the border of each axis; those past the axis count are not read.
 // * `out` - the lent output; only its length is judged.
 // * `second` - how many cells the second lent grid has.
 //
 // Refuses: 1 (shape), 2 (length), 3 (level), 5 (kernel), 7 (origin), 9 (constant), 11 (reach). The rows 5 3 / 4 9 with
-// size 5 under Mirror and origin 0 give 11; with size 2 and a second grid of 3 cells they give 2.
+// size 5 and origin 0 give 11 where one of the first two borders is Mirror, and 0 where only the third is; with size 2
+// and a second grid of 3 cells they give 2.
 pub fn judge_filter(
     data: &[i64],
     shape: &[usize],
     size: usize,
-    mode: BorderMode,
+    modes: [BorderMode; 3],
     origin: isize,
     out: &[i64],
     second: usize,
 ) -> u8
     ensures { λ r. ⌜ r ≡ refusalOf (filterJudged (now («data» .entry))
-        (callOf (now (shape .entry)) size 0 mode origin (now (out .entry))) second) ⌝ }
+        (gridCallOf (now (shape .entry)) size modes origin (now (out .entry))) second) ⌝ }
 {
     let refusal = array::judge_grid(data, shape, &[out.len(), second]);
     if refusal != 0 {
         return refusal;
     }
-    judge_axes(shape, size, mode, origin)
+    judge_axes(shape, size, modes, origin)
 }
 
 // Worked rows of this crate's definitions: the refusals of both forms.

@@ -3,11 +3,11 @@
 use mathlib.Core.Path.{_≡_, refl, sym, ap, subst, subst₂, _∙_}
 use mathlib.Core.Bool.{Bool, true, false, not, _&&_, _||_, cond}
 use mathlib.Core.List.{List, List·Memᴰ, Memᴰ·cast}
-use Prim.Native.Nat.{ℕ, zero, suc, _+_, _-_, _/_, _≤_, _<_, zero-le}
+use Prim.Native.Nat.{ℕ, suc, _+_, _-_, _/_, _≤_, _<_, zero-le}
 use native.Mathlib.Omega.{arith}
 use borrow.Author.Tests.{ltb-true, ltb-false, eqb-true}
 use lib.Dec.{ltb}
-use lib.IntN.{ℤ, pos, negsuc, natAbs, _+ℤ_, _-ℤ_, +ℤ-idr}
+use lib.IntN.{ℤ, pos, negsuc, _+ℤ_, _-ℤ_, +ℤ-idr}
 use lib.Signed.{_≤ℤ_, ≤ℤ-refl}
 use Rattle.numbers.proofs.IntOrder.{≤ℤ-antisymm, pos-≤, ≤-pos}
 use Rattle.numbers.proofs.IntSum.{above, +ℤ-cancel-left, +ℤ-mono-right}
@@ -22,7 +22,7 @@ use Rattle.border.specs.Reach.{badPad}
 use Rattle.min_max_spec.specs.Call.{Call, left, right, alone, firstIn, lastIn, InWindow, window, axisLength}
 use Rattle.window_spec.specs.Window.{leftPad, rightPad}
 use Rattle.min_max_spec.proofs.Passed.{Passed}
-use Rattle.min_max_spec.proofs.Reach.{ends, reach-left, reach-right, carried}
+use Rattle.min_max_spec.proofs.Reach.{ends, own-from, own-to, reach-left, reach-right, carried}
 
 last-first : (c : Call) (i : ℤ) → 0 < c .size → lastIn c i ≡ firstIn c i +ℤ pos (c .size - 1)
 unfolding firstIn lastIn
@@ -120,3 +120,15 @@ lands cells c P i h z w = go (alone c) (P .origin) (P .pads) (w .from) (w .to)
         let a = axis-accepted (c .size) (c .origin) o in
         by-pads (axisLength c) i h (pos (left c)) (pos (right c)) (c .origin) (leftPad (c .size) (c .origin)) (rightPad (c .size) (c .origin)) (a .left-pad) (a .right-pad) (c .border) z (s .0) (s .1)
         f k
+
+-- every accepted window holds its own cell
+pub own-cell : (cells : List ℤ) (c : Call) → Passed cells c → (i : ℤ) → InWindow c i i
+unfolding firstIn lastIn
+own-cell cells c P i = record { from = go (alone c) (P .origin) .0; to = go (alone c) (P .origin) .1 }
+  where
+    go : (t : Bool) → (not t && badOrigin (c .size) (c .origin)) ≡ false
+        → (cond t i (i -ℤ pos (left c) -ℤ c .origin) ≤ℤ i) × (i ≤ℤ cond t i (i +ℤ pos (right c) -ℤ c .origin))
+    go true o = (≤ℤ-refl i, ≤ℤ-refl i)
+    go false o =
+        let a = axis-accepted (c .size) (c .origin) o in
+        (own-from i (pos (left c)) (c .origin) (leftPad (c .size) (c .origin)) (a .left-pad), own-to i (pos (right c)) (c .origin) (rightPad (c .size) (c .origin)) (a .right-pad))

@@ -11,11 +11,11 @@
 --                                        these levels
 --   numberOf cells c      the number that a call on these levels gets; 0: accepted
 --   gridNumber ns cells   the number that a grid gets by itself: 1, 2 and 3 judge what its owner answers for
-use Prim.Native.Nat.{ℕ, _-_, _/_}
-use mathlib.Core.Bool.{Bool, not, _&&_, _||_, cond}
+use Prim.Native.Nat.{ℕ}
+use mathlib.Core.Bool.{Bool, cond}
 use mathlib.Core.List.{List, [], _∷_, _++_}
 use lib.Dec.{eqb}
-use lib.IntN.{ℤ, pos, natAbs, _+ℤ_, _-ℤ_}
+use lib.IntN.{ℤ, pos, _+ℤ_, _-ℤ_}
 use lib.Signed.{_≤ℤ_}
 use lib.ListN.{length}
 use Rattle.numbers.specs.Lists.{upFrom}
@@ -24,8 +24,6 @@ use Rattle.array_spec.specs.Conditions.{badLevel, badAxis, gridJudged}
 use Rattle.array_spec.specs.Grid.{lengthOf}
 use Rattle.border.specs.Border.{Border}
 use Rattle.border.specs.Modes.{badConstantBy}
-use Rattle.window_spec.specs.Origin.{badOrigin}
-use Rattle.border.specs.Reach.{badPad}
 use Rattle.window_spec.specs.Window.{leftOf, rightOf, badSize, badWindowOrigin, badReach}
 
 pub record Call : Type 0 where

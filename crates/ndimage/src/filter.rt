@@ -84,15 +84,15 @@ fn extreme(
     data: &[i64],
     shape: &[usize],
     size: usize,
-    mode: BorderMode,
+    modes: [BorderMode; 3],
     origin: isize,
     second: &mut [i64],
     out: &mut [i64],
 ) -> u8 {
     if request == MINIMUM {
-        return min_max::minimum_filter(data, shape, size, mode, origin, second, out);
+        return min_max::minimum_filter(data, shape, size, modes, origin, second, out);
     }
-    min_max::maximum_filter(data, shape, size, mode, origin, second, out)
+    min_max::maximum_filter(data, shape, size, modes, origin, second, out)
 }
 
 fn gradient(
@@ -100,14 +100,14 @@ fn gradient(
     data: &[i64],
     shape: &[usize],
     axis: usize,
-    mode: BorderMode,
+    modes: [BorderMode; 3],
     second: &mut [i64],
     out: &mut [i64],
 ) -> u8 {
     if request == PREWITT {
-        return gradient::prewitt(data, shape, axis, mode, second, out);
+        return gradient::prewitt(data, shape, axis, modes, second, out);
     }
-    gradient::sobel(data, shape, axis, mode, second, out)
+    gradient::sobel(data, shape, axis, modes, second, out)
 }
 
 // The filters with a second grid.
@@ -115,16 +115,25 @@ fn two_grids(
     state: &State,
     data: &[i64],
     shape: &[usize],
-    mode: BorderMode,
+    modes: [BorderMode; 3],
     origin: isize,
     second: &mut [i64],
     out: &mut [i64],
 ) -> u8 {
     let request = state[REQUEST];
     match request {
-        UNIFORM => uniform::uniform_filter(data, shape, state[SIZE], mode, second, out),
-        MINIMUM | MAXIMUM => extreme(request, data, shape, state[SIZE], mode, origin, second, out),
-        _ => gradient(request, data, shape, state[AXIS], mode, second, out),
+        UNIFORM => uniform::uniform_filter(data, shape, state[SIZE], modes, second, out),
+        MINIMUM | MAXIMUM => extreme(
+            request,
+            data,
+            shape,
+            state[SIZE],
+            modes,
+            origin,
+            second,
+            out,
+        ),
+        _ => gradient(request, data, shape, state[AXIS], modes, second, out),
     }
 }
 
@@ -138,7 +147,7 @@ pub(crate) fn every_axis(
 ) -> u8 {
     let mut second = [0i64; 8193];
     let n = ndimage_arguments::lent(state[SECOND], 8193);
-    let mode = ndimage_arguments::border_of(state, levels);
+    let modes = ndimage_arguments::borders_of(state, levels);
     let origin = ndimage_arguments::origin_of(levels);
-    two_grids(state, data, shape, mode, origin, &mut second[0..n], out)
+    two_grids(state, data, shape, modes, origin, &mut second[0..n], out)
 }

@@ -64,7 +64,7 @@ fn serve(
 fn main() {
     let mut buffer = [0u8; 65792];
     let mut state = [0usize; 48];
-    let mut levels = [0i64; 41404];
+    let mut levels = [0i64; 41406];
     let mut floats = [0.0; 8538];
     let mut file = [0u8; 128];
     let mut out = [0i64; 32769];

@@ -4,13 +4,16 @@
 --   sidesIn s          the sides of a kernel, as many
 --   dataIn s l         the levels of the grid, at most 8193
 --   weightsIn s l      the weights, at most 344
---   codeIn s           the code of a border, padding mode or kernel; 255, which names none, beyond that
+--   asCode n           a number as a code; 255, which names nothing, beyond that
+--   codeIn s           the code of a border, padding mode or kernel
+--   borderAt n l place the border of the code n, whose constant is at a place
 --   borderIn s l       the border        borderInF64 s l   the border of floats
+--   bordersIn s l      the borders of axes 0, 1 and 2, where a request takes three
 --   paddingIn s l      the padding mode
 --   padsIn s           three pairs of pads
 --   mostOut n          how many cells are lent as the output of request n at most: one more than any call takes
---   isWhole n form     whether request n has an output of whole levels: all before symmetry, under any form but f, whose
---                      code is 1
+--   isWhole n form     whether request n has an output of whole levels: all before symmetry, under any form but f,
+--                      whose code is 1
 --   fileIn s f         the bytes of a recipe file
 --   stepNumbersIn s l  the numbers of its steps, six of each, of at most 16 steps
 --   recipeCountIn s    the count that is written to a file; 255, which has the same refusal, beyond that
@@ -52,11 +55,20 @@ dataIn s l = cellsFrom 0 (min (getD s 10 0) 8193) l
 abbrev pub weightsIn : {A : Type 0} → List ℕ → List A → List A
 weightsIn s l = cellsFrom 8193 (min (getD s 12 0) 344) l
 
+abbrev pub asCode : ℕ → ℕ
+asCode n = min n 255
+
 abbrev pub codeIn : List ℕ → ℕ
-codeIn s = min (getD s 15 0) 255
+codeIn s = asCode (getD s 15 0)
+
+abbrev pub borderAt : ℕ → List ℤ → ℕ → BorderMode
+borderAt n l place = modeOf (asCode n) (getD l place (pos 0))
 
 abbrev pub borderIn : List ℕ → List ℤ → BorderMode
-borderIn s l = modeOf (codeIn s) (getD l 8537 (pos 0))
+borderIn s l = borderAt (getD s 15 0) l 8537
+
+abbrev pub bordersIn : List ℕ → List ℤ → List BorderMode
+bordersIn s l = borderAt (getD s 15 0) l 8537 ∷ borderAt (getD s 36 0) l 41404 ∷ borderAt (getD s 37 0) l 41405 ∷ []
 
 abbrev pub borderInF64 : List ℕ → List Float → BorderModeF64
 borderInF64 s l = modeOfF64 (codeIn s) (getD l 8537 nan)

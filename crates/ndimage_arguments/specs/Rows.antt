@@ -6,22 +6,24 @@ use mathlib.Core.Bool.{true, false}
 use mathlib.Core.List.{List, [], _∷_, _++_, map}
 use lib.IntN.{pos, natAbs}
 use lib.ListN.{replicate}
-use Rattle.ndimage_arguments.specs.Arguments.{cellsFrom, shapeIn, sidesIn, codeIn, borderIn, paddingIn, padsIn}
-use Rattle.ndimage_arguments.specs.Arguments.{mostOut, isWhole, levelOfMark, badMark, marksBy, levelsBy}
+use Rattle.ndimage_arguments.specs.Arguments.{cellsFrom, shapeIn, sidesIn, codeIn, borderAt, borderIn}
+use Rattle.ndimage_arguments.specs.Arguments.{bordersIn, paddingIn, padsIn, mostOut, isWhole}
+use Rattle.ndimage_arguments.specs.Arguments.{levelOfMark, badMark, marksBy, levelsBy}
 use Rattle.ndimage_arguments.specs.Arguments.{kernelLevels, fileIn, stepNumbersIn, recipeCountIn}
 use Rattle.codes.specs.Codes.{kernelOf}
 use Rattle.border.specs.declared.BorderMode.the-variants as Whole
 use Rattle.border.specs.declared.PadMode.the-variants as Pad
 
 -- a state after reading: slots 0 to 7; no form, two axes, six cells, five sides; no weights, size and axis, code c;
--- two pairs, an output, no second grid, a file of 3 bytes; lengths 2 and 3; a recipe's count of 300, one step
+-- two pairs, an output, no second grid, a file of 3 bytes; lengths 2 and 3; a recipe's count of 300, one step; reflect
+-- and wrap on axes 1 and 2
 abbrev pub read : ℕ → List ℕ
 read c =
     replicate 8 0
     ++ (0 ∷ 2 ∷ 6 ∷ 5 ∷ 0 ∷ 0 ∷ 0 ∷ c ∷ 2 ∷ 6 ∷ 0 ∷ 3 ∷ [])
     ++ (2 ∷ 3 ∷ 0 ∷ 0 ∷ 7 ∷ 8 ∷ 9 ∷ 10 ∷ 1 ∷ 4 ∷ 2 ∷ 5 ∷ [])
-    ++ (0 ∷ 0 ∷ 300 ∷ 1 ∷ [])
-    ++ replicate 12 0
+    ++ (0 ∷ 0 ∷ 300 ∷ 1 ∷ 3 ∷ 4 ∷ [])
+    ++ replicate 10 0
 
 pub record NdimageArgumentsRows : Type 0 where
   -- as many cells as asked, or as there are
@@ -35,6 +37,8 @@ pub record NdimageArgumentsRows : Type 0 where
   pub mirror : borderIn (read 1) [] ≡ Whole.Mirror
   pub reflect : borderIn (read 3) [] ≡ Whole.Reflect
   pub constant : borderIn (read 0) [] ≡ Whole.Constant (pos 0)
+  pub borders : bordersIn (read 1) [] ≡ Whole.Mirror ∷ Whole.Reflect ∷ Whole.Wrap ∷ []
+  pub third-constant : borderAt 0 (pos 7 ∷ pos 8 ∷ []) 1 ≡ Whole.Constant (pos 8)
   pub edge : paddingIn (read 1) [] ≡ Pad.Edge
   pub wrap : paddingIn (read 8) [] ≡ Pad.Wrap
   pub no-code : codeIn (read 256) ≡ 255

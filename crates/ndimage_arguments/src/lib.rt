@@ -10,7 +10,11 @@ use ndimage_parts::requests::PAD_TO;
 use ndimage_parts::requests::SYMMETRY;
 use ndimage_parts::state::AXES;
 use ndimage_parts::state::BORDER;
+use ndimage_parts::state::BORDER_1;
+use ndimage_parts::state::BORDER_2;
 use ndimage_parts::state::CELLS;
+use ndimage_parts::state::CONSTANT_1_AT;
+use ndimage_parts::state::CONSTANT_2_AT;
 use ndimage_parts::state::CONSTANT_AT;
 use ndimage_parts::state::COUNT;
 use ndimage_parts::state::DATA_AT;
@@ -32,8 +36,9 @@ ghost use Prim.Native.Nat.{min};
 ghost use lib.IntN.{pos};
 ghost use lib.Signed.{ltZ};
 ghost use lib.ListN.{length, getD};
-ghost use Rattle.ndimage_arguments.specs.Arguments.{cellsFrom, shapeIn, sidesIn, dataIn, weightsIn, codeIn};
-ghost use Rattle.ndimage_arguments.specs.Arguments.{borderIn, borderInF64, paddingIn, padsIn, mostOut, isWhole};
+ghost use Rattle.ndimage_arguments.specs.Arguments.{cellsFrom, shapeIn, sidesIn, dataIn, weightsIn};
+ghost use Rattle.ndimage_arguments.specs.Arguments.{asCode, codeIn, borderAt, borderIn, bordersIn, borderInF64};
+ghost use Rattle.ndimage_arguments.specs.Arguments.{paddingIn, padsIn, mostOut, isWhole};
 ghost use Rattle.ndimage_arguments.specs.Arguments.{levelOfMark, badMark, marksBy, levelsBy, kernelLevels};
 ghost use Rattle.ndimage_arguments.specs.Arguments.{fileIn, recipeCountIn, stepNumbersIn};
 ghost use Rattle.numbers.specs.Lists.{anyOf};
@@ -167,22 +172,46 @@ pub fn recipe_count(state: &State) -> u8
     lent(state[RECIPE_COUNT], 255) as u8
 }
 
-// The code that a word was read as.
-pub fn code(state: &State) -> u8
-    ensures { λ r. ⌜ r ≡ codeIn (now (state .entry)) ⌝ }
+// A number that was read as a code.
+fn as_code(n: usize) -> u8
+    ensures { λ r. ⌜ r ≡ asCode n ⌝ }
 {
-    let n = state[BORDER];
     if n > 255 {
         return 255;
     }
     n as u8
 }
 
+// The code that a word was read as.
+pub fn code(state: &State) -> u8
+    ensures { λ r. ⌜ r ≡ codeIn (now (state .entry)) ⌝ }
+{
+    as_code(state[BORDER])
+}
+
+// The border of a number that was read as a code, whose constant is at a place.
+fn border_at(n: usize, levels: &[i64], at: usize) -> BorderMode
+    ensures { λ r. ⌜ r ≡ borderAt n (now (levels .entry)) at ⌝ }
+{
+    codes::mode_of(as_code(n), level(levels, at))
+}
+
 // The border.
 pub fn border_of(state: &State, levels: &[i64]) -> BorderMode
     ensures { λ r. ⌜ r ≡ borderIn (now (state .entry)) (now (levels .entry)) ⌝ }
 {
-    codes::mode_of(code(state), level(levels, CONSTANT_AT))
+    border_at(state[BORDER], levels, CONSTANT_AT)
+}
+
+// The borders of axes 0, 1 and 2.
+pub fn borders_of(state: &State, levels: &[i64]) -> [BorderMode; 3]
+    ensures { λ r. ⌜ r ≡ bordersIn (now (state .entry)) (now (levels .entry)) ⌝ }
+{
+    [
+        border_at(state[BORDER], levels, CONSTANT_AT),
+        border_at(state[BORDER_1], levels, CONSTANT_1_AT),
+        border_at(state[BORDER_2], levels, CONSTANT_2_AT),
+    ]
 }
 
 // The border of floats.

@@ -2,7 +2,11 @@
 use crate::state::AXES;
 use crate::state::AXIS;
 use crate::state::BORDER;
+use crate::state::BORDER_1;
+use crate::state::BORDER_2;
 use crate::state::CELLS;
+use crate::state::CONSTANT_1_AT;
+use crate::state::CONSTANT_2_AT;
 use crate::state::CONSTANT_AT;
 use crate::state::COUNT;
 use crate::state::DATA_AT;
@@ -55,6 +59,10 @@ pub fn part_of(letter: u8) -> Part
         b'P' => Part(Kind::Padding, Times::Once, BORDER, 1),
         b'M' => Part(Kind::Kernel, Times::Once, BORDER, 1),
         b'V' => Part(Kind::Level, Times::Last, CONSTANT_AT, 1),
+        b'b' => Part(Kind::Border, Times::Once, BORDER_1, 1),
+        b'v' => Part(Kind::Level, Times::Last, CONSTANT_1_AT, 1),
+        b'c' => Part(Kind::Border, Times::Once, BORDER_2, 1),
+        b'w' => Part(Kind::Level, Times::Last, CONSTANT_2_AT, 1),
         b'O' => Part(Kind::Whole, Times::Once, ORIGIN_AT, 1),
         b'R' => Part(Kind::Count, Times::Once, PAIRS, 1),
         b'Q' => Part(Kind::Count, Times::TwiceLast, PADS_AT, 6),

@@ -45,7 +45,7 @@ pub const WRITE_RECIPE: usize = 19;
 pub const HELP: usize = 20;
 
 // A line for each request: its word, and the letters of its parts in the order of reading, which parts.rt explains.
-pub fn table() -> [u8; 415]
+pub fn table() -> [u8; 435]
     ensures { λ r. ⌜ RequestTable r ⌝ }
 {
     *b"\
@@ -55,12 +55,12 @@ correlate1d FALCDNWXBVOE
 convolve1d FALCDNWXBVOE
 minimum_filter1d ALCDZXBVOE
 maximum_filter1d ALCDZXBVOE
-minimum_filter ALCDZBVOET
-maximum_filter ALCDZBVOET
-uniform_filter ALCDZBVET
+minimum_filter ALCDZBVbvcwOET
+maximum_filter ALCDZBVbvcwOET
+uniform_filter ALCDZBVbvcwET
 uniform_filter1d ALCDZXBVE
-prewitt ALCDXBVET
-sobel ALCDXBVET
+prewitt ALCDXBVbvcwET
+sobel ALCDXBVbvcwET
 pad ALCDPVRQE
 pad_to ALCDPVRQEH
 median_filter ALCDE

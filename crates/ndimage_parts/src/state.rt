@@ -6,8 +6,8 @@
 pub type Buffer = [u8; 65792];
 
 // The levels of a grid, its weights, a constant, an origin and what an output holds before, each with one cell more
-// than any call takes; then the numbers of 16 steps.
-pub type Levels = [i64; 41404];
+// than any call takes; then the numbers of 16 steps, and the constants of axes 1 and 2.
+pub type Levels = [i64; 41406];
 
 // The floats of a grid, its weights and a constant.
 pub type Floats = [f64; 8538];
@@ -78,6 +78,11 @@ pub const RECIPE_COUNT: usize = 34;
 
 pub const STEPS: usize = 35;
 
+// The borders of axes 1 and 2, where a request takes three.
+pub const BORDER_1: usize = 36;
+
+pub const BORDER_2: usize = 37;
+
 // Where the lists and single levels start among the levels; the floats start at the same places.
 pub const DATA_AT: usize = 0;
 
@@ -90,3 +95,7 @@ pub const ORIGIN_AT: usize = 8538;
 pub const HELD_AT: usize = 8539;
 
 pub const STEPS_AT: usize = 41308;
+
+pub const CONSTANT_1_AT: usize = 41404;
+
+pub const CONSTANT_2_AT: usize = 41405;

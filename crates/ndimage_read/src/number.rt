@@ -47,7 +47,7 @@ pub(crate) fn take_count(buffer: &[u8], state: &mut State, at: usize) {
 
 pub(crate) fn take_level(buffer: &[u8], state: &mut State, levels: &mut Levels, at: usize) {
     if let Signed::Is(z) = text::read_signed(shown(buffer, state[LEN])) {
-        if at < 41404 {
+        if at < 41406 {
             levels[at] = z;
         }
         return;

@@ -10,13 +10,14 @@
 --   lastAfter c         what a word leaves for the next part: 1 for the first of its table, else 0
 use Prim.Native.Nat.{ℕ, _+_, _*_, min}
 use Prim.Native.Char.{Char, code}
-use mathlib.Core.Bool.{Bool, true, false, cond}
+use mathlib.Core.Bool.{Bool, false, cond}
 use mathlib.Core.List.{List, [], _∷_}
 use lib.Dec.{eqb, ltb}
 use Rattle.words.specs.Words.{wordList}
 use Rattle.codes.specs.Words.{borderWords, padWords, kernelWords}
 use Rattle.ndimage_spec.specs.declared.Kind.{Kind}
-use Rattle.ndimage_spec.specs.declared.Kind.the-variants.{Form, Border, Padding, Kernel, Count, Whole, Level, Bytes}
+use Rattle.ndimage_spec.specs.declared.Kind.the-variants.{Form, Border, Padding, Kernel, Count}
+use Rattle.ndimage_spec.specs.declared.Kind.the-variants.{Whole, Level, Bytes}
 use Rattle.ndimage_spec.specs.declared.Times.{Times}
 use Rattle.ndimage_spec.specs.declared.Times.the-variants.{Once, Last, TwiceLast, SixLast}
 use Rattle.ndimage_spec.specs.declared.Part.{Part}
@@ -50,6 +51,11 @@ partTable =
     ∷ ("P", part Padding Once 15 1)
     ∷ ("M", part Kernel Once 15 1)
     ∷ ("V", part Level Last 8537 1)
+    -- the borders of axes 1 and 2 in requests that take three, each with its constant
+    ∷ ("b", part Border Once 36 1)
+    ∷ ("v", part Level Last 41404 1)
+    ∷ ("c", part Border Once 37 1)
+    ∷ ("w", part Level Last 41405 1)
     -- an origin
     ∷ ("O", part Whole Once 8538 1)
     -- pairs of pads

@@ -12,7 +12,8 @@ use Rattle.ndimage_spec.specs.Parts.{nowhere, part, partOf, timesOf, isF
 use Rattle.ndimage_spec.specs.Reading.{tokenIn, endBehind, noLine}
 use Rattle.ndimage_spec.specs.Hexadecimal.{badBytes, byteCount, bytesOver}
 use Rattle.ndimage_spec.specs.Faults.{textOf, showsToken, faultOf, visibleOf}
-use Rattle.ndimage_spec.specs.declared.Kind.the-variants.{Form, Border, Padding, Kernel, Count, Whole, Level, Bytes}
+use Rattle.ndimage_spec.specs.declared.Kind.the-variants.{Form, Border, Padding, Kernel, Count}
+use Rattle.ndimage_spec.specs.declared.Kind.the-variants.{Whole, Level, Bytes}
 use Rattle.ndimage_spec.specs.declared.Times.the-variants.{Once, Last, TwiceLast, SixLast}
 
 pub record NdimageSpecRows : Type 0 where
@@ -44,7 +45,11 @@ pub record NdimageSpecRows : Type 0 where
   -- the parts of a request in the order of reading: the border, its constant, the origin, the output
   pub correlate-parts : partsOf 0 ≡ bytesOf "ALCDSKNWBVOE"
   pub minimum1d-parts : partsOf 4 ≡ bytesOf "ALCDZXBVOE"
-  pub sobel-parts : partsOf 11 ≡ bytesOf "ALCDXBVET"
+  pub minimum-parts : partsOf 6 ≡ bytesOf "ALCDZBVbvcwOET"
+  pub maximum-parts : partsOf 7 ≡ bytesOf "ALCDZBVbvcwOET"
+  pub uniform-parts : partsOf 8 ≡ bytesOf "ALCDZBVbvcwET"
+  pub prewitt-parts : partsOf 10 ≡ bytesOf "ALCDXBVbvcwET"
+  pub sobel-parts : partsOf 11 ≡ bytesOf "ALCDXBVbvcwET"
   pub pad-to-parts : partsOf 13 ≡ bytesOf "ALCDPVRQEH"
   pub play-parts : partsOf 15 ≡ bytesOf "GALCDET"
   pub symmetry-parts : partsOf 16 ≡ bytesOf "FCD"
@@ -57,6 +62,10 @@ pub record NdimageSpecRows : Type 0 where
   pub border-part : partOf (code "B") ≡ part Border Once 15 1
   pub mode-part : partOf (code "P") ≡ part Padding Once 15 1
   pub constant-part : partOf (code "V") ≡ part Level Last 8537 1
+  pub border-1-part : partOf (code "b") ≡ part Border Once 36 1
+  pub constant-1-part : partOf (code "v") ≡ part Level Last 41404 1
+  pub border-2-part : partOf (code "c") ≡ part Border Once 37 1
+  pub constant-2-part : partOf (code "w") ≡ part Level Last 41405 1
   pub origin-part : partOf (code "O") ≡ part Whole Once 8538 1
   pub pads-part : partOf (code "Q") ≡ part Count TwiceLast 28 6
   pub file-part : partOf (code "G") ≡ part Bytes Once 19 1

@@ -14,7 +14,7 @@ fn parts() {
     say(
         b"\
 GRID = axes, lengths, number of levels, levels (last axis fastest); LIST = number, levels
-BORDER = constant LEVEL, mirror, nearest, reflect or wrap
+BORDER = constant LEVEL, mirror, nearest, reflect or wrap; BORDERS = three, one for each axis
 MODE = constant LEVEL, edge, maximum, mean, median, minimum, reflect, symmetric or wrap
 PAIRS = number, left and right of each; OUT, SECOND = how many cells are lent
 levels are whole, or with f 16 hexadecimal digits of the bits, or nan
@@ -32,8 +32,8 @@ correlate1d|convolve1d i|f GRID WEIGHTS:LIST AXIS BORDER ORIGIN OUT
     convolve1d i 1 3 3 1 2 3 3 1 2 3 0 constant 0 0 3
 minimum_filter1d|maximum_filter1d GRID SIZE AXIS BORDER ORIGIN OUT
     minimum_filter1d 1 4 4 4 2 7 1 3 0 nearest 0 4
-minimum_filter|maximum_filter GRID SIZE BORDER ORIGIN OUT SECOND
-    maximum_filter 2 2 3 6 1 2 3 4 5 6 3 reflect 0 6 6
+minimum_filter|maximum_filter GRID SIZE BORDERS ORIGIN OUT SECOND
+    maximum_filter 2 2 3 6 1 2 3 4 5 6 3 reflect wrap nearest 0 6 6
 ",
     );
 }
@@ -43,12 +43,12 @@ fn sums() {
         b"\
 correlate|convolve GRID SIDES (number, sides) WEIGHTS:LIST BORDER ORIGIN OUT
     correlate 2 2 2 4 1 2 3 4 2 2 2 4 1 0 0 10 nearest 0 4
-prewitt|sobel GRID AXIS BORDER OUT SECOND
-    sobel 2 2 2 4 1 2 3 4 0 nearest 4 4
+prewitt|sobel GRID AXIS BORDERS OUT SECOND
+    sobel 2 2 2 4 1 2 3 4 0 nearest constant 5 wrap 4 4
 uniform_filter1d GRID SIZE AXIS BORDER OUT
     uniform_filter1d 1 3 3 -1 -2 -4 3 0 constant 0 3
-uniform_filter GRID SIZE BORDER OUT SECOND
-    uniform_filter 2 2 2 4 1 2 3 -6 2 nearest 4 4
+uniform_filter GRID SIZE BORDERS OUT SECOND
+    uniform_filter 2 2 2 4 1 2 3 -6 2 nearest mirror constant 5 4 4
 ",
     );
 }

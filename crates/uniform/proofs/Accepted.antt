@@ -13,16 +13,17 @@ use lib.ListN.{length, drop}
 use Rattle.numbers.specs.Lists.{anyOf}
 use Rattle.numbers.specs.Ranges.{outside}
 use Rattle.numbers.specs.Refusal.{refusalOf}
-use Rattle.numbers.proofs.Any.{any-none, every-at}
 use Rattle.numbers.proofs.Tests.{or-false}
 use Rattle.array_spec.specs.Conditions.{badLevel}
 use Rattle.array_spec.specs.Grid.{cellCount, lengthOf}
 use Rattle.array_spec.proofs.Judged.{PassedGrid, grid-passed}
 use Rattle.lanes.specs.Lanes.{alongAxis}
 use Rattle.lanes.proofs.AlongAxis.{length-along}
+use Rattle.border.specs.Axes.{anyAxis, badConstants}
 use Rattle.border.specs.Border.{Border}
 use Rattle.border.specs.Modes.{badConstantBy}
 use Rattle.border.specs.Reach.{badPad}
+use Rattle.border.proofs.AnyAxis.{axis-at}
 use Rattle.pad_line.specs.Lane.{AxisNeeds}
 use Rattle.window_spec.specs.Window.{badReach}
 use Rattle.uniform_spec.specs.Mean.{means}
@@ -80,16 +81,16 @@ module _ {b : Border ℤ} {size : ℕ} {ns : List ℕ} {a : ℕ} {cells : List �
 
 -- ---- the grid form
 -- what an accepted call has passed
-pub record Filtered (b : Border ℤ) (size : ℕ) (ns : List ℕ) (cells out second : List ℤ) : Type 0 where
+pub record Filtered (bs : ℕ → Border ℤ) (size : ℕ) (ns : List ℕ) (cells out second : List ℤ) : Type 0 where
   pub grid : PassedGrid badLevel ns cells (length out ∷ length second ∷ [])
   pub window : outside 1 65 size ≡ false
-  pub level : badConstantBy badLevel b ≡ false
-  pub reach : anyOf (badGridReach b size) ns ≡ false
+  pub level : badConstants badLevel bs ns ≡ false
+  pub reach : anyAxis (λ b. badGridReach b size) bs ns ≡ false
 
-pub filtered : {b : Border ℤ} {size : ℕ} {ns : List ℕ} {cells : List ℤ} (out second : List ℤ) → refusalOf (uniformJudged b size ns cells (length out) (length second)) ≡ 0
-    → Filtered b size ns cells out second
-filtered {b} {size} {ns} {cells} out second e =
-    let p = grid-passed badLevel ns cells (length out ∷ length second ∷ []) (drop 3 (uniformJudged b size ns cells (length out) (length second))) (tt, (tt, (tt, (tt, tt)))) e in
+pub filtered : {bs : ℕ → Border ℤ} {size : ℕ} {ns : List ℕ} {cells : List ℤ} (out second : List ℤ) → refusalOf (uniformJudged bs size ns cells (length out) (length second)) ≡ 0
+    → Filtered bs size ns cells out second
+filtered {bs} {size} {ns} {cells} out second e =
+    let p = grid-passed badLevel ns cells (length out ∷ length second ∷ []) (drop 3 (uniformJudged bs size ns cells (length out) (length second))) (tt, (tt, (tt, (tt, tt)))) e in
     record { grid = p .0; window = p .1 .0; level = p .1 .1 .0; reach = p .1 .1 .1 .0 }
 
 -- a grid between two passes
@@ -97,12 +98,15 @@ pub record Between (ns : List ℕ) (g : List ℤ) : Type 0 where
   pub count : length g ≡ cellCount ns
   pub range : anyOf badLevel g ≡ false
 
-module _ {b : Border ℤ} {size : ℕ} {ns : List ℕ} {cells out second : List ℤ} (F : Filtered b size ns cells out second) where
+module _ {bs : ℕ → Border ℤ} {size : ℕ} {ns : List ℕ} {cells out second : List ℤ} (F : Filtered bs size ns cells out second) where
   pub between-input : Between ns cells
   between-input = record { count = F .grid .count; range = F .grid .levels }
 
+  level-at : (a : ℕ) → a < length ns → badConstantBy badLevel (bs a) ≡ false
+  level-at = axis-at (λ b n. badConstantBy badLevel b) bs ns (F .level)
+
   -- a pass along any axis is accepted
-  pub pass-accepted : {g held : List ℤ} {a : ℕ} → Between ns g → length held ≡ cellCount ns → a < length ns → PassNeeds b size ns a g held
+  pub pass-accepted : {g held : List ℤ} {a : ℕ} → Between ns g → length held ≡ cellCount ns → a < length ns → PassNeeds (bs a) size ns a g held
   pass-accepted {a = a} B e h = record {
     shape = F .grid .shape;
     axis = h;
@@ -110,13 +114,12 @@ module _ {b : Border ℤ} {size : ℕ} {ns : List ℕ} {cells out second : List 
     same = e;
     levels = B .range;
     window = F .window;
-    level = F .level;
-    reach = or-false (badReach b size (pos 0) (lengthOf ns a)) (halfOver size (lengthOf ns a)) (every-at (λ n. badGridReach b size n ≡ false) ns 1 (any-none (badGridReach b size) ns (F .reach)) a h)
-        .0;
+    level = level-at a h;
+    reach = or-false (badReach (bs a) size (pos 0) (lengthOf ns a)) (halfOver size (lengthOf ns a)) (axis-at (λ b. badGridReach b size) bs ns (F .reach) a h) .0;
   }
 
-  pub between-pass : {g new : List ℤ} (a : ℕ) → Between ns g → new ≡ uniform1d b size ns a g → Between ns new
-  between-pass {g} a B e = record {
-    count = ap length e ∙ length-along (pos 0) (λ s. means (paddedFor b size s) size (length s)) ns a g ∙ B .count;
-    range = ap (anyOf badLevel) e ∙ levels-kept b size ns g (B .range) (F .level) a;
+  pub between-pass : {g new : List ℤ} (a : ℕ) → a < length ns → Between ns g → new ≡ uniform1d (bs a) size ns a g → Between ns new
+  between-pass {g} a h B e = record {
+    count = ap length e ∙ length-along (pos 0) (λ s. means (paddedFor (bs a) size s) size (length s)) ns a g ∙ B .count;
+    range = ap (anyOf badLevel) e ∙ levels-kept (bs a) size ns g (B .range) (level-at a h) a;
   }

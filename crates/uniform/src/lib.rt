@@ -6,6 +6,7 @@ ghost use mathlib.Core.List.{[], _∷_};
 ghost use lib.IntN.{pos};
 ghost use lib.ListN.{length};
 ghost use Rattle.numbers.specs.Refusal.{refusalOf, Answers, ScratchAnswers};
+ghost use Rattle.border.specs.Axes.{bordersOf};
 ghost use Rattle.border.specs.Modes.{borderOf};
 ghost use Rattle.uniform_spec.specs.Uniform.{uniform1d, uniform as uniformOf};
 ghost use Rattle.uniform_spec.specs.Judge.{uniform1dJudged, uniformJudged};
@@ -37,32 +38,33 @@ pub fn pass(
     uniform_axis::uniform_axis(mode, data, shape, axis, left, right, out);
 }
 
-// Fills out with the answer of an accepted grid call; second holds what a pass between leaves.
+// Fills out with the answer of an accepted grid call, each pass by its own axis's border; second holds what a pass
+// between leaves.
 fn passes(
     data: &[i64],
     shape: &[usize],
     size: usize,
-    mode: BorderMode,
+    modes: [BorderMode; 3],
     second: &mut [i64],
     out: &mut [i64],
 )
-    requires { ⌜ refusalOf (uniformJudged (borderOf mode) size (now shape) (now «data») (length (now out))
+    requires { ⌜ refusalOf (uniformJudged (bordersOf modes) size (now shape) (now «data») (length (now out))
         (length (now second))) ≡ 0 ⌝ }
-    ensures { λ _. ⌜ now (out .exit) ≡ uniformOf (borderOf mode) size (now (shape .entry)) (now («data» .entry)) ⌝ }
+    ensures { λ _. ⌜ now (out .exit) ≡ uniformOf (bordersOf modes) size (now (shape .entry)) (now («data» .entry)) ⌝ }
 {
     let axes = shape.len();
     if axes == 1 {
-        pass(data, shape, size, 0, mode, out);
+        pass(data, shape, size, 0, modes[0], out);
         return;
     }
     if axes == 2 {
-        pass(data, shape, size, 0, mode, second);
-        pass(second, shape, size, 1, mode, out);
+        pass(data, shape, size, 0, modes[0], second);
+        pass(second, shape, size, 1, modes[1], out);
         return;
     }
-    pass(data, shape, size, 0, mode, out);
-    pass(out, shape, size, 1, mode, second);
-    pass(second, shape, size, 2, mode, out);
+    pass(data, shape, size, 0, modes[0], out);
+    pass(out, shape, size, 1, modes[1], second);
+    pass(second, shape, size, 2, modes[2], out);
 }
 
 // Fills each cell of out with the mean of its window along one axis, cut toward zero; SciPy's uniform_filter1d.
@@ -102,30 +104,30 @@ pub fn uniform_filter1d(
 // * `data` - the cells of the grid, in row-major order.
 // * `shape` - the length of each axis.
 // * `size` - the length of the window on every axis.
-// * `mode` - the border, the same in every pass.
+// * `modes` - the border of each axis; those past the axis count are not read.
 // * `second` - a second grid as long as data, for what a pass leaves to the next; an accepted call leaves zeros in it.
 // * `out` - as long as data.
 //
 // Refuses: 1 (shape), 2 (length), 3 (level), 5 (kernel), 9 (constant), 11 (reach). A refused call leaves both lent
-// grids as they were. The rows 1 2 / 3 -6 with size 2 under Nearest give 1 1 / 2 0.
+// grids as they were. The rows 9 6 -3 / 12 0 15 with size 2 under Constant(5) and Constant(9) give 8 6 3 / 9 6 4.
 pub fn uniform_filter(
     data: &[i64],
     shape: &[usize],
     size: usize,
-    mode: BorderMode,
+    modes: [BorderMode; 3],
     second: &mut [i64],
     out: &mut [i64],
 ) -> u8
-    ensures { λ r. ⌜ ScratchAnswers (pos 0) (uniformJudged (borderOf mode) size (now (shape .entry))
+    ensures { λ r. ⌜ ScratchAnswers (pos 0) (uniformJudged (bordersOf modes) size (now (shape .entry))
         (now («data» .entry)) (length (now (out .entry))) (length (now (second .entry))))
-        (uniformOf (borderOf mode) size (now (shape .entry)) (now («data» .entry))) (now (out .entry))
+        (uniformOf (bordersOf modes) size (now (shape .entry)) (now («data» .entry))) (now (out .entry))
         (now (second .entry) ∷ []) r (now (out .exit)) (now (second .exit) ∷ []) ⌝ }
 {
-    let refusal = uniform_judge::judge_uniform(data, shape, size, mode, out.len(), second.len());
+    let refusal = uniform_judge::judge_uniform(data, shape, size, modes, out.len(), second.len());
     if refusal != 0 {
         return refusal;
     }
-    passes(data, shape, size, mode, second, out);
+    passes(data, shape, size, modes, second, out);
     array::fill(second, 0);
     numbers::ACCEPTED
 }

@@ -1,6 +1,6 @@
 -- No sum of a window of accepted levels leaves 64 bits, in any pass, since a mean is no larger than the levels: condition 12 never holds where 3, 5 and 9
 -- do not. Assumes nothing.
-use Prim.Native.Nat.{ℕ, zero, suc, _-_, _*_, _/_, _≤_}
+use Prim.Native.Nat.{ℕ, zero, suc, _+_, _-_, _*_, _/_, _<_, _≤_}
 use mathlib.Core.Path.{_≡_, refl}
 use mathlib.Core.Bool.{false}
 use mathlib.Core.List.{List}
@@ -17,8 +17,10 @@ use Rattle.numbers.proofs.Tests.{or-no}
 use Rattle.array_spec.specs.Conditions.{badLevel}
 use Rattle.array_spec.proofs.Judged.{levels-sized}
 use Rattle.lanes.proofs.Passes.{every-along}
+use Rattle.border.specs.Axes.{badConstants}
 use Rattle.border.specs.Border.{Border}
 use Rattle.border.specs.Modes.{badConstantBy}
+use Rattle.border.proofs.AnyAxis.{axis-at}
 use Rattle.pad_line.proofs.Sizes.{SizedBorder, constant-sized, line-sized}
 use Rattle.correlate_spec.specs.WindowSum.{windowSum}
 use Rattle.correlate_spec.proofs.Sliding.{sum-size}
@@ -48,19 +50,21 @@ module _ (b : Border ℤ) (size : ℕ) (ns : List ℕ) (c : SizedBorder level b)
       (λ s k. every-table (λ x. Size x level) (λ i. cut (windowSum (paddedFor b size s) size i) size) 0 (length s) (λ i. size-quot size (sum-size level (paddedFor b size s) (padded s k) size i))) ns a
       cells h
 
-  module _ (few : size ≤ 65) where
-    within : (a : ℕ) (cells : List ℤ) → Sized level cells → badUniformSums b size ns a cells ≡ false
-    within a cells h =
-        none-any beyond (windowSums b size ns a cells)
-        (every-imp (λ x. Size x sum) _ (windowSums b size ns a cells) (λ x s. beyond-sized x s (omega arith))
-        (every-along (pos 0) (λ x. Size x level) (λ x. Size x sum) (λ s. tabulate (windowSum (paddedFor b size s) size) 0 (length s)) (size-zero level) (size-zero sum)
-        (λ s k. every-table (λ x. Size x sum) (windowSum (paddedFor b size s) size) 0 (length s) (λ i. size-le (sum-size level (paddedFor b size s) (padded s k) size i) (omega arith))) ns a cells h))
+  within : size ≤ 65 → (a : ℕ) (cells : List ℤ) → Sized level cells → badUniformSums b size ns a cells ≡ false
+  within few a cells h =
+      none-any beyond (windowSums b size ns a cells)
+      (every-imp (λ x. Size x sum) _ (windowSums b size ns a cells) (λ x s. beyond-sized x s (omega arith))
+      (every-along (pos 0) (λ x. Size x level) (λ x. Size x sum) (λ s. tabulate (windowSum (paddedFor b size s) size) 0 (length s)) (size-zero level) (size-zero sum)
+      (λ s k. every-table (λ x. Size x sum) (windowSum (paddedFor b size s) size) 0 (length s) (λ i. size-le (sum-size level (paddedFor b size s) (padded s k) size i) (omega arith))) ns a cells h))
 
-    within-from : (a n : ℕ) (cells : List ℤ) → Sized level cells → badUniformSumsFrom b size ns a n cells ≡ false
-    within-from a zero cells h = refl
-    within-from a (suc n) cells h =
-        or-no (badUniformSums b size ns a cells) (badUniformSumsFrom b size ns (suc a) n (uniform1d b size ns a cells)) (within a cells h)
-        (within-from (suc a) n (uniform1d b size ns a cells) (kept a cells h))
+-- n passes from axis a on, all of them along axes of the grid
+module _ (bs : ℕ → Border ℤ) (size : ℕ) (ns : List ℕ) (few : size ≤ 65) (c : (a : ℕ) → a < length ns → SizedBorder level (bs a)) where
+  within-from : (a n : ℕ) (cells : List ℤ) → a + n ≤ length ns → Sized level cells → badUniformSumsFrom bs size ns a n cells ≡ false
+  within-from a zero cells l h = refl
+  within-from a (suc n) cells l h =
+      let b = c a (omega arith) in
+      or-no (badUniformSums (bs a) size ns a cells) (badUniformSumsFrom bs size ns (suc a) n (uniform1d (bs a) size ns a cells)) (within (bs a) size ns b few a cells h)
+      (within-from (suc a) n (uniform1d (bs a) size ns a cells) (omega arith) (kept (bs a) size ns b a cells h))
 
 -- ---- of a call whose conditions 3, 5 and 9 do not hold
 module _ (b : Border ℤ) (size : ℕ) (ns : List ℕ) (cells : List ℤ) (l : anyOf badLevel cells ≡ false) (c : badConstantBy badLevel b ≡ false) where
@@ -71,5 +75,7 @@ module _ (b : Border ℤ) (size : ℕ) (ns : List ℕ) (cells : List ℤ) (l : a
   pub no-bad-sums : outside 1 65 size ≡ false → (a : ℕ) → badUniformSums b size ns a cells ≡ false
   no-bad-sums n a = within b size ns (constant-sized b c) (size-few size n) a cells (levels-sized cells l)
 
-  pub no-bad-sums-from : outside 1 65 size ≡ false → (a n : ℕ) → badUniformSumsFrom b size ns a n cells ≡ false
-  no-bad-sums-from m a n = within-from b size ns (constant-sized b c) (size-few size m) a n cells (levels-sized cells l)
+pub no-bad-sums-from : (bs : ℕ → Border ℤ) (size : ℕ) (ns : List ℕ) (cells : List ℤ) → anyOf badLevel cells ≡ false → badConstants badLevel bs ns ≡ false → outside 1 65 size ≡ false
+    → badUniformSumsFrom bs size ns 0 (length ns) cells ≡ false
+no-bad-sums-from bs size ns cells l c n =
+    within-from bs size ns (size-few size n) (λ a h. constant-sized (bs a) (axis-at (λ b m. badConstantBy badLevel b) bs ns c a h)) 0 (length ns) cells (omega arith) (levels-sized cells l)

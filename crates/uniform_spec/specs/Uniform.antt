@@ -4,7 +4,7 @@
 --                                  floor(size/2) − 1 after it
 --   windowSums b size ns a cells   for each cell the sum of its window along axis a
 --   uniform1d b size ns a cells    for each cell the mean of its window along axis a
---   uniform b size ns cells        uniform1d along every axis, in rising order
+--   uniform bs size ns cells       uniform1d along every axis, in rising order, axis a by its own border bs a
 use Prim.Native.Nat.{ℕ, _-_, _/_}
 use mathlib.Core.List.{List}
 use lib.IntN.{ℤ, pos}
@@ -27,5 +27,5 @@ windowSums b size ns a cells = alongAxis (pos 0) (λ s. tabulate (windowSum (pad
 abbrev pub uniform1d : Border ℤ → ℕ → List ℕ → ℕ → List ℤ → List ℤ
 uniform1d b size ns a cells = alongAxis (pos 0) (λ s. means (paddedFor b size s) size (length s)) ns a cells
 
-abbrev pub uniform : Border ℤ → ℕ → List ℕ → List ℤ → List ℤ
-uniform b size ns cells = overAxes (uniform1d b size ns) 0 (length ns) cells
+abbrev pub uniform : (ℕ → Border ℤ) → ℕ → List ℕ → List ℤ → List ℤ
+uniform bs size ns cells = overAxes (λ a. uniform1d (bs a) size ns a) 0 (length ns) cells

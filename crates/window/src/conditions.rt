@@ -1,7 +1,7 @@
 // Conditions 5, 7 and 11 of a window along an axis, and of one along every axis.
 ghost use mathlib.Core.Path.{_≡_};
 ghost use mathlib.Core.Bool.{false};
-ghost use Rattle.numbers.specs.Lists.{anyOf};
+ghost use Rattle.border.specs.Axes.{bordersOf, anyAxis};
 ghost use Rattle.border.specs.Modes.{borderOf};
 ghost use Rattle.window_spec.specs.Window.{badSize, badWindowOrigin, badEitherPad, badReach};
 use border::BorderMode;
@@ -39,12 +39,18 @@ fn bad_pads(mode: BorderMode, left: usize, right: usize, n: usize) -> bool
     border::bad_pad(mode, n, right)
 }
 
-// The same of the lanes of some axis.
-pub(crate) fn bad_pads_any(mode: BorderMode, left: usize, right: usize, shape: &[usize]) -> bool
-    ensures { λ r. ⌜ r ≡ anyOf (badEitherPad (borderOf mode) left right) (now (shape .entry)) ⌝ }
+// The same of the lanes of some axis, each with its own border.
+pub(crate) fn bad_pads_any(
+    modes: [BorderMode; 3],
+    left: usize,
+    right: usize,
+    shape: &[usize],
+) -> bool
+    ensures { λ r. ⌜ r ≡ anyAxis (λ b. badEitherPad b left right) (bordersOf modes) (now (shape .entry)) ⌝ }
 {
     let mut a = 0;
     while a < shape.len() {
+        let mode = border::mode_on(modes, a);
         let n = shape[a];
         if bad_pads(mode, left, right, n) {
             return true;
@@ -69,17 +75,17 @@ pub fn bad_reach(mode: BorderMode, n: usize, size: usize, origin: isize) -> bool
     }
 }
 
-// Condition 11 of a grid: a lane of some axis has it. Of the shape 9 2 Mirror fills the pads of a window of 3 with
-// origin 0, and not of 5.
-pub fn bad_reach_any(mode: BorderMode, shape: &[usize], size: usize, origin: isize) -> bool
+// Condition 11 of a grid: a lane of some axis has it, by the axis's own border. Of the shape 9 2 a window of 5 with
+// origin 0 has it under Nearest and Mirror, and not under Mirror and Nearest.
+pub fn bad_reach_any(modes: [BorderMode; 3], shape: &[usize], size: usize, origin: isize) -> bool
     requires { ⌜ badWindowOrigin size origin ≡ false ⌝ }
-    ensures { λ r. ⌜ r ≡ anyOf (badReach (borderOf mode) size origin) (now (shape .entry)) ⌝ }
+    ensures { λ r. ⌜ r ≡ anyAxis (λ b. badReach b size origin) (bordersOf modes) (now (shape .entry)) ⌝ }
 {
     if size == 1 {
         return false;
     }
     match crate::origin::origin_check(size, origin) {
         Origin::Refused => false,
-        Origin::Pads(left, right) => bad_pads_any(mode, left, right, shape),
+        Origin::Pads(left, right) => bad_pads_any(modes, left, right, shape),
     }
 }

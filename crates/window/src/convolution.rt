@@ -58,6 +58,8 @@ pub fn bad_kernel_reach(
     let applied = applied_origin(side, origin, convolution);
     match crate::origin::kernel_origin_check(side, applied) {
         Origin::Refused => false,
-        Origin::Pads(left, right) => crate::conditions::bad_pads_any(mode, left, right, shape),
+        Origin::Pads(left, right) => {
+            crate::conditions::bad_pads_any([mode, mode, mode], left, right, shape)
+        }
     }
 }

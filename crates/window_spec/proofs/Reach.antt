@@ -8,9 +8,9 @@ use native.Mathlib.Omega.{arith}
 use borrow.Author.Tests.{eq-eqb, ne-eqb}
 use lib.Dec.{eqb}
 use lib.IntN.{ℤ}
-use Rattle.numbers.specs.Lists.{anyOf}
-use Rattle.numbers.proofs.Any.{any-and}
+use Rattle.border.specs.Axes.{anyAxis}
 use Rattle.border.specs.Border.{Border}
+use Rattle.border.proofs.AnyAxis.{axis-and}
 use Rattle.window_spec.specs.Origin.{badOrigin, originPads}
 use Rattle.window_spec.specs.Window.{leftOf, rightOf, leftPad, rightPad, badWindowOrigin, badEitherPad, badReach}
 use Rattle.window_spec.specs.declared.Origin.{Origin}
@@ -26,10 +26,10 @@ pads-size size o h = omega (arith, pads-sum (leftOf size) (rightOf size) o (axis
 pub single-cell : (size : ℕ) (t : Bool) → size ≡ 1 → false ≡ not (eqb size 1) && t
 single-cell size t e = sym (ap (λ x. not x && t) (eq-eqb size 1 e))
 
-pub single-any : {A : Type 0} (b : Border A) (size : ℕ) (o : ℤ) (ns : List ℕ) → size ≡ 1 → false ≡ anyOf (badReach b size o) ns
-single-any b size o ns e =
-    single-cell size (anyOf (badEitherPad b (leftPad size o) (rightPad size o)) ns) e
-    ∙ sym (any-and (not (eqb size 1)) (badEitherPad b (leftPad size o) (rightPad size o)) ns)
+pub single-any : {A : Type 0} (bs : ℕ → Border A) (size : ℕ) (o : ℤ) (ns : List ℕ) → size ≡ 1 → false ≡ anyAxis (λ b. badReach b size o) bs ns
+single-any bs size o ns e =
+    single-cell size (anyAxis (λ b. badEitherPad b (leftPad size o) (rightPad size o)) bs ns) e
+    ∙ sym (axis-and (not (eqb size 1)) (λ b. badEitherPad b (leftPad size o) (rightPad size o)) bs ns)
 
 module _ (size : ℕ) (o : ℤ) (more : size ≡ 1 → ⊥) where
   pub more-cells : (t : Bool) → t ≡ not (eqb size 1) && t
@@ -41,8 +41,10 @@ module _ (size : ℕ) (o : ℤ) (more : size ≡ 1 → ⊥) where
   pub reach-more : {A : Type 0} (b : Border A) (n : ℕ) → badEitherPad b (leftPad size o) (rightPad size o) n ≡ badReach b size o n
   reach-more b n = more-cells (badEitherPad b (leftPad size o) (rightPad size o) n)
 
-  pub reach-more-any : {A : Type 0} (b : Border A) (ns : List ℕ) → anyOf (badEitherPad b (leftPad size o) (rightPad size o)) ns ≡ anyOf (badReach b size o) ns
-  reach-more-any b ns = more-cells (anyOf (badEitherPad b (leftPad size o) (rightPad size o)) ns) ∙ sym (any-and (not (eqb size 1)) (badEitherPad b (leftPad size o) (rightPad size o)) ns)
+  pub reach-more-any : {A : Type 0} (bs : ℕ → Border A) (ns : List ℕ) → anyAxis (λ b. badEitherPad b (leftPad size o) (rightPad size o)) bs ns ≡ anyAxis (λ b. badReach b size o) bs ns
+  reach-more-any bs ns =
+      more-cells (anyAxis (λ b. badEitherPad b (leftPad size o) (rightPad size o)) bs ns)
+      ∙ sym (axis-and (not (eqb size 1)) (λ b. badEitherPad b (leftPad size o) (rightPad size o)) bs ns)
 
   module _ (h : badWindowOrigin size o ≡ false) {r : Origin} (e : r ≡ originPads size (leftOf size) (rightOf size) o) where
     pub origin-refused : r ≡ Refused → ⊥
@@ -59,5 +61,5 @@ module _ (size : ℕ) (o : ℤ) (more : size ≡ 1 → ⊥) where
     pub reach-is : {A : Type 0} (b : Border A) (n : ℕ) {l g : ℕ} → r ≡ Pads l g → badEitherPad b l g n ≡ badReach b size o n
     reach-is b n q = let P = pads-are q in (λ j. badEitherPad b (P .left j) (P .right j) n) ∙ reach-more b n
 
-    pub reach-any-is : {A : Type 0} (b : Border A) (ns : List ℕ) {l g : ℕ} → r ≡ Pads l g → anyOf (badEitherPad b l g) ns ≡ anyOf (badReach b size o) ns
-    reach-any-is b ns q = let P = pads-are q in (λ j. anyOf (badEitherPad b (P .left j) (P .right j)) ns) ∙ reach-more-any b ns
+    pub reach-any-is : {A : Type 0} (bs : ℕ → Border A) (ns : List ℕ) {l g : ℕ} → r ≡ Pads l g → anyAxis (λ b. badEitherPad b l g) bs ns ≡ anyAxis (λ b. badReach b size o) bs ns
+    reach-any-is bs ns q = let P = pads-are q in (λ j. anyAxis (λ b. badEitherPad b (P .left j) (P .right j)) bs ns) ∙ reach-more-any bs ns

@@ -136,6 +136,9 @@ impl<'a> Request<'a> {
             other => panic!("no border: {other}"),
         }
     }
+    fn borders(&mut self) -> [BorderMode<i64>; 3] {
+        [self.border(), self.border(), self.border()]
+    }
     fn pad_mode(&mut self) -> PadMode {
         match self.word() {
             "constant" => PadMode::Constant(self.number()),
@@ -262,13 +265,13 @@ fn grid_of(name: &str, mut r: Request) -> String {
             filled(r.lent(), |out| call(&data, &shape, &weights, &sides, mode, origin, out))
         }
         "prewitt" | "sobel" => {
-            let (axis, mode) = (r.number(), r.border());
+            let (axis, borders) = (r.number(), r.borders());
             let call = if name == "sobel" { suvvokal::sobel } else { suvvokal::prewitt };
-            filled_over(r.lent(), r.lent(), |second, out| call(&data, &shape, axis, mode, second, out))
+            filled_over(r.lent(), r.lent(), |second, out| call(&data, &shape, axis, borders, second, out))
         }
         "uniform_filter" => {
-            let (size, mode) = (r.number(), r.border());
-            filled_over(r.lent(), r.lent(), |second, out| suvvokal::uniform_filter(&data, &shape, size, mode, second, out))
+            let (size, borders) = (r.number(), r.borders());
+            filled_over(r.lent(), r.lent(), |second, out| suvvokal::uniform_filter(&data, &shape, size, borders, second, out))
         }
         "uniform_filter1d" => {
             let (size, axis, mode) = (r.number(), r.number(), r.border());
@@ -280,9 +283,9 @@ fn grid_of(name: &str, mut r: Request) -> String {
             filled(r.lent(), |out| call(&data, &shape, size, axis, mode, origin, out))
         }
         "minimum_filter" | "maximum_filter" => {
-            let (size, mode, origin) = (r.number(), r.border(), r.number());
+            let (size, borders, origin) = (r.number(), r.borders(), r.number());
             let call = if name == "minimum_filter" { suvvokal::minimum_filter } else { suvvokal::maximum_filter };
-            filled_over(r.lent(), r.lent(), |second, out| call(&data, &shape, size, mode, origin, second, out))
+            filled_over(r.lent(), r.lent(), |second, out| call(&data, &shape, size, borders, origin, second, out))
         }
         other => panic!("no call: {other}"),
     }

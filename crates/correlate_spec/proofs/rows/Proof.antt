@@ -6,7 +6,7 @@ use Rattle.numbers.specs.Lists.{tabulate}
 use Rattle.numbers.specs.Windows.{windowOf}
 use Rattle.array_spec.specs.Grid.{placeOf, coordinate}
 use Rattle.lanes.specs.Lanes.{laneAt, alongAxis}
-use Rattle.border.specs.Border.{cellFor, extendedLane, allInside, extendedGrid}
+use Rattle.border.specs.Border.{cellFor, extendedLane, outerConstants, extendedGridBy}
 use Rattle.pad_line.specs.Line.{paddedAt, paddedLine}
 use Rattle.symmetry_spec.specs.Class.{someDiffers, exceeds}
 use Rattle.correlate_spec.specs.Weighed.{summed}
@@ -18,7 +18,7 @@ use Rattle.correlate_spec.proofs.rows.Tie as tie
 
 returns : tie.Need-returns
 unfolding tabulate windowOf summed add mul alongAxis laneAt paddedAt paddedLine extendedLane cellFor correlatedBy convolvedAt convolvedBy someDiffers exceeds sub lt
-    placeOf coordinate allInside extendedGrid kernelSum kernelAnswer convolvedSum
+    placeOf coordinate outerConstants extendedGridBy kernelSum kernelAnswer convolvedSum
 returns c = record {
   padded = refl;
   window-sums = refl;

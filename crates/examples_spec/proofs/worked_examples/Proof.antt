@@ -12,7 +12,7 @@ use Rattle.numbers.specs.Windows.{windowOf}
 use Rattle.array_spec.specs.Conditions.{badShape, gridCount, badLevel}
 use Rattle.array_spec.specs.Grid.{placeOf, coordinate}
 use Rattle.lanes.specs.Lanes.{laneAt, alongAxis}
-use Rattle.border.specs.Border.{cellFor, extendedLane, allInside, extendedGrid}
+use Rattle.border.specs.Border.{cellFor, extendedLane, allInside, outerConstants, extendedGridBy}
 use Rattle.window_spec.specs.Origin.{badOrigin}
 use Rattle.pad_line.specs.Line.{paddedAt, paddedLine}
 use Rattle.statistics_spec.specs.Sorting.{inserted, sorted}
@@ -41,10 +41,13 @@ unfolding tabulate placeOf coordinate cellsAround trueAround medianAnswer
 eight a b c d e f g h = ap (λ n. replicate 8 (ltb 3 n)) (together (one a) (one b) (one c) (one d) (one e) (one f) (one g) (one h))
 
 examples : WorkedExamples
-unfolding tabulate windowOf badShape gridCount badLevel placeOf coordinate laneAt alongAxis cellFor extendedLane allInside extendedGrid badOrigin paddedAt paddedLine inserted sorted medianOf levelTo
-    paddedGrid firstIn lastIn numberOf gridNumber answerOf after run summed correlatedBy convolvedAt convolvedBy kernelSum kernelAnswer convolvedSum
+unfolding tabulate windowOf badShape gridCount badLevel placeOf coordinate laneAt alongAxis cellFor extendedLane allInside outerConstants extendedGridBy badOrigin
+    paddedAt paddedLine inserted sorted medianOf levelTo paddedGrid firstIn lastIn numberOf gridNumber answerOf after run summed correlatedBy convolvedAt convolvedBy kernelSum kernelAnswer convolvedSum
     gradientTo
 examples = record { t1 = refl; t2 = refl; t3 = refl; t4 = refl; t5 = refl; t6 = refl; t7 = refl; t8 = refl; t9 = eight; t10 = refl }
+
+one-border-requires : tie.Need-one-border-requires
+one-border-requires c κs = search needs
 
 order-of-axes-requires : tie.Need-order-of-axes-requires
 order-of-axes-requires c κs = search needs
@@ -53,7 +56,7 @@ convolution-is-correlation-requires : tie.Need-convolution-is-correlation-requir
 convolution-is-correlation-requires c κs = search needs
 
 returns : tie.Need-returns
-returns c = (examples, c .before .order-of-axes .ensures, c .convolution-is-correlation .ensures)
+returns c = (examples, c .before .before .one-border .ensures, c .before .order-of-axes .ensures, c .convolution-is-correlation .ensures)
 
 pub worked-examples-spec : {M : Type 1} → statement M
-worked-examples-spec = tie.close (tie.spec order-of-axes-requires convolution-is-correlation-requires returns)
+worked-examples-spec = tie.close (tie.spec one-border-requires order-of-axes-requires convolution-is-correlation-requires returns)

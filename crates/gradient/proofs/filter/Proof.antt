@@ -8,7 +8,7 @@ use lib.IntN.{ℤ, pos}
 use lib.ListN.{length, replicate}
 use Rattle.numbers.specs.Refusal.{refusalOf}
 use Rattle.numbers.proofs.Refusal.{scratch-refused, scratch-accepted}
-use Rattle.border.specs.Modes.{borderOf}
+use Rattle.border.specs.Axes.{bordersOf}
 use Rattle.gradient_spec.specs.Judge.{gradientJudged}
 use borrow.Author.Needs.{needs}
 use Rattle.gradient.proofs.filter.Statement.{statement}
@@ -16,7 +16,7 @@ use Rattle.gradient.proofs.filter.Tie as tie
 
 -- the judge's number, by these weights
 judged : (c : tie.After-judge-gradient) → let a = c .before .before .args in c .judge-gradient .result
-    ≡ refusalOf (gradientJudged (now (a .smooth)) (borderOf (a .mode)) (now (a .shape)) (a .axis) (now (a .«data»)) (length (now (a .out))) (length (now (a .second))))
+    ≡ refusalOf (gradientJudged (now (a .smooth)) (bordersOf (a .modes)) (now (a .shape)) (a .axis) (now (a .«data»)) (length (now (a .out))) (length (now (a .second))))
 judged c = let s = c .before .before in c .judge-gradient .ensures (now (s .args .smooth)) (s .pre)
 
 judge-gradient-requires : tie.Need-judge-gradient-requires

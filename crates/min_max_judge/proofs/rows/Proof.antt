@@ -22,6 +22,9 @@ returns c = record {
   constant-out = refl;
   reach-out = refl;
   last-axis-out = refl;
+  own-reach = refl;
+  own-constant = refl;
+  constant-first = refl;
 }
 
 pub rows-spec : {M : Type 1} → statement M

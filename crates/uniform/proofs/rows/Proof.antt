@@ -18,6 +18,8 @@ returns c = record {
   t6-grid = refl;
   even = refl;
   both = refl;
+  own-borders = refl;
+  third-border = refl;
   half-over = refl;
   half-along = refl;
 }

@@ -1,16 +1,17 @@
 -- `capi::grids::suvvokal_uniform_filter` meets its contract: the library's answers, or the refusal of an unknown code.
 -- Assumes nothing.
-use mathlib.Core.Path.{_≡_}
-use mir.Syntax.{w64}
-use mir.Val.{toZ, ofZ}
 use lib.IntN.{pos}
 use borrow.Author.Needs.{needs}
+use Rattle.numbers.proofs.Tests.{condition-is}
 use Rattle.codes.proofs.Coded.{scratch-known, scratch-unknown}
 use Rattle.capi.proofs.grids.suvvokal_uniform_filter.Statement.{statement}
 use Rattle.capi.proofs.grids.suvvokal_uniform_filter.Tie as tie
 
-mode-of-requires : tie.Need-mode-of-requires
-mode-of-requires c κs = search needs
+modes-of-requires : tie.Need-modes-of-requires
+modes-of-requires c κs = search needs
+
+unknown-any-requires : tie.Need-unknown-any-requires
+unknown-any-requires c κs = search needs
 
 judge-uniform-requires : tie.Need-judge-uniform-requires
 judge-uniform-requires c κs = search needs
@@ -20,10 +21,9 @@ unknown-after-requires c κs = search needs
 
 returns : tie.Need-returns
 returns c =
-    let a = c .before .before .before .before .before .args in
-    let k : toZ w64 (ofZ w64 (a .constant)) ≡ a .constant = search needs in
-    let m = rw k at (c .before .before .before .mode-of .ensures) in
-    scratch-unknown (pos 0) _ 4 _ (tt, (tt, (tt, (tt, (tt, (tt, (tt, tt))))))) (c .before .before .if1 .taken) (rw m at (c .before .judge-uniform .ensures)) (c .unknown-after .ensures)
+    let m = c .before .before .before .before .modes-of .ensures in
+    let u = condition-is (c .before .before .before .unknown-any .ensures) (c .before .before .if1 .taken) in
+    scratch-unknown (pos 0) _ _ (tt, (tt, (tt, (tt, (tt, (tt, (tt, tt))))))) u (rw m at (c .before .judge-uniform .ensures)) (c .unknown-after .ensures)
 
 uniform-filter-requires : tie.Need-uniform-filter-requires
 uniform-filter-requires c κs = search needs
@@ -36,16 +36,16 @@ same-length-2 c = search needs
 
 returns-2 : tie.Need-returns-2
 returns-2 c =
-    let a = c .before .before .before .before .before .before .before .before .args in
-    let k : toZ w64 (ofZ w64 (a .constant)) ≡ a .constant = search needs in
-    let m = rw k at (c .before .before .before .before .before .before .mode-of .ensures) in
-    scratch-known (pos 0) _ 4 (c .before .before .before .before .before .if1 .left) (rw m at (c .before .before .uniform-filter .ensures))
+    let m = c .before .before .before .before .before .before .before .modes-of .ensures in
+    let u = condition-is (c .before .before .before .before .before .before .unknown-any .ensures) (c .before .before .before .before .before .if1 .left) in
+    scratch-known (pos 0) _ u (rw m at (c .before .before .uniform-filter .ensures))
 
 pub suvvokal-uniform-filter-spec : {M : Type 1} → statement M
 suvvokal-uniform-filter-spec =
     tie.close
     (tie.spec
-    mode-of-requires
+    modes-of-requires
+    unknown-any-requires
     judge-uniform-requires
     unknown-after-requires
     returns

@@ -5,9 +5,10 @@ use lib.ListN.{drop}
 use denote.Ref.{now}
 use Rattle.array_spec.specs.Conditions.{badLevel}
 use Rattle.array_spec.proofs.Judged.{grid-refused, grid-ends}
-use Rattle.border.specs.Modes.{borderOf}
+use Rattle.border.specs.Axes.{bordersOf}
 use Rattle.gradient_spec.specs.Judge.{passesJudged, badGradientSums, gradientJudged}
 use Rattle.gradient_spec.proofs.Sums.{no-gradient-sums}
+use Rattle.gradient.proofs.EachPass.{axis-in}
 use borrow.Author.Needs.{needs}
 use Rattle.gradient.proofs.judge.judge_gradient.Statement.{statement}
 use Rattle.gradient.proofs.judge.judge_gradient.Tie as tie
@@ -22,7 +23,7 @@ returns : tie.Need-returns
 returns c smooth S =
     let a = c .before .before .before .before .args in
     grid-refused badLevel (now (a .shape)) (now (a .«data»)) (a .out ∷ a .second ∷ []) (drop 3
-    (gradientJudged smooth (borderOf (a .mode)) (now (a .shape)) (a .axis) (now (a .«data»)) (a .out) (a .second)))
+    (gradientJudged smooth (bordersOf (a .modes)) (now (a .shape)) (a .axis) (now (a .«data»)) (a .out) (a .second)))
     (c .before .judge-grid .ensures) (c .if1 .taken)
 
 judge-passes-requires : tie.Need-judge-passes-requires
@@ -31,11 +32,11 @@ judge-passes-requires c κs = search needs
 returns-2 : tie.Need-returns-2
 returns-2 c smooth S =
     let a = c .before .before .before .before .before .args in
-    let b = borderOf (a .mode) in
-    grid-ends badLevel (now (a .shape)) (now (a .«data»)) (a .out ∷ a .second ∷ []) (passesJudged b (now (a .shape)) (a .axis)) (badGradientSums smooth b (now (a .shape)) (a .axis) (now (a .«data»)))
-    12 (tt, (tt, (tt, tt)))
+    let bs = bordersOf (a .modes) in
+    grid-ends badLevel (now (a .shape)) (now (a .«data»)) (a .out ∷ a .second ∷ []) (passesJudged bs (now (a .shape)) (a .axis))
+    (badGradientSums smooth bs (now (a .shape)) (a .axis) (now (a .«data»))) 12 (tt, (tt, (tt, tt)))
     (c .before .before .judge-grid .ensures) (c .before .if1 .left) (c .judge-passes .ensures)
-    (λ G p. no-gradient-sums b S (now (a .shape)) (a .axis) (now (a .«data»)) (G .shape) (G .levels) (p .1 .0))
+    (λ G p. no-gradient-sums bs S (now (a .shape)) (a .axis) (now (a .«data»)) (G .shape) (G .levels) (axis-in (now (a .shape)) (a .axis) (p .0)) (p .1 .0))
 
 pub judge-gradient-spec : {M : Type 1} → statement M
 judge-gradient-spec =

@@ -1,16 +1,15 @@
 -- `judge_passes` meets its contract: each return has the answers of the conditions on its way.
 -- Assumes nothing.
 use mathlib.Core.Path.{_≡_, refl, _∙_}
-use Prim.Native.Nat.{ℕ}
+use Prim.Native.Nat.{ℕ, suc}
 use mathlib.Core.Bool.{Bool, true, false, _||_}
 use mathlib.Core.List.{List, [], _∷_}
 use lib.IntN.{ℤ, pos}
 use denote.Ref.{now}
-use Rattle.numbers.specs.Lists.{anyOf}
 use Rattle.numbers.proofs.Tests.{condition-is}
 use Rattle.array_spec.specs.Conditions.{badLevel, badAxis}
 use Rattle.border.specs.Border.{Border}
-use Rattle.border.specs.Modes.{borderOf, badConstantBy}
+use Rattle.border.specs.Axes.{bordersOf, anyAxis, badConstants}
 use Rattle.window_spec.specs.Origin.{badOrigin}
 use Rattle.border.specs.Reach.{badPad}
 use Rattle.window_spec.specs.Window.{badReach}
@@ -19,9 +18,9 @@ use Rattle.gradient.proofs.judge.judge_passes.Statement.{statement}
 use Rattle.gradient.proofs.judge.judge_passes.Tie as tie
 
 -- three weights over the cell need one cell on each side
-pads-one : (b : Border ℤ) (ns : List ℕ) → anyOf (badReach b 3 (pos 0)) ns ≡ anyOf (λ n. badPad b n 1) ns
-pads-one b [] = refl
-pads-one b (n ∷ ns) = (λ j. twice (badPad b n 1) j || pads-one b ns j)
+pads-one : (bs : ℕ → Border ℤ) (ns : List ℕ) → anyAxis (λ b. badReach b 3 (pos 0)) bs ns ≡ anyAxis (λ b n. badPad b n 1) bs ns
+pads-one bs [] = refl
+pads-one bs (n ∷ ns) = (λ j. twice (badPad (bs 0) n 1) j || pads-one (λ a. bs (suc a)) ns j)
   where
     twice : (t : Bool) → t || t ≡ t
     twice true = refl
@@ -31,11 +30,12 @@ pads-one b (n ∷ ns) = (λ j. twice (badPad b n 1) j || pads-one b ns j)
 axis-in : (c : tie.Else1) → let a = c .before .before .before .args in badAxis (now (a .shape)) (a .axis) ≡ false
 axis-in c = condition-is (c .before .bad-axis .ensures) (c .if1 .left)
 
-constant-in : (c : tie.Else2) → badConstantBy badLevel (borderOf (c .before .before .before .before .before .args .mode)) ≡ false
-constant-in c = condition-is (c .before .bad-constant .ensures) (c .if2 .left)
+constant-in : (c : tie.Else2) → let a = c .before .before .before .before .before .args in badConstants badLevel (bordersOf (a .modes)) (now (a .shape)) ≡ false
+constant-in c = condition-is (c .before .bad-constant-any .ensures) (c .if2 .left)
 
-reached : (c : tie.After-bad-reach-any) → let a = c .before .before .before .before .before .before .args in c .bad-reach-any .result ≡ anyOf (λ n. badPad (borderOf (a .mode)) n 1) (now (a .shape))
-reached c = let a = c .before .before .before .before .before .before .args in c .bad-reach-any .ensures ∙ pads-one (borderOf (a .mode)) (now (a .shape))
+reached : (c : tie.After-bad-reach-any) → let a = c .before .before .before .before .before .before .args in c .bad-reach-any .result
+    ≡ anyAxis (λ b n. badPad b n 1) (bordersOf (a .modes)) (now (a .shape))
+reached c = let a = c .before .before .before .before .before .before .args in c .bad-reach-any .ensures ∙ pads-one (bordersOf (a .modes)) (now (a .shape))
 
 bad-axis-requires : tie.Need-bad-axis-requires
 bad-axis-requires c κs = search needs
@@ -43,11 +43,11 @@ bad-axis-requires c κs = search needs
 returns : tie.Need-returns
 returns c = simp (condition-is (c .before .bad-axis .ensures) (c .if1 .taken)) refl
 
-bad-constant-requires : tie.Need-bad-constant-requires
-bad-constant-requires c κs = search needs
+bad-constant-any-requires : tie.Need-bad-constant-any-requires
+bad-constant-any-requires c κs = search needs
 
 returns-2 : tie.Need-returns-2
-returns-2 c = simp (axis-in (c .before .before), condition-is (c .before .bad-constant .ensures) (c .if2 .taken)) refl
+returns-2 c = simp (axis-in (c .before .before), condition-is (c .before .bad-constant-any .ensures) (c .if2 .taken)) refl
 
 bad-reach-any-requires : tie.Need-bad-reach-any-requires
 unfolding badOrigin
@@ -65,7 +65,7 @@ judge-passes-spec =
     (tie.spec
     bad-axis-requires
     returns
-    bad-constant-requires
+    bad-constant-any-requires
     returns-2
     bad-reach-any-requires
     returns-3

@@ -10,7 +10,7 @@ use lib.ListN.{length, replicate}
 use Prim.Native.Nat.{ℕ}
 use Rattle.numbers.specs.Refusal.{refusalOf}
 use Rattle.numbers.proofs.Refusal.{scratch-refused, scratch-accepted}
-use Rattle.min_max_judge.specs.Judge.{callOf, filterJudged}
+use Rattle.min_max_judge.specs.Judge.{gridCallOf, filterJudged}
 use Rattle.min_max_axis.specs.Lane.{orderOf}
 use Rattle.min_max_spec.specs.Filters.{filterAnswer}
 use borrow.Author.Needs.{needs}
@@ -19,11 +19,11 @@ use Rattle.min_max.proofs.every_axis.filter.Tie as tie
 
 -- the judge's number
 judged : (c : tie.After-judge-filter) → let a = c .before .before .before .args in c .judge-filter .result
-    ≡ refusalOf (filterJudged (now (a .«data»)) (callOf (now (a .shape)) (a .size) 0 (a .mode) (a .origin) (now (a .out))) (length (now (a .second))))
+    ≡ refusalOf (filterJudged (now (a .«data»)) (gridCallOf (now (a .shape)) (a .size) (a .modes) (a .origin) (now (a .out))) (length (now (a .second))))
 judged c =
     let a = c .before .before .before .args in
     let e : toZ w64 (ofZ w64 (a .origin)) ≡ a .origin = search needs in
-    c .judge-filter .ensures ∙ ap (λ (o : ℤ). refusalOf (filterJudged (now (a .«data»)) (callOf (now (a .shape)) (a .size) 0 (a .mode) o (now (a .out))) (length (now (a .second))))) e
+    c .judge-filter .ensures ∙ ap (λ (o : ℤ). refusalOf (filterJudged (now (a .«data»)) (gridCallOf (now (a .shape)) (a .size) (a .modes) o (now (a .out))) (length (now (a .second))))) e
 
 judge-filter-requires : tie.Need-judge-filter-requires
 judge-filter-requires c κs = search needs
@@ -52,7 +52,7 @@ returns-2 c = let a = c .before .before .before .before .before .before .before 
     let p = c .before .before .before .before .before .passes in
     scratch-accepted (pos 0) _ _ _ _ _ (judged (c .before .before .before .before .before .before .before .before .before))
     (c .before .before .before .before .before .before .before .before .if1 .left)
-    (p .ensures ∙ ap (λ (o : ℤ). filterAnswer (orderOf (a .extreme)) (callOf (now (a .shape)) (a .size) 0 (a .mode) o (now (a .out))) (now (a .«data»))) e)
+    (p .ensures ∙ ap (λ (o : ℤ). filterAnswer (orderOf (a .extreme)) (gridCallOf (now (a .shape)) (a .size) (a .modes) o (now (a .out))) (now (a .«data»))) e)
     (ap (λ (s : List ℤ). s ∷ []) (c .before .fill .ensures ∙ ap (λ (n : ℕ). replicate n (pos 0)) (p .kept .1 .1 .1 .1 .1 .1 .0)))
 
 pub filter-spec : {M : Type 1} → statement M

@@ -107,7 +107,23 @@ unfolding partOf
 returns-25 c = rw (c .match .keys25) refl
 
 returns-26 : tie.Need-returns-26
-returns-26 c = sym (part-none (c .before .args .letter) (c .match .rest))
+unfolding partOf
+returns-26 c = rw (c .match .keys26) refl
+
+returns-27 : tie.Need-returns-27
+unfolding partOf
+returns-27 c = rw (c .match .keys27) refl
+
+returns-28 : tie.Need-returns-28
+unfolding partOf
+returns-28 c = rw (c .match .keys28) refl
+
+returns-29 : tie.Need-returns-29
+unfolding partOf
+returns-29 c = rw (c .match .keys29) refl
+
+returns-30 : tie.Need-returns-30
+returns-30 c = sym (part-none (c .before .args .letter) (c .match .rest))
 
 pub part-of-spec : {M : Type 1} → statement M
 part-of-spec =
@@ -138,4 +154,8 @@ part-of-spec =
     returns-23
     returns-24
     returns-25
-    returns-26)
+    returns-26
+    returns-27
+    returns-28
+    returns-29
+    returns-30)

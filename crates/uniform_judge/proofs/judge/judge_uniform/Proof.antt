@@ -5,7 +5,7 @@ use lib.ListN.{length, drop}
 use denote.Ref.{now}
 use Rattle.array_spec.specs.Conditions.{badLevel}
 use Rattle.array_spec.proofs.Judged.{grid-refused, grid-ends}
-use Rattle.border.specs.Modes.{borderOf}
+use Rattle.border.specs.Axes.{bordersOf}
 use Rattle.uniform_spec.specs.Judge.{uniformAxesJudged, badUniformSumsFrom, uniformJudged}
 use Rattle.uniform_spec.proofs.Sums.{no-bad-sums-from}
 use borrow.Author.Needs.{needs}
@@ -21,7 +21,7 @@ judge-grid-requires c κs = search needs
 returns : tie.Need-returns
 returns c =
     let a = c .before .before .before .before .args in
-    grid-refused badLevel (now (a .shape)) (now (a .«data»)) (a .out ∷ a .second ∷ []) (drop 3 (uniformJudged (borderOf (a .mode)) (a .size) (now (a .shape)) (now (a .«data»)) (a .out) (a .second)))
+    grid-refused badLevel (now (a .shape)) (now (a .«data»)) (a .out ∷ a .second ∷ []) (drop 3 (uniformJudged (bordersOf (a .modes)) (a .size) (now (a .shape)) (now (a .«data»)) (a .out) (a .second)))
     (c .before .judge-grid .ensures) (c .if1 .taken)
 
 judge-axes-requires : tie.Need-judge-axes-requires
@@ -30,11 +30,11 @@ judge-axes-requires c κs = search needs
 returns-2 : tie.Need-returns-2
 returns-2 c =
     let a = c .before .before .before .before .before .args in
-    let b = borderOf (a .mode) in
-    grid-ends badLevel (now (a .shape)) (now (a .«data»)) (a .out ∷ a .second ∷ []) (uniformAxesJudged b (a .size) (now (a .shape)))
-    (badUniformSumsFrom b (a .size) (now (a .shape)) 0 (length (now (a .shape))) (now (a .«data»))) 12 (tt, (tt, (tt, tt))) (c .before .before .judge-grid .ensures) (c .before .if1 .left)
+    let bs = bordersOf (a .modes) in
+    grid-ends badLevel (now (a .shape)) (now (a .«data»)) (a .out ∷ a .second ∷ []) (uniformAxesJudged bs (a .size) (now (a .shape)))
+    (badUniformSumsFrom bs (a .size) (now (a .shape)) 0 (length (now (a .shape))) (now (a .«data»))) 12 (tt, (tt, (tt, tt))) (c .before .before .judge-grid .ensures) (c .before .if1 .left)
     (c .judge-axes .ensures)
-    (λ G p. no-bad-sums-from b (a .size) (now (a .shape)) (now (a .«data»)) (G .levels) (p .1 .0) (p .0) 0 (length (now (a .shape))))
+    (λ G p. no-bad-sums-from bs (a .size) (now (a .shape)) (now (a .«data»)) (G .levels) (p .1 .0) (p .0))
 
 pub judge-uniform-spec : {M : Type 1} → statement M
 judge-uniform-spec =

@@ -1,26 +1,38 @@
 -- `bad_pads_any` meets its contract: no axis before the one that the loop has reached refuses its pads.
 -- Assumes nothing.
 use Prim.Native.Nat.{_≤_, _-_}
-use mathlib.Core.Path.{_≡_, refl, sym}
-use lib.ListN.{length, drop}
+use mathlib.Core.Path.{_≡_, sym, ap, _∙_}
+use lib.ListN.{length, getD}
 use denote.Ref.{now}
-use Rattle.numbers.specs.Lists.{anyOf}
-use Rattle.numbers.proofs.Any.{any-hit, any-miss, any-end}
 use Rattle.numbers.proofs.Tests.{condition-is}
+use Rattle.border.specs.Axes.{bordersOf, anyAxis}
 use Rattle.border.specs.Modes.{borderOf}
+use Rattle.border.specs.declared.BorderMode.{BorderMode}
+use Rattle.border.proofs.AnyAxis.{axesFrom, axis-start, axis-hit, axis-miss, axis-end}
 use Rattle.window_spec.specs.Window.{badEitherPad}
 use borrow.Author.Needs.{needs}
 use Rattle.window.proofs.conditions.bad_pads_any.Statement.{statement}
 use Rattle.window.proofs.conditions.bad_pads_any.Tie as tie
 
 abbrev Inv-loop : tie.InvT-loop
-Inv-loop mode left right shape a₀ a = (a ≤ length shape) × (anyOf (badEitherPad (borderOf mode) left right) shape ≡ anyOf (badEitherPad (borderOf mode) left right) (drop a shape))
+Inv-loop modes left right shape a₀ a = (a ≤ length shape) × (anyAxis (λ b. badEitherPad b left right) (bordersOf modes) shape ≡ axesFrom (λ b. badEitherPad b left right) (bordersOf modes) shape a)
 
 abbrev μ-loop : tie.MeasureT-loop
-μ-loop mode left right shape a₀ a = length shape - a
+μ-loop modes left right shape a₀ a = length shape - a
+
+-- the axis's own border was asked
+asked : (c : tie.After-bad-pads Inv-loop μ-loop) → let a = c .before .before .before .before .before .before .args in let i = c .before .before .before .before .loop .a in c .bad-pads .result
+    ≡ badEitherPad (bordersOf (a .modes) i) (a .left) (a .right) (getD (now (a .shape)) i 0)
+asked c =
+    let a = c .before .before .before .before .before .before .args in
+    let i = c .before .before .before .before .loop .a in
+    c .bad-pads .ensures ∙ ap (λ (m : BorderMode). badEitherPad (borderOf m) (a .left) (a .right) (getD (now (a .shape)) i 0)) (c .before .before .mode-on .ensures)
 
 loop-holds : tie.Need-loop-holds Inv-loop μ-loop
-loop-holds c = (search needs, refl)
+loop-holds c = let a = c .before .args in (search needs, axis-start (λ b. badEitherPad b (a .left) (a .right)) (bordersOf (a .modes)) (now (a .shape)))
+
+mode-on-requires : tie.Need-mode-on-requires Inv-loop μ-loop
+mode-on-requires c κs = search needs
 
 mul-n : tie.Need-mul-n Inv-loop μ-loop
 mul-n c = search needs
@@ -33,10 +45,9 @@ bad-pads-requires c κs = search needs
 
 returns : tie.Need-returns Inv-loop μ-loop
 returns c =
-    let s = c .before .before .before .before .before .before in
-    let l = c .before .before .before .before .loop in
-    sym (any-hit (badEitherPad (borderOf (s .args .mode)) (s .args .left) (s .args .right)) 0 (l .a) (now (s .args .shape)) (search needs) (l .inv .1)
-    (condition-is (c .before .bad-pads .ensures) (c .if1 .taken)))
+    let a = c .before .before .before .before .before .before .before .args in
+    let l = c .before .before .before .before .before .loop in
+    sym (axis-hit (λ b. badEitherPad b (a .left) (a .right)) (bordersOf (a .modes)) 0 (l .a) (now (a .shape)) (search needs) (l .inv .1) (condition-is (asked (c .before)) (c .if1 .taken)))
 
 add-a : tie.Need-add-a Inv-loop μ-loop
 add-a c = search needs
@@ -46,18 +57,15 @@ loop-less c = search needs
 
 loop-again : tie.Need-loop-again Inv-loop μ-loop
 loop-again c =
-    let s = c .before .before .before .before .before .before in
-    let l = c .before .before .before .before .loop in (
-      search needs,
-      any-miss (badEitherPad (borderOf (s .args .mode)) (s .args .left) (s .args .right)) 0 (l .a) (now (s .args .shape)) (search needs) (l .inv .1)
-          (condition-is (c .before .bad-pads .ensures) (c .if1 .left)),
-    )
+    let a = c .before .before .before .before .before .before .before .args in
+    let l = c .before .before .before .before .before .loop in
+    (search needs, axis-miss (λ b. badEitherPad b (a .left) (a .right)) (bordersOf (a .modes)) 0 (l .a) (now (a .shape)) (search needs) (l .inv .1) (condition-is (asked (c .before)) (c .if1 .left)))
 
 returns-2 : tie.Need-returns-2 Inv-loop μ-loop
 returns-2 c =
-    let s = c .before .before .before in
+    let a = c .before .before .before .args in
     let l = c .before .loop in
-    sym (any-end (badEitherPad (borderOf (s .args .mode)) (s .args .left) (s .args .right)) (l .a) (now (s .args .shape)) (search needs) (l .inv .1))
+    sym (axis-end (λ b. badEitherPad b (a .left) (a .right)) (bordersOf (a .modes)) (l .a) (now (a .shape)) (search needs) (l .inv .1))
 
 pub bad-pads-any-spec : {M : Type 1} → statement M
 bad-pads-any-spec =
@@ -66,6 +74,7 @@ bad-pads-any-spec =
     Inv-loop
     μ-loop
     loop-holds
+    mode-on-requires
     mul-n
     shared-slice-read-n
     bad-pads-requires

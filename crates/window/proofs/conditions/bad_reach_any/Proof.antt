@@ -1,4 +1,4 @@
--- `bad_reach_any` meets its contract: an accepted origin gives the pads, the same on every axis, and the border is asked about them.
+-- `bad_reach_any` meets its contract: an accepted origin gives the pads, the same on every axis, and each border is asked about them.
 -- Assumes nothing.
 use mathlib.Core.Path.{_≡_, ap, _∙_}
 use mir.Syntax.{w64}
@@ -7,7 +7,7 @@ use borrow.Author.Needs.{needs}
 use denote.Ref.{now}
 use Rattle.window_spec.specs.Window.{leftOf, rightOf}
 use Rattle.window_spec.proofs.Reach.{single-any, origin-refused, reach-any-is}
-use Rattle.border.specs.Modes.{borderOf}
+use Rattle.border.specs.Axes.{bordersOf}
 use Rattle.window_spec.specs.Origin.{originPads}
 use Rattle.window.proofs.conditions.bad_reach_any.Statement.{statement}
 use Rattle.window.proofs.conditions.bad_reach_any.Tie as tie
@@ -20,7 +20,7 @@ checked c =
     c .origin-check .ensures .pads ∙ ap (originPads (a .size) (leftOf (a .size)) (rightOf (a .size))) e
 
 returns : tie.Need-returns
-returns c = let a = c .before .before .args in single-any (borderOf (a .mode)) (a .size) (a .origin) (now (a .shape)) (c .if1 .taken)
+returns c = let a = c .before .before .args in single-any (bordersOf (a .modes)) (a .size) (a .origin) (now (a .shape)) (c .if1 .taken)
 
 origin-check-requires : tie.Need-origin-check-requires
 origin-check-requires c κs = search needs
@@ -43,7 +43,7 @@ returns-3 : tie.Need-returns-3
 returns-3 c =
     let k = c .before .before .before .before in
     let s = k .before .before .before in
-    c .bad-pads-any .ensures ∙ reach-any-is (s .args .size) (s .args .origin) (k .before .if1 .left) (s .pre) (checked k) (borderOf (s .args .mode)) (now (s .args .shape))
+    c .bad-pads-any .ensures ∙ reach-any-is (s .args .size) (s .args .origin) (k .before .if1 .left) (s .pre) (checked k) (bordersOf (s .args .modes)) (now (s .args .shape))
     (c .before .before .left .given .1)
 
 pub bad-reach-any-spec : {M : Type 1} → statement M

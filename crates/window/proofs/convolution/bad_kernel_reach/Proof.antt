@@ -3,21 +3,26 @@
 use Prim.Native.Nat.{_/_}
 use mathlib.Core.Path.{_≡_, ap, _∙_}
 use mathlib.Core.Bool.{false}
+use mathlib.Core.List.{[], _∷_}
 use mir.Syntax.{w64}
 use mir.Val.{toZ, ofZ}
 use denote.Ref.{now}
-use Rattle.numbers.specs.Lists.{anyOf}
-use Rattle.border.specs.Modes.{borderOf}
+use lib.IntN.{ℤ}
+use Rattle.border.specs.Axes.{bordersOf, anyAxis}
+use Rattle.border.proofs.AnyAxis.{axis-one}
 use Rattle.window_spec.specs.Origin.{badOrigin, originPads}
 use Rattle.window_spec.proofs.Answered.{not-refused, left-is, right-is}
-use Rattle.window_spec.specs.Window.{appliedOrigin, badEitherPad}
+use Rattle.window_spec.specs.Window.{kernelLeft, kernelRight, appliedOrigin, badEitherPad}
 use Rattle.window_spec.proofs.Changed.{applied-range}
 use borrow.Author.Needs.{needs}
 use Rattle.window.proofs.convolution.bad_kernel_reach.Statement.{statement}
 use Rattle.window.proofs.convolution.bad_kernel_reach.Tie as tie
 
 -- the origin as it is applied, which is accepted
-accepted : (s : tie.Start) → badOrigin (s .args .side) (appliedOrigin (s .args .convolution) (s .args .side) (s .args .origin)) ≡ false
+abbrev applied : tie.Start → ℤ
+applied s = appliedOrigin (s .args .convolution) (s .args .side) (s .args .origin)
+
+accepted : (s : tie.Start) → badOrigin (s .args .side) (applied s) ≡ false
 accepted s = applied-range (s .args .convolution) (s .args .side) (s .args .origin) ∙ s .pre
 
 -- the answer to it
@@ -57,7 +62,9 @@ returns-2 c =
     let s = c .before .before .before .before .before .before .before in
     let l = left-is (s .args .side) (s .args .side / 2) (s .args .side / 2) _ (accepted s) (checked (c .before .before .before .before)) (c .before .before .left .given .1) in
     let r = right-is (s .args .side) (s .args .side / 2) (s .args .side / 2) _ (accepted s) (checked (c .before .before .before .before)) (c .before .before .left .given .1) in
-    c .bad-pads-any .ensures ∙ (λ j. anyOf (badEitherPad (borderOf (s .args .mode)) (l j) (r j)) (now (s .args .shape)))
+    c .bad-pads-any .ensures
+    ∙ (λ j. anyAxis (λ b. badEitherPad b (l j) (r j)) (bordersOf (s .args .mode ∷ s .args .mode ∷ s .args .mode ∷ [])) (now (s .args .shape)))
+    ∙ axis-one (λ b. badEitherPad b (kernelLeft (s .args .side) (applied s)) (kernelRight (s .args .side) (applied s))) (s .args .mode) (now (s .args .shape))
 
 pub bad-kernel-reach-spec : {M : Type 1} → statement M
 bad-kernel-reach-spec =

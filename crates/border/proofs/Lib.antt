@@ -1,0 +1,3 @@
+-- Laws of borders.
+pub mod AnyAxis
+pub mod OneBorder
