@@ -5,6 +5,10 @@ were or an accepted call did not leave zeros in the second grid."""
 import subprocess
 import sys
 
+sys.dont_write_bytecode = True
+
+from widen import three_borders
+
 BATCH = 10000
 
 
@@ -28,7 +32,8 @@ def batch(oracle, seed, count):
     for note in made.stderr.splitlines():
         if not note.endswith("oracle-wrap"):
             raise SystemExit("compare: " + note)
-    return [line.split("\t") for line in made.stdout.splitlines()]
+    pairs = [line.split("\t") for line in made.stdout.splitlines()]
+    return [(three_borders(request), wanted) for request, wanted in pairs]
 
 
 def differing(name, pairs, given, shown_before):
