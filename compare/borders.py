@@ -57,7 +57,7 @@ class Calls(Maker):
         if damage == 0:
             return call._replace(shape=list(self.pick([s for s in BAD_SHAPES if math.prod(s) < 8200])))
         if damage == 1:
-            return call._replace(**{self.pick(("out_len", "second_len")): call.out_len + self.pick((-1, 1))})
+            return call._replace(**{self.pick(("out_len", "second_len")): len(call.data) + self.pick((-1, 1))})
         if damage == 2:
             data = list(call.data)
             data[self.random.randrange(len(data))] = self.pick(BAD_LEVELS)
