@@ -1,5 +1,6 @@
 // Row-major arrays: the cell count of a shape, conditions 1, 2, 3 and 8 of a refusal with the judge of a grid, and
 // copies.
+#![tactic(auto)]
 
 mod conditions;
 mod copies;

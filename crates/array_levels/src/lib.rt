@@ -1,4 +1,6 @@
 // Condition 3 of a refusal: levels that no grid may have, whole and float.
+#![tactic(auto)]
+
 ghost use Rattle.array_levels.specs.Rows.{ArrayLevelsRows};
 
 mod conditions;

@@ -1,4 +1,5 @@
 // The lengths of a shape and its cell count.
+#![tactic(auto)]
 
 mod shapes;
 

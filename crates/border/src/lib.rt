@@ -1,5 +1,7 @@
 // Borders: the border modes and the padding modes that they map to, and the cells that they read.
 // What a border extends a lane and a grid to is a definition: specs/Border.antt.
+#![tactic(auto)]
+
 ghost use Rattle.std.specs.Prelude.{◌≡◌, ◌-◌, ℤ};
 ghost use Rattle.border.specs.Axes.{OneBorder};
 ghost use Rattle.border.specs.AxesRows.{AxesRows};
@@ -16,7 +18,7 @@ pub use constant::{bad_constant, bad_constant_f64};
 pub use reach::{bad_along, bad_pad};
 
 // How a grid of whole levels is extended beyond its edges.
-#[derive(Drop)]
+#[derive(Clone, Copy)]
 pub enum BorderMode {
     // All levels beyond the edge are this one.
     // [1, 2, 3] -> [T, T, 1, 2, 3, T, T]
@@ -36,7 +38,7 @@ pub enum BorderMode {
 }
 
 // The same of a grid of floats.
-#[derive(Drop)]
+#[derive(Clone, Copy)]
 pub enum BorderModeF64 {
     // [1, 2, 3] -> [T, T, 1, 2, 3, T, T]
     Constant(f64),
@@ -51,7 +53,7 @@ pub enum BorderModeF64 {
 }
 
 // The borders that read a cell of the axis.
-#[derive(Drop)]
+#[derive(Clone, Copy)]
 pub enum CellBorder {
     Nearest,
     Mirror,
@@ -60,7 +62,7 @@ pub enum CellBorder {
 }
 
 // What a lane is padded with.
-#[derive(Drop)]
+#[derive(Clone, Copy)]
 pub enum PadMode {
     // A constant level.
     // [1, 2, 3] -> [T, T, 1, 2, 3, T, T]

@@ -1,5 +1,7 @@
 // What the codes of the entry points (`capi`) and the words of requests (`ndimage`) name, and the last condition: a
 // code that names nothing. A word's place in its table is its code.
+#![tactic(auto)]
+
 ghost use Rattle.std.specs.Prelude.{◌≡◌, cond, eqb};
 ghost use Rattle.codes.specs.Codes.{mode_of, mode_of_f64, padding_of, kernel_of, code_of};
 ghost use Rattle.codes.specs.Words.{border_words, pad_words, kernel_words, class_words};

@@ -1,5 +1,7 @@
 // What the entry points (`capi`) read from and write to slices where the libraries take and give values: the border and
 // the pads of each axis, and the cells of a kernel.
+#![tactic(auto)]
+
 ghost use Rattle.codes_cells.specs.Rows.{CodesCellsRows};
 
 mod borders;

@@ -1,5 +1,7 @@
 // Correlation and convolution of a whole grid with a grid kernel (src/filters/con_corr.rs; SciPy's correlate and
 // convolve).
+#![tactic(auto)]
+
 ghost use Rattle.std.specs.Prelude.{◌≡◌, true, false, length};
 ghost use Rattle.numbers.specs.Refusal.{refusal_of, Answers};
 ghost use Rattle.border.specs.Modes.{border_of};

@@ -1,5 +1,7 @@
 // Correlation and convolution of whole levels along an axis (src/filters/con_corr.rs; SciPy's correlate1d and
 // convolve1d).
+#![tactic(auto)]
+
 ghost use Rattle.std.specs.Prelude.{◌≡◌, true, false, map, ◌*ℤ◌, length};
 ghost use Rattle.numbers.specs.Refusal.{refusal_of, Answers};
 ghost use Rattle.border.specs.Modes.{border_of};

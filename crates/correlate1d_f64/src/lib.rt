@@ -1,5 +1,7 @@
 // Correlation and convolution of floats along an axis, bit for bit in the order of their roundings
 // (src/filters/con_corr.rs; SciPy's correlate1d and convolve1d).
+#![tactic(auto)]
+
 ghost use Rattle.std.specs.Prelude.{◌≡◌, true, false, map, length};
 ghost use Rattle.std.specs.Float.{binary64};
 ghost use Rattle.std.specs.Float.Ieee.{mul};

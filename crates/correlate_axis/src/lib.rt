@@ -1,4 +1,6 @@
 // Weighted sums of whole levels on the lanes of an axis.
+#![tactic(auto)]
+
 ghost use Rattle.correlate_axis.specs.Rows.{CorrelateAxisRows};
 
 mod each_lane;

@@ -1,4 +1,5 @@
 // Weighted sums of floats on the lanes of an axis.
+#![tactic(auto)]
 
 mod each_lane;
 

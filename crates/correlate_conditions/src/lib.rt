@@ -1,4 +1,5 @@
 // The conditions of weights and grid kernels: 6 of whole weights and 5 of a kernel.
+#![tactic(auto)]
 
 mod kernel_sides;
 mod weights;

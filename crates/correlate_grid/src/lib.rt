@@ -1,4 +1,6 @@
 // Correlation of a whole grid with a grid kernel, row by row: no padded copy of the grid.
+#![tactic(auto)]
+
 ghost use Rattle.std.specs.Prelude.{◌≡◌};
 ghost use Rattle.border.specs.Modes.{border_of};
 ghost use Rattle.direction.specs.Direction.{directed};

@@ -8,7 +8,7 @@ ghost use Rattle.correlate_grid_axes.specs.Axes.{axis_from, axes_of, Serves, num
 use border::BorderMode;
 
 // An axis: its cells, how many places are padded before and after them, and the kernel's cells along it.
-#[derive(Drop)]
+#[derive(Clone, Copy)]
 pub struct Axis {
     pub len: usize,
     pub left: usize,
@@ -17,7 +17,7 @@ pub struct Axis {
 }
 
 // The three axes of a grid, the outermost first.
-#[derive(Drop)]
+#[derive(Clone, Copy)]
 pub struct Axes {
     pub planes: Axis,
     pub rows: Axis,

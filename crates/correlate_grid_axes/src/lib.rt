@@ -1,4 +1,6 @@
 // A grid and its kernel as three axes, and which cell each place of a padded axis reads.
+#![tactic(auto)]
+
 ghost use Rattle.correlate_grid_axes.specs.Rows.{CorrelateGridAxesRows};
 
 mod axes;

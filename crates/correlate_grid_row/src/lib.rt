@@ -1,4 +1,6 @@
 // One row of a grid kernel on one row of the grid.
+#![tactic(auto)]
+
 ghost use Rattle.correlate_grid_row.specs.Rows.{CorrelateGridRowRows};
 
 mod row;

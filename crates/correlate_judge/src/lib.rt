@@ -1,5 +1,7 @@
 // The judge of `correlate1d` and `convolve1d`, whole and float: the conditions in rising order, before anything is
 // stored.
+#![tactic(auto)]
+
 ghost use Rattle.std.specs.Prelude.{◌≡◌, not, ◌&&◌, [], ◌∷◌, eqb};
 ghost use Rattle.numbers.specs.Refusal.{refusal_of};
 ghost use Rattle.array_spec.specs.Conditions.{bad_axis};

@@ -1,5 +1,7 @@
 // What correlations and convolutions refuse, as definitions, along an axis and with grid kernels; and that a
 // convolution is a correlation with the reversed weights.
+#![tactic(auto)]
+
 ghost use Rattle.correlate_judge_spec.specs.Convolution.{ConvolutionIsCorrelation};
 ghost use Rattle.correlate_judge_spec.specs.Rows.{CorrelateJudgeSpecRows};
 

@@ -1,5 +1,7 @@
 // The weighted sums of a whole line: four weights a pass where they are five or more (correlate_raised), else without
 // raising (correlate_plain).
+#![tactic(auto)]
+
 ghost use Rattle.std.specs.Prelude.{◌≡◌, ◌≤◌, length};
 ghost use Rattle.symmetry_spec.specs.declared.SymmetryState.TheVariants.{NonSymmetric};
 ghost use Rattle.direction.specs.Direction.{directed};

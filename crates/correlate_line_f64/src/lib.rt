@@ -1,5 +1,7 @@
 // As `correlate_line`, of floats: bit for bit the sums in the order of roundings that the class of the weights has.
 // Weight j is the j-th one as the weights are applied: counted from the end where `backward` is true.
+#![tactic(auto)]
+
 ghost use Rattle.std.specs.Prelude.{◌≡◌, length};
 ghost use Rattle.direction.specs.Direction.{directed};
 ghost use Rattle.symmetry_spec.specs.declared.SymmetryState.TheVariants.{NonSymmetric};

@@ -7,7 +7,7 @@ ghost use Rattle.correlate_line_f64.specs.Four.{four_more};
 use direction::weight_at_f64;
 
 // Four neighbouring weights.
-#[derive(Drop)]
+#[derive(Clone, Copy)]
 pub struct Four {
     pub w0: f64,
     pub w1: f64,

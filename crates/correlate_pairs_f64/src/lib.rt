@@ -1,4 +1,5 @@
 // The sums of a line of floats by pairs of cells that mirror each other.
+#![tactic(auto)]
 
 mod pairs;
 mod terms;

@@ -1,5 +1,7 @@
 // Sums without raising: the weighted sums of a whole line, added to what a row holds (plain.rt) or set (set.rt), and
 // the sum of a list of cells (sums.rt).
+#![tactic(auto)]
+
 ghost use Rattle.correlate_plain.specs.Rows.{CorrelatePlainRows};
 
 mod plain;

@@ -1,4 +1,6 @@
 // The weighted sums of a line whose cells are raised above zero.
+#![tactic(auto)]
+
 ghost use Rattle.correlate_raised.specs.Rows.{CorrelateRaisedRows};
 
 mod raised;

@@ -1,4 +1,6 @@
 // Cells and weights that are raised above zero, and their products.
+#![tactic(auto)]
+
 ghost use Rattle.correlate_raised_terms.specs.Rows.{CorrelateRaisedTermsRows};
 
 mod narrow;

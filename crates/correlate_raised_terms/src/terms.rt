@@ -9,7 +9,7 @@ ghost use Rattle.correlate_raised_terms.specs.Narrow.{Raised, Narrow};
 ghost use Rattle.correlate_raised_terms.specs.Products.{lowered, RaisedWeight, product, four_products};
 
 // Four raised weights.
-#[derive(Drop)]
+#[derive(Clone, Copy)]
 pub struct Four {
     pub w0: u64,
     pub w1: u64,

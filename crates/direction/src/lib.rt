@@ -1,5 +1,7 @@
 // The weights of a kernel in the caller's order, or from the last to the first, as a convolution applies them. Nothing
 // is copied: a weight is read at its place, counted from the front or from the end.
+#![tactic(auto)]
+
 ghost use Rattle.std.specs.Prelude.{◌≡◌, ◌<◌, pos, length, get_or};
 ghost use Rattle.std.specs.Float.{nan};
 ghost use Rattle.direction.specs.Direction.{directed};

@@ -2,6 +2,7 @@
 // kernels, padded lines, windows and the judges of correlation, gradients, uniform filters and masks; `examples_lines`
 // has the others, and those of the calls that `ndimage` serves are among its requests. The theorems of worked rows are
 // called here too, so that no crate can drop its own unnoticed.
+#![tactic(auto)]
 
 mod judges;
 mod kernels;

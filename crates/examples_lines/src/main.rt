@@ -2,6 +2,7 @@
 // the ground floor, lines and the judge of minimum and maximum; `examples_correlation` has the others, and those of the
 // calls that `ndimage` serves are among its requests. The theorems of worked rows and the rule on the order of axes are
 // called here too, so that no crate can drop its own unnoticed.
+#![tactic(auto)]
 
 mod arrays;
 mod averages;

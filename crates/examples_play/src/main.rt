@@ -1,6 +1,8 @@
 // What the program `play` prints for other files and texts, by the same library calls; `stdout` beside src/ has what
 // they must be, with an empty line after each. The theorems about files and texts are called here, so that none can be
 // dropped unnoticed.
+#![tactic(auto)]
+
 ghost use Rattle.std.specs.Prelude.{◌≤◌};
 
 use grid_text_spec::TextState;

@@ -1,5 +1,7 @@
 // Numbers on standard output, for the programs of examples. Nothing is promised of what is written: the logic does not
 // speak of it, as `io` does not; the file `stdout` of each program holds it. Nothing here is refused.
+#![tactic(auto)]
+
 use libc::STDOUT_FILENO;
 
 // Writes a space.

@@ -1,5 +1,7 @@
 // The numeric examples of recipe files and of the text of a grid, run and printed; `stdout` beside src/ has what they
 // must be. The theorems about both are called here, so that none can be dropped unnoticed.
+#![tactic(auto)]
+
 use recipe_spec::Step;
 
 // The minimum along axis 0 of windows of 2 cells under nearest.

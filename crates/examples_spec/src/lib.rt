@@ -1,5 +1,7 @@
 // The worked examples T1 to T10 of document 01 as one statement about the definitions that the contracts cite, with the
 // extended grid of one border, the rule on the order of axes and the rule on convolutions.
+#![tactic(auto)]
+
 ghost use Rattle.std.specs.Prelude.{ℤ};
 ghost use Rattle.border.specs.Axes.{OneBorder};
 ghost use Rattle.min_max_spec.specs.Order.{OrderOfAxes};

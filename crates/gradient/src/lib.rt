@@ -1,5 +1,7 @@
 // Prewitt and Sobel filters of whole levels (src/filters/con_corr.rs; SciPy's prewitt and sobel): the difference along
 // an axis, smoothed along every other axis.
+#![tactic(auto)]
+
 ghost use Rattle.std.specs.Prelude.{[], ◌∷◌, pos, length};
 ghost use Rattle.numbers.specs.Refusal.{ScratchAnswers};
 ghost use Rattle.border.specs.Axes.{borders_of};

@@ -1,4 +1,5 @@
 // Levels as lines of text.
+#![tactic(auto)]
 
 mod lines;
 

@@ -1,5 +1,7 @@
 // The text of a grid, read byte by byte: what is kept between two bytes, and as definitions the text by its words, its
 // conditions and the machine that reads it. `grid_text` has the code.
+#![tactic(auto)]
+
 ghost use Rattle.grid_text_spec.specs.Texts.{GridTexts};
 ghost use Rattle.grid_text_spec.specs.Rows.{GridTextSpecRows};
 
@@ -9,7 +11,7 @@ ghost use Rattle.grid_text_spec.specs.Rows.{GridTextSpecRows};
 // * `odd` - a byte after the minus is no digit.
 // * `digits` - how many bytes stand after the minus, at most 19.
 // * `size` - their value, at most 10^18.
-#[derive(Drop)]
+#[derive(Clone, Copy)]
 pub struct TextWord {
     pub minus: bool,
     pub odd: bool,
@@ -24,7 +26,7 @@ pub struct TextWord {
 // * `cells` - the product of the lengths, at most 8,193; 0 where one is no number.
 // * `refused` - the count or a length is out of range.
 // * `faulty` - a word is no number, or has over 18 digits.
-#[derive(Drop)]
+#[derive(Clone, Copy)]
 pub struct TextShape {
     pub words: u32,
     pub axes: u8,
@@ -37,7 +39,7 @@ pub struct TextShape {
 //
 // * `word` - the word that is being read.
 // * `shape` - what the words before it say.
-#[derive(Drop)]
+#[derive(Clone, Copy)]
 pub struct TextState {
     pub word: TextWord,
     pub shape: TextShape,

@@ -1,4 +1,5 @@
 // A word of the text of a grid: read byte by byte, and what it is not.
+#![tactic(auto)]
 
 mod plain;
 mod word;

@@ -1,9 +1,11 @@
 // Common kernels of 3 x 3 x 3 cells, also called structuring elements.
+#![tactic(auto)]
+
 ghost use Rattle.std.specs.Prelude.{◌≡◌};
 ghost use Rattle.kernel3d.specs.Shape.{shape, count_of};
 ghost use Rattle.kernel3d.specs.Rows.{Kernel3dRows};
 
-#[derive(Drop)]
+#[derive(Clone, Copy)]
 pub enum Kernel3d {
     // Diamond or star: the centre and its 6 face neighbours.
     // Equivalent to SciPy's generate_binary_structure(3, 1).

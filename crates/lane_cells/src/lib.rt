@@ -1,5 +1,7 @@
 // A lane of whole levels read into a line, and a line written back to a lane. Where the cells are neighbours, the
 // step is the constant 1, so that the compiler makes a plain copy of the loop.
+#![tactic(auto)]
+
 ghost use Rattle.std.specs.Prelude.{◌≡◌, ◌+◌, ◌*◌, ◌<◌, pos, length};
 ghost use Rattle.lanes.specs.Lanes.{lane_base, lane_at, with_lane, read_lane};
 

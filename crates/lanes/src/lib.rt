@@ -1,5 +1,7 @@
 // The lanes of an axis: how long, how far apart and how many they are, and where a lane starts. `lane_cells` reads and
 // write them.
+#![tactic(auto)]
+
 ghost use Rattle.std.specs.Prelude.{◌≡◌, cond, ℕ, ◌+◌, ◌≤◌, ◌<◌, length};
 ghost use Rattle.numbers.specs.Limits.{longest_padded_axis, most_padded_cells};
 ghost use Rattle.array_spec.specs.Grid.{length_of, stride_of};
@@ -8,7 +10,7 @@ ghost use Rattle.lanes.specs.Lanes.{lanes_of, lane_base, lane_inside};
 ghost use Rattle.lanes.specs.Starts.{Starts};
 
 // The lanes of an axis: the cells of each, how many places apart they stand, and how many lanes there are.
-#[derive(Drop)]
+#[derive(Clone, Copy)]
 pub struct Lanes {
     pub len: usize,
     pub stride: usize,
@@ -103,7 +105,7 @@ pub fn first_place(count: usize, n: usize, stride: usize, lane: usize) -> usize
 }
 
 // Where a lane starts: the place of its first cell, and how many lanes of its run stand before it.
-#[derive(Drop)]
+#[derive(Clone, Copy)]
 pub struct Start {
     pub place: usize,
     pub offset: usize,

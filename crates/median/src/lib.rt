@@ -1,4 +1,6 @@
 // The median of a mask (src/filters/median.rs; SciPy's median_filter with size 3, but for the border).
+#![tactic(auto)]
+
 ghost use Rattle.std.specs.Prelude.{◌≡◌, length};
 ghost use Rattle.numbers.specs.Refusal.{refusal_of, Answers};
 ghost use Rattle.median_spec.specs.Around.{median_answer};

@@ -1,4 +1,5 @@
 // The median of a mask, row by row.
+#![tactic(auto)]
 
 mod row;
 

@@ -1,7 +1,7 @@
 // Which of the two filters a worker serves.
 
 // Which level of a window is kept.
-#[derive(Drop)]
+#[derive(Clone, Copy)]
 pub enum Extreme {
     Least,
     Greatest,

@@ -1,4 +1,6 @@
 // Minimum and maximum along an axis, where the call is accepted: each lane is padded, and its windows are swept.
+#![tactic(auto)]
+
 ghost use Rattle.min_max_axis.specs.Rows.{MinMaxAxisRows};
 
 mod each_lane;

@@ -1,4 +1,5 @@
 // The greatest level of each window of a line.
+#![tactic(auto)]
 
 mod maximum;
 

@@ -1,4 +1,6 @@
 // The judge of the minimum and maximum filters: the conditions of the one-axis and the grid forms, in rising order.
+#![tactic(auto)]
+
 ghost use Rattle.std.specs.Prelude.{◌≡◌, []};
 ghost use Rattle.numbers.specs.Refusal.{refusal_of};
 ghost use Rattle.min_max_spec.specs.Call.{window_judged, call_judged};

@@ -1,4 +1,5 @@
 // The least level of each window of a line.
+#![tactic(auto)]
 
 mod minimum;
 

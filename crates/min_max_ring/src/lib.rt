@@ -3,13 +3,15 @@
 //
 // MINLIST: Richard Harter, "The minimum on a sliding window algorithm". The ring holds levels of the window, each with
 // the cell at which it dies, from the front, the least of the window, to the back, the cell read last.
+#![tactic(auto)]
+
 ghost use Rattle.std.specs.Prelude.{◌≡◌};
 ghost use Rattle.min_max_ring.specs.Extremes.{serving};
 ghost use Rattle.min_max_ring.specs.Ring.{ring_place};
 ghost use Rattle.min_max_ring.specs.Rows.{MinMaxRingRows};
 
 // A level of the window, and the cell at whose reading it leaves the window: one window's length after its own.
-#[derive(Drop)]
+#[derive(Clone, Copy)]
 pub struct Pair {
     pub val: i64,
     pub death: usize,

@@ -1,4 +1,6 @@
 // One-axis minimum and maximum calls as definitions, and the rule on the order of axes.
+#![tactic(auto)]
+
 ghost use Rattle.min_max_spec.specs.Order.{OrderOfAxes};
 ghost use Rattle.min_max_spec.specs.Steps.{CallsAreSteps};
 ghost use Rattle.min_max_spec.specs.Rows.{MinMaxSpecRows};

@@ -1,4 +1,5 @@
 // The least, or the greatest, level of each window of three cells.
+#![tactic(auto)]
 
 mod windows;
 

@@ -3,6 +3,8 @@
 // What was read as arguments is promised by `ndimage_arguments`, and what a call answers by the library. The functions
 // here promise nothing but that they are safe and end: they choose the call of a request and lend it what was read
 // (`apply`, `two_grids`, `every_axis`, `vote` and what is named after a call), or write the answer.
+#![tactic(auto)]
+
 use ndimage_parts::state::{Buffer, FAULT, FORM, File, Floats, LEN, Levels, REQUEST, State};
 use ndimage_read::cursor;
 

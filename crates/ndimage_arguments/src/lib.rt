@@ -1,6 +1,8 @@
 // The arguments of a call, out of what was read for a request: parts of the arrays that it was read into, and the
 // modes that its codes name. Of a list that is too long one cell more than any call takes is lent, which has the same
 // refusal.
+#![tactic(auto)]
+
 ghost use Rattle.std.specs.Prelude.{◌≡◌, min, pos, length, get_or};
 ghost use Rattle.std.specs.Int.Signed.{lt_z};
 ghost use Rattle.ndimage_arguments.specs.Arguments.{cells_from, shape_in, sides_in, data_in, weights_in};

@@ -1,4 +1,5 @@
 // The requests of the program `ndimage`, what is read for each of their parts, and where that is kept.
+#![tactic(auto)]
 
 mod parts;
 pub mod requests;

@@ -5,6 +5,8 @@
 // the floats and the file that are lent: in cursor.rt `begin_line`, `faulty`, `lengthen`, `advance`, `keep`, `take`,
 // `turn`, `run`, `next`, `expect_end`, `measure` and `finish`, in number.rt `keep` and what begins with `take_`, and
 // here `clear`, `begin`, `open`, `take`, `read_token`, `read_part`, `read_parts` and `read`.
+#![tactic(auto)]
+
 use ndimage_parts::state::{Buffer, FAULT, FORM, File, Floats, LAST, LEN, Levels, REQUEST, State};
 use ndimage_spec::{Kind, Part};
 use words::Found;

@@ -1,10 +1,12 @@
 // What a request of the program `ndimage` is: the table of requests with their parts, what is read for each part, and
 // what can be wrong with a line. The definitions, and worked rows of them; `ndimage_read` and `ndimage_write` have
 // the code.
+#![tactic(auto)]
+
 ghost use Rattle.ndimage_spec.specs.Rows.{NdimageSpecRows};
 
 // What a token of a part is.
-#[derive(Drop)]
+#[derive(Clone, Copy)]
 pub enum Kind {
     // The word i or f, which says what levels are.
     Form,
@@ -23,7 +25,7 @@ pub enum Kind {
 }
 
 // How many tokens a part has.
-#[derive(Drop)]
+#[derive(Clone, Copy)]
 pub enum Times {
     Once,
     // As many as the last count says; after a word one where it is the first of its table, as `constant` is, else none.
@@ -36,7 +38,7 @@ pub enum Times {
 
 // What is read for a part: of which kind and how often; then the slot of its first number, and how many of its
 // numbers are kept, in slots one by one.
-#[derive(Drop)]
+#[derive(Clone, Copy)]
 pub struct Part(pub Kind, pub Times, pub usize, pub usize);
 
 // Worked rows about requests.

@@ -2,6 +2,8 @@
 // of the line. No contract can say what is written, so these promise nothing but that they are safe and end: `flush`,
 // `make_room`, `put_level`, `put_level_f64`, `put_byte`, `between`, `end`, `levels`, `levels_f64`, `bytes`, `say`,
 // `refused`, `echo`, `error`, and `show_help` with what it calls.
+#![tactic(auto)]
+
 ghost use Rattle.std.specs.Prelude.{◌≡◌, cond, ◌+◌, ◌-◌, ltb, length, set};
 ghost use Rattle.words.specs.Words.{lines_of};
 ghost use Rattle.ndimage_spec.specs.Faults.{fault_texts, shows_token, visible_of};

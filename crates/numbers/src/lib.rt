@@ -1,5 +1,7 @@
 // The refusal numbers and the limits of the papers by name, and the size of a whole number. All else of this crate is
 // definitions (specs/) and laws (proofs/).
+#![tactic(auto)]
+
 ghost use Rattle.std.specs.Prelude.{◌≡◌, nat_abs};
 ghost use Rattle.numbers.specs.Rows.{NumbersRows};
 

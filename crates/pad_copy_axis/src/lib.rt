@@ -1,4 +1,6 @@
 // The two rims of an axis under a mode that copies cells: coordinate by coordinate, or lane by lane.
+#![tactic(auto)]
+
 ghost use Rattle.pad_copy_axis.specs.Rows.{PadCopyAxisRows};
 
 mod coordinate;

@@ -1,4 +1,5 @@
 // Condition 10 of `pad` and `pad_to`.
+#![tactic(auto)]
 
 mod count;
 

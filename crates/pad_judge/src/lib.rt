@@ -1,5 +1,7 @@
 // Conditions 9 and 11 on the pads of a grid, and the judge of `pad` and `pad_to`: what both refuse, before anything
 // is stored. Condition 10 stands in `pad_count`.
+#![tactic(auto)]
+
 ghost use Rattle.std.specs.Prelude.{◌≡◌};
 ghost use Rattle.numbers.specs.Refusal.{refusal_of};
 ghost use Rattle.pad_spec.specs.Conditions.{bad_constant, bad_pad_reach_on, bad_pad_reach, pad_judged};

@@ -1,6 +1,8 @@
 // The padded line: a lane read into a lent line and extended in place. `window` has the window of a cell.
 // What a line filter gives on every padded lane of an axis is defined in specs/Lane.antt. The loops over lanes stand
 // with their filters; their laws are here, over any element and line filter: OneLane, EveryLane, RowLoop, ColumnLoop.
+#![tactic(auto)]
+
 ghost use Rattle.pad_line.specs.Rows.{PadLineRows};
 ghost use Rattle.std.specs.Prelude.{◌≡◌, ◌&&◌, ◌+◌, leb, pos, drop, ◌++◌};
 ghost use Rattle.lanes.specs.Lanes.{lane_inside, lane_at};

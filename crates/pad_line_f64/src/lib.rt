@@ -1,4 +1,6 @@
 // The float twin of `pad_line`: a lane of floats read into a lent line and extended in place.
+#![tactic(auto)]
+
 ghost use Rattle.std.specs.Prelude.{◌≡◌, ◌++◌, ◌+◌, drop};
 ghost use Rattle.std.specs.Float.{nan};
 ghost use Rattle.lanes.specs.Lanes.{lane_at};

@@ -1,5 +1,7 @@
 // The middle of a padded grid, where the grid stands: its rows are copied there, and the gaps between them are set to a
 // constant.
+#![tactic(auto)]
+
 ghost use Rattle.pad_middle.specs.Rows.{PadMiddleRows};
 
 mod around;

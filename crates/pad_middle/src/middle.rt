@@ -22,7 +22,7 @@ fn copy_row(data: &[i64], from: usize, n: usize, at: usize, out: &mut [i64])
 
 // Where a row of the grid starts in the padded one: the place of its first cell, and on three axes how many rows of its
 // plane stand before it.
-#[derive(Drop)]
+#[derive(Clone, Copy)]
 pub struct RowStart {
     pub place: usize,
     pub offset: usize,

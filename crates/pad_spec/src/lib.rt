@@ -1,4 +1,6 @@
 // The frame of a padded grid, set axis by axis; and the definitions and laws that the workers on padded grids share.
+#![tactic(auto)]
+
 ghost use Rattle.pad_spec.specs.Rows.{PadSpecRows};
 
 mod frame;

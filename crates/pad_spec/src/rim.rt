@@ -7,7 +7,7 @@ ghost use Rattle.pad_spec.specs.Fill.{filler_of, rim_of};
 use border::{CellBorder, PadMode};
 
 // Which level of a lane's own cells fills its rims.
-#[derive(Drop)]
+#[derive(Clone, Copy)]
 pub enum Statistic {
     Maximum,
     Mean,
@@ -16,7 +16,7 @@ pub enum Statistic {
 }
 
 // What fills the rims of a lane.
-#[derive(Drop)]
+#[derive(Clone, Copy)]
 pub enum Filler {
     // A level that the mode carries.
     Level(i64),

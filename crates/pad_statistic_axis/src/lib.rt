@@ -1,4 +1,5 @@
 // The rims of a padded grid under the modes that take one level for a lane: Maximum, Mean, Median and Minimum.
+#![tactic(auto)]
 
 mod axis;
 mod level;

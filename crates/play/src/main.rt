@@ -4,6 +4,8 @@
 // What a file and a text give is promised by `play_text`, and what a text is, fed part after part, by `grid_text`. The
 // functions here promise nothing but that they are safe and end, and that what was read lies within what was lent: no
 // contract can say what is read or written.
+#![tactic(auto)]
+
 ghost use Rattle.std.specs.Prelude.{◌<◌};
 ghost use Rattle.io.specs.Counts.{IsPrefixLen};
 

@@ -1,5 +1,7 @@
 // What the program `play` answers, apart from reading and writing: the number and the levels of a file and a text, and
 // the bytes that it prints.
+#![tactic(auto)]
+
 ghost use Rattle.play_text.specs.First.{FirstBytes};
 ghost use Rattle.play_text.specs.Rows.{PlayTextRows};
 

@@ -1,5 +1,7 @@
 // Recipes as plain numbers, for callers without structs: files read into 97 numbers, the count and six a step, and
 // numbers, six a step, written as files.
+#![tactic(auto)]
+
 mod ranges;
 mod reader;
 mod steps;

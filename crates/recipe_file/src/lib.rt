@@ -1,4 +1,6 @@
 // Recipe files: the reader, the writer and its judge.
+#![tactic(auto)]
+
 mod bits;
 mod conditions;
 mod reader;

@@ -1,4 +1,6 @@
 // The player of recipe files.
+#![tactic(auto)]
+
 ghost use Rattle.std.specs.Prelude.{[], ◌∷◌, pos, length};
 ghost use Rattle.numbers.specs.Refusal.{ScratchAnswers};
 ghost use Rattle.recipe_spec.specs.Player.{played, recipe_steps, play_judged};

@@ -1,4 +1,6 @@
 // Recipes: a step, what the reader hands over, and as definitions the file, its conditions and the player.
+#![tactic(auto)]
+
 ghost use Rattle.recipe_spec.specs.Back.{RoundTrips};
 ghost use Rattle.recipe_spec.specs.Before.{JudgedBefore};
 ghost use Rattle.recipe_spec.specs.Rows.{RecipeSpecRows};
@@ -11,7 +13,7 @@ ghost use Rattle.recipe_spec.specs.Rows.{RecipeSpecRows};
 // * `origin` - how far the window is moved; 0 of a uniform step.
 // * `border` - 0 constant, 1 mirror, 2 nearest, 3 reflect, 4 wrap.
 // * `constant` - 0 under every border but constant.
-#[derive(Drop)]
+#[derive(Clone, Copy)]
 pub struct Step {
     pub kind: u8,
     pub axis: u8,
@@ -23,7 +25,7 @@ pub struct Step {
 
 // What the reader hands over: the refusal number, how many steps there are, and the steps; past the count, and
 // throughout where the file is refused, they are all 0.
-#[derive(Drop)]
+#[derive(Clone, Copy)]
 pub struct Recipe {
     pub number: u8,
     pub count: u8,

@@ -1,4 +1,5 @@
 // The least, the greatest, the mean and the median level of a line; the median's code is here.
+#![tactic(auto)]
 
 mod medians;
 mod middle;

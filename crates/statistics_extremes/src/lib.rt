@@ -1,4 +1,5 @@
 // The least and the greatest level of a line.
+#![tactic(auto)]
 
 mod extremes;
 

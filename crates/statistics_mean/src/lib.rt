@@ -1,4 +1,6 @@
 // The mean level of a line, and which lines mean and median serve.
+#![tactic(auto)]
+
 ghost use Rattle.statistics_mean.specs.Rows.{StatisticsMeanRows};
 
 mod means;

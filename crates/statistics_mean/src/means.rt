@@ -37,7 +37,7 @@ fn sum(line: &[i64]) -> i64
 }
 
 // The levels of a line, each with 2^30 added: their bits joined, and their sum modulo 2^64.
-#[derive(Drop)]
+#[derive(Clone, Copy)]
 struct Lifts {
     bits: u64,
     sum: u64,

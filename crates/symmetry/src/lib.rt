@@ -1,4 +1,6 @@
 // The symmetry class of a kernel, found by its mirrored pairs.
+#![tactic(auto)]
+
 ghost use Rattle.std.specs.Prelude.{◌≡◌, true, false, cond, ◌%◌, length, pos};
 ghost use Rattle.std.specs.Float.{nan};
 ghost use Rattle.direction.specs.Direction.{directed};

@@ -1,8 +1,10 @@
 // The symmetry class of a kernel: whether its weights mirror each other around the middle one. Here are the definitions
 // and their laws; `symmetry` has the code.
+#![tactic(auto)]
+
 ghost use Rattle.symmetry_spec.specs.Rows.{SymmetrySpecRows};
 
-#[derive(Drop)]
+#[derive(Clone, Copy)]
 pub enum SymmetryState {
     // An even length, or a mirrored pair differs and one differs up to sign.
     NonSymmetric,

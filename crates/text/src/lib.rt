@@ -1,4 +1,5 @@
 // Whole numbers read from text and written to it.
+#![tactic(auto)]
 
 mod read;
 mod write;

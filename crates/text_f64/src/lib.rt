@@ -1,4 +1,6 @@
 // Floats as text: the 16 hexadecimal digits of the bits, in lower case, and nan for every NaN.
+#![tactic(auto)]
+
 ghost use Rattle.std.specs.Prelude.{◌≡◌};
 ghost use Rattle.std.specs.Float.{binary64};
 ghost use Rattle.std.specs.Float.Ieee.{nan_bits};
@@ -10,7 +12,7 @@ ghost use Rattle.text_spec.specs.Writing.{written_in, written_count};
 use text_spec::Unsigned;
 
 // What a token is as a float.
-#[derive(Drop)]
+#[derive(Clone, Copy)]
 pub enum Token {
     // Neither 16 hexadecimal digits nor nan.
     Not,

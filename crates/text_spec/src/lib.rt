@@ -1,10 +1,12 @@
 // Whole numbers as text in ASCII: what a token is, and which digits a number has: the definitions and their laws.
 // `text` has the code.
+#![tactic(auto)]
+
 ghost use Rattle.text_spec.specs.Back.{ReadsBack};
 ghost use Rattle.text_spec.specs.Rows.{TextSpecRows};
 
 // What a token is as an unsigned number.
-#[derive(Drop)]
+#[derive(Clone, Copy)]
 pub enum Unsigned {
     // No number, or one beyond 2^64 - 1.
     Not,
@@ -12,7 +14,7 @@ pub enum Unsigned {
 }
 
 // What a token is as a signed number.
-#[derive(Drop)]
+#[derive(Clone, Copy)]
 pub enum Signed {
     // No number, or one outside -2^63 to 2^63 - 1.
     Not,

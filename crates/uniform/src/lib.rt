@@ -1,5 +1,7 @@
 // Uniform filters along one axis and along every axis (src/filters/uniform.rs; SciPy's uniform_filter1d and
 // uniform_filter): the mean of each window, cut toward zero.
+#![tactic(auto)]
+
 ghost use Rattle.uniform.specs.Rows.{UniformRows};
 ghost use Rattle.std.specs.Prelude.{◌≡◌, [], ◌∷◌, pos, length};
 ghost use Rattle.numbers.specs.Refusal.{refusal_of, Answers, ScratchAnswers};

@@ -1,4 +1,6 @@
 // The means along an axis, where the call is accepted.
+#![tactic(auto)]
+
 ghost use Rattle.uniform_axis.specs.Rows.{UniformAxisRows};
 
 mod lane_loop;

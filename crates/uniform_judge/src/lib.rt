@@ -1,4 +1,5 @@
 // The refusals of `uniform_filter1d` and `uniform_filter`.
+#![tactic(auto)]
 
 mod judge;
 

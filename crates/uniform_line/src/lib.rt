@@ -1,5 +1,7 @@
 // The means of the windows of a line, by a running sum: the cell that enters is added, the cell that leaves is taken
 // away, so that a cell costs the same however long the window is. They are written straight to the cells of a lane.
+#![tactic(auto)]
+
 ghost use Rattle.std.specs.Prelude.{◌≡◌, false, ◌+◌, ◌*◌, ◌≤◌, ◌<◌, pos, neg_ℤ, length};
 ghost use Rattle.numbers.specs.Ranges.{outside_z};
 ghost use Rattle.lanes.specs.Lanes.{lane_base, with_lane};

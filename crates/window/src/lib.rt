@@ -1,5 +1,6 @@
 // The window of a cell: which origins it takes, the pads that it needs, conditions 5, 7 and 11, the changed origin of a
 // convolution, and its part of a padded line. `window_spec` has the definitions.
+#![tactic(auto)]
 
 mod conditions;
 mod convolution;

@@ -6,7 +6,7 @@ ghost use Rattle.window.specs.Shift.{origin_of};
 use window_spec::Origin;
 
 // A signed number by its sign and size: On(k) is k, Back(k) is -(k + 1).
-#[derive(Drop)]
+#[derive(Clone, Copy)]
 enum Shift {
     On(usize),
     Back(usize),

@@ -1,12 +1,14 @@
 // Tables of words, and where a word stands in one. A table is bytes: a space behind each word; where its lines hold
 // more than words, that stands behind the space, and a line feed ends it. So one function finds a word in any table,
 // and its rule is proved once.
+#![tactic(auto)]
+
 ghost use Rattle.std.specs.Prelude.{◌≡◌, cond, ◌&&◌, ◌||◌, ◌+◌, ◌-◌, ◌≤◌, ◌<◌, [], eqb, length, get_or, take, drop};
 ghost use Rattle.words.specs.Words.{column_from, words_of, rests_of, lines_of, place_in, same_bytes};
 ghost use Rattle.words.specs.Rows.{WordsRows};
 
 // Where a word stands in a table, counted from 0.
-#[derive(Drop)]
+#[derive(Clone, Copy)]
 pub enum Found {
     At(usize),
     Nothing,
