@@ -2,7 +2,7 @@
 use Rattle.border.proofs.cell_before.Goals as goal
 
 pub returns-in-Reflect : goal.returns-in-Reflect
-returns-in-Reflect c = rw c.enum_told-in-Reflect-1.given.1 c.saturating_sub.ensures
+returns-in-Reflect c = rw c.in-Reflect.is c.saturating_sub.ensures
 
 pub returns-in-Wrap : goal.returns-in-Wrap
-returns-in-Wrap c = rw c.enum_told-in-Wrap-1.given.1 c.saturating_sub-in-Wrap.ensures
+returns-in-Wrap c = rw c.in-Wrap.is c.saturating_sub-in-Wrap.ensures

@@ -3,4 +3,4 @@ use mathlib.Core.Path.{refl}
 use Rattle.border.proofs.kind_of.Goals as goal
 
 pub returns-in-Constant : goal.returns-in-Constant
-returns-in-Constant c = rw c.enum_told-1.given.1 refl
+returns-in-Constant c = rw c.in-Constant.is refl

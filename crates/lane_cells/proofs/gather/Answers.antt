@@ -10,9 +10,10 @@ use Rattle.numbers.proofs.Stored.{front-none, front-more, front-all}
 use Rattle.lanes.specs.Lanes.{lane_at}
 use Rattle.lanes.proofs.Cells.{index_in}
 use Rattle.lane_cells.proofs.gather.Goals as goal
+use Rattle.lane_cells.proofs.gather.Goals.{In-loop-i}
 
 -- the cell that a turn reads is in the grid
-at_in : (c : goal.In-loop-i) → let s = c.before.before in s.args.base + c.loop-i.i * s.args.stride < length s.args.grid.now
+at_in : (c : In-loop-i) → let s = c.before.before in s.args.base + c.loop-i.i * s.args.stride < length s.args.grid.now
 at_in c = let s = c.before.before in index_in s.args.base s.args.stride (length s.args.grid.now) c.loop-i-test.true s.requires
 
 pub loop-i-init : goal.loop-i-init
@@ -34,8 +35,8 @@ pub loop-i-preserved : goal.loop-i-preserved
 loop-i-preserved c = let l = c.loop-i in
     (search rules, l.invariant.1, front-more (pos 0) _ _ (omega arith) l.invariant.2 (read c.v-1.given refl))
 
-pub shape_of-line : goal.shape_of-line
-shape_of-line c = c.loop-i.invariant.2.kept
+pub same-length : goal.same-length
+same-length c = c.loop-i.invariant.2.kept
 
 pub returns : goal.returns
 unfolding lane_at

@@ -10,33 +10,29 @@ use Rattle.lanes.proofs.Cells.{index_in}
 use Rattle.lanes.proofs.Stores.{written_none, written_more, written_all}
 use Rattle.lane_cells.proofs.scatter.Goals as goal
 
--- the cell that a turn writes is in the grid
-at_in : (c : goal.In-loop-i) → let s = c.before.before in s.args.base + c.loop-i.i * s.args.stride < length s.args.grid.now
-at_in c = let s = c.before.before in index_in s.args.base s.args.stride (length s.args.grid.now) c.loop-i-test.true s.requires.3
-
 pub loop-i-init : goal.loop-i-init
 loop-i-init c = (search rules, refl, written_none (pos 0) _ _ _ _)
 
 pub overflow_mul-at : goal.overflow_mul-at
-overflow_mul-at c = omega (arith, at_in c)
+overflow_mul-at c = omega (arith, (let at_in : let s = c in s.args.base + c.loop-i.i * s.args.stride < length s.args.grid.now = let s = c in index_in s.args.base s.args.stride (length s.args.grid.now) c.loop-i-test.true s.requires.3 in at_in))
 
 pub overflow_add-at : goal.overflow_add-at
-overflow_add-at c = omega (arith, at_in c)
+overflow_add-at c = omega (arith, (let at_in : let s = c in s.args.base + c.loop-i.i * s.args.stride < length s.args.grid.now = let s = c in index_in s.args.base s.args.stride (length s.args.grid.now) c.loop-i-test.true s.requires.3 in at_in))
 
 pub offset_bounds-grid-at : goal.offset_bounds-grid-at
-offset_bounds-grid-at c = omega (arith, at_in c.before)
+offset_bounds-grid-at c = omega (arith, (let at_in : let s = c in s.args.base + c.loop-i.i * s.args.stride < length s.args.grid.now = let s = c in index_in s.args.base s.args.stride (length s.args.grid.now) c.loop-i-test.true s.requires.3 in at_in))
 
 pub bounds-grid-at : goal.bounds-grid-at
-bounds-grid-at c = omega (arith, at_in c.before, c.loop-i.invariant.2.stored.kept)
+bounds-grid-at c = omega (arith, (let at_in : let s = c in s.args.base + c.loop-i.i * s.args.stride < length s.args.grid.now = let s = c in index_in s.args.base s.args.stride (length s.args.grid.now) c.loop-i-test.true s.requires.3 in at_in), c.loop-i.invariant.2.stored.kept)
 
 pub loop-i-preserved : goal.loop-i-preserved
 loop-i-preserved c =
     let l = c.loop-i in
     let s = c.before.before.before in
-    (search rules, l.invariant.1, written_more _ s.requires.1 s.requires.2 c.loop-i-test.true (at_in c.before) (read c.v-1.given refl) l.invariant.2)
+    (search rules, l.invariant.1, written_more _ s.requires.1 s.requires.2 c.loop-i-test.true ((let at_in : let s = c in s.args.base + c.loop-i.i * s.args.stride < length s.args.grid.now = let s = c in index_in s.args.base s.args.stride (length s.args.grid.now) c.loop-i-test.true s.requires.3 in at_in)) (read c.v-1.given refl) l.invariant.2)
 
-pub shape_of-grid : goal.shape_of-grid
-shape_of-grid c = c.loop-i.invariant.2.stored.kept
+pub same-length : goal.same-length
+same-length c = c.loop-i.invariant.2.stored.kept
 
 pub returns : goal.returns
 returns c = written_all c.requires.0 (omega arith) c.loop-i.invariant.2

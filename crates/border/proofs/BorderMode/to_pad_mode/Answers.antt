@@ -8,5 +8,5 @@ use Rattle.border.proofs.BorderMode.to_pad_mode.Goals as goal
 
 pub returns-in-Constant : goal.returns-in-Constant
 returns-in-Constant c =
-    let e : to_z w64 (of_z w64 c.self-1.given.0.0) ≡ c.self-1.given.0.0 = search rules in
-    rw c.self-1.given.1 (ap Constant e)
+    let e : to_z w64 (of_z w64 c.in-Constant.t) ≡ c.in-Constant.t = search rules in
+    rw c.in-Constant.is (ap Constant e)

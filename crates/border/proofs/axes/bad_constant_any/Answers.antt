@@ -10,11 +10,6 @@ use Rattle.border.proofs.AnyAxis.{axis_start, axis_hit, axis_miss, axis_end}
 use borrow.Author.Rules.{rules}
 use Rattle.border.proofs.axes.bad_constant_any.Goals as goal
 
--- the axis's own border was asked
-asked : (c : goal.After-bad_constant) → let s = c.before.before.before.before.before in c.bad_constant.result
-    ≡ bad_constant_by bad_level (borders_of s.args.modes c.loop-a.a)
-asked c = c.bad_constant.ensures ∙ ap (λ (m : BorderMode). bad_constant_by bad_level (border_of m)) c.mode_on-mode.ensures
-
 pub loop-a-init : goal.loop-a-init
 loop-a-init c = (search rules, axis_start (λ b n. bad_constant_by bad_level b) (borders_of c.args.modes) c.args.shape.now)
 
@@ -22,13 +17,13 @@ pub returns-then-bad_constant : goal.returns-then-bad_constant
 returns-then-bad_constant c =
     let s = c.before.before.before.before.before.before in
     let l = c.loop-a in
-    sym (axis_hit (λ b n. bad_constant_by bad_level b) (borders_of s.args.modes) 0 l.a s.args.shape.now (search rules) l.invariant.1 (condition_is (asked c.before) c.if-bad_constant.true))
+    sym (axis_hit (λ b n. bad_constant_by bad_level b) (borders_of s.args.modes) 0 l.a s.args.shape.now (search rules) l.invariant.1 (condition_is ((let asked : let s = c in c.bad_constant.result ≡ bad_constant_by bad_level (borders_of s.args.modes c.loop-a.a) = c.bad_constant.ensures ∙ ap (λ (m : BorderMode). bad_constant_by bad_level (border_of m)) c.mode_on-mode.ensures in asked)) c.if-bad_constant.true))
 
 pub loop-a-preserved : goal.loop-a-preserved
 loop-a-preserved c =
     let a = c.args in
     let l = c.loop-a in
-    (search rules, axis_miss (λ b n. bad_constant_by bad_level b) (borders_of a.modes) 0 l.a a.shape.now (search rules) l.invariant.1 (condition_is (asked c.before) c.if-bad_constant.false))
+    (search rules, axis_miss (λ b n. bad_constant_by bad_level b) (borders_of a.modes) 0 l.a a.shape.now (search rules) l.invariant.1 (condition_is ((let asked : let s = c in c.bad_constant.result ≡ bad_constant_by bad_level (borders_of s.args.modes c.loop-a.a) = c.bad_constant.ensures ∙ ap (λ (m : BorderMode). bad_constant_by bad_level (border_of m)) c.mode_on-mode.ensures in asked)) c.if-bad_constant.false))
 
 pub returns : goal.returns
 returns c =

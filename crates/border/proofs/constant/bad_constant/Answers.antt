@@ -8,6 +8,6 @@ use Rattle.border.proofs.constant.bad_constant.Goals as goal
 
 pub returns-in-Constant : goal.returns-in-Constant
 returns-in-Constant c =
-    let z = c.mode-1.given.0.0 in
+    let z = c.in-Constant.t in
     let e : to_z w64 (of_z w64 z) ≡ z = search rules in
-    rw c.mode-1.given.1 (c.bad_level.ensures ∙ ap bad_level e)
+    rw c.in-Constant.is (c.bad_level.ensures ∙ ap bad_level e)

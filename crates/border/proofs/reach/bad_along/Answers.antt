@@ -9,13 +9,13 @@ pub returns-then-n-lt1 : goal.returns-then-n-lt1
 returns-then-n-lt1 c =
     let a = c.args in
     let e : 0 ≡ a.n - 1 = omega arith in
-    rw c.enum_told-in-Mirror-1.given.1 (ap (λ m. ltb m a.pad) e)
+    rw c.in-Mirror.is (ap (λ m. ltb m a.pad) e)
 
 pub returns-else-n-lt1 : goal.returns-else-n-lt1
-returns-else-n-lt1 c = rw c.enum_told-in-Mirror-1.given.1 refl
+returns-else-n-lt1 c = rw c.in-Mirror.is refl
 
 pub returns-in-Reflect : goal.returns-in-Reflect
-returns-in-Reflect c = rw c.enum_told-in-Reflect-1.given.1 refl
+returns-in-Reflect c = rw c.in-Reflect.is refl
 
 pub returns-in-Wrap : goal.returns-in-Wrap
-returns-in-Wrap c = rw c.enum_told-in-Wrap-1.given.1 refl
+returns-in-Wrap c = rw c.in-Wrap.is refl

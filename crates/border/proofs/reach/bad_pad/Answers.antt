@@ -2,13 +2,13 @@
 use Rattle.border.proofs.reach.bad_pad.Goals as goal
 
 pub returns-in-Mirror : goal.returns-in-Mirror
-returns-in-Mirror c = rw c.enum_told-in-Mirror-1.given.1 c.bad_along.ensures
+returns-in-Mirror c = rw c.in-Mirror.is c.bad_along.ensures
 
 pub returns-in-Nearest : goal.returns-in-Nearest
-returns-in-Nearest c = rw c.enum_told-in-Nearest-1.given.1 c.bad_along-in-Nearest.ensures
+returns-in-Nearest c = rw c.in-Nearest.is c.bad_along-in-Nearest.ensures
 
 pub returns-in-Reflect : goal.returns-in-Reflect
-returns-in-Reflect c = rw c.enum_told-in-Reflect-1.given.1 c.bad_along-in-Reflect.ensures
+returns-in-Reflect c = rw c.in-Reflect.is c.bad_along-in-Reflect.ensures
 
 pub returns-in-Wrap : goal.returns-in-Wrap
-returns-in-Wrap c = rw c.enum_told-in-Wrap-1.given.1 c.bad_along-in-Wrap.ensures
+returns-in-Wrap c = rw c.in-Wrap.is c.bad_along-in-Wrap.ensures

@@ -10,31 +10,27 @@ use Rattle.lanes.specs.Lanes.{lane_at}
 use Rattle.lanes.proofs.Cells.{index_in}
 use Rattle.lane_cells.proofs.float.gather_f64.Goals as goal
 
--- the cell that a turn reads is in the grid
-at_in : (c : goal.In-loop-i) → let s = c.before.before in s.args.base + c.loop-i.i * s.args.stride < length s.args.grid.now
-at_in c = let s = c.before.before in index_in s.args.base s.args.stride (length s.args.grid.now) c.loop-i-test.true s.requires
-
 pub loop-i-init : goal.loop-i-init
 loop-i-init c = (search rules, refl, front-none nan _ _)
 
 pub overflow_mul-at : goal.overflow_mul-at
-overflow_mul-at c = omega (arith, at_in c)
+overflow_mul-at c = omega (arith, (let at_in : let s = c in s.args.base + c.loop-i.i * s.args.stride < length s.args.grid.now = let s = c in index_in s.args.base s.args.stride (length s.args.grid.now) c.loop-i-test.true s.requires in at_in))
 
 pub overflow_add-at : goal.overflow_add-at
-overflow_add-at c = omega (arith, at_in c)
+overflow_add-at c = omega (arith, (let at_in : let s = c in s.args.base + c.loop-i.i * s.args.stride < length s.args.grid.now = let s = c in index_in s.args.base s.args.stride (length s.args.grid.now) c.loop-i-test.true s.requires in at_in))
 
 pub offset_bounds-grid-at : goal.offset_bounds-grid-at
-offset_bounds-grid-at c = omega (arith, at_in c)
+offset_bounds-grid-at c = omega (arith, (let at_in : let s = c in s.args.base + c.loop-i.i * s.args.stride < length s.args.grid.now = let s = c in index_in s.args.base s.args.stride (length s.args.grid.now) c.loop-i-test.true s.requires in at_in))
 
 pub bounds-grid-at : goal.bounds-grid-at
-bounds-grid-at c = omega (arith, at_in c.before)
+bounds-grid-at c = omega (arith, (let at_in : let s = c in s.args.base + c.loop-i.i * s.args.stride < length s.args.grid.now = let s = c in index_in s.args.base s.args.stride (length s.args.grid.now) c.loop-i-test.true s.requires in at_in))
 
 pub loop-i-preserved : goal.loop-i-preserved
 loop-i-preserved c = let l = c.loop-i in
     (search rules, l.invariant.1, front-more nan _ _ (omega arith) l.invariant.2 refl)
 
-pub shape_of-line : goal.shape_of-line
-shape_of-line c = c.loop-i.invariant.2.kept
+pub same-length : goal.same-length
+same-length c = c.loop-i.invariant.2.kept
 
 pub returns : goal.returns
 unfolding lane_at
