@@ -1,7 +1,7 @@
 -- An accepted call of two weights or more as the workers do it: every lane of the axis is filtered with the pads of the applied origin.
 -- Assumes nothing.
 use mathlib.Core.Path.{◌≡◌, sym, ap, subst, ◌∙◌}
-use mathlib.Core.Bool.{Bool, false, not, ◌&&◌, and_false}
+use mathlib.Core.Bool.{Bool, false, not, ◌&&◌, and-false}
 use mathlib.Core.List.{List}
 use Prim.Native.Nat.{ℕ, ◌+◌}
 use native.Mathlib.Omega.{arith}
@@ -33,7 +33,7 @@ placed_as {A} {b} {ns} {a} {o} {q} {w} {cells} {out} W e = subst (λ (x : ℤ). 
 
 module _ {A : Type 0} {b : Border A} {ns : List ℕ} {a : ℕ} {o : ℤ} {w cells out : List A} (W : PlaceNeeds b ns a o w cells out) where
   pub window_origin : bad_window_origin (length w) o ≡ false
-  window_origin = ap (λ t. not (eqb (length w) 1) && t) W.origin ∙ and_false (not (eqb (length w) 1))
+  window_origin = ap (λ t. not (eqb (length w) 1) && t) W.origin ∙ and-false (not (eqb (length w) 1))
 
   pub two_weights : length w ≡ 1 → ⊥
   two_weights e = omega (arith, W.more)

@@ -1,7 +1,7 @@
 -- The padded row, or the constant all along: how it is loaded, how long it is, that its cells are those of the extended grid, and that it is small enough for the sums of a line.
 -- Assumes nothing.
 use mathlib.Core.Path.{◌≡◌, refl, sym, ap, subst, ◌∙◌}
-use mathlib.Core.Bool.{Bool, true, false, ◌&&◌, cond, and_true, true≢false}
+use mathlib.Core.Bool.{Bool, true, false, ◌&&◌, cond, and-true, true≢false}
 use mathlib.Core.List.{List, [], ◌∷◌, ◌++◌, append-nil}
 use Prim.Native.Nat.{ℕ, ◌+◌, ◌*◌, ◌≤◌, ◌<◌, ◌-◌, ◌^◌}
 use native.Mathlib.Nat.{add-mul, mul_assoc, mul-one}
@@ -132,7 +132,7 @@ module _ (z : Axis) (n m : ℕ) (cells : List ℤ) (k : ℕ) (h : k < z.left + z
   unfolding extended_lane
   constant_cell c i j p q =
       row_cell (constant c) z (n * m) (i * m + j) cells k h tt (below p q)
-      ∙ (λ t. cond (sym (and_true (inside z.len y)) t) (get_or cells (place_row i j (nat_abs y) m z.len t) (pos 0)) c)
+      ∙ (λ t. cond (sym (and-true (inside z.len y)) t) (get_or cells (place_row i j (nat_abs y) m z.len t) (pos 0)) c)
 
   constant_level : (c u v : ℤ) (s t : Bool) → inside n u ≡ s → inside m v ≡ t → get_or (row_line (constant c) z (n * m) (row_for (cond s u (negsuc 0)) (cond t v (negsuc 0)) m (n * m)) cells) k (pos 0)
       ≡ cond (s && (t && (inside z.len y && true))) (get_or cells (nat_abs u * (m * (z.len * 1)) + (nat_abs v * (z.len * 1) + (nat_abs y * 1 + 0))) (pos 0)) c

@@ -6,7 +6,7 @@ use mathlib.Core.List.{List, [], ◌∷◌}
 use Prim.Native.Nat.{ℕ, zero, suc, ◌+◌, ◌-◌, ◌*◌, ◌/◌, ◌%◌, ◌≤◌, ◌<◌, min}
 use native.Mathlib.Nat.{mul-one, mul_assoc, add-mul, mod-lt, div-add-mod', div-lt_iff_lt-mul}
 use native.Mathlib.Omega.{arith}
-use borrow.Author.Tests.{ltb-true, ltb-false, not_true}
+use borrow.Author.Tests.{ltb-true, ltb-false, not-true}
 use lib.Dec.{ltb}
 use lib.ListN.{length, get_or}
 use Rattle.numbers.proofs.Tests.{and_true}
@@ -86,7 +86,7 @@ module _ (planes rows n : ℕ) (mask : List Bool) where
     pub row_median : (k : ℕ) → in_row (r * n) n k ≡ true → voted_at c ((xs.to - xs.from) * (ys.to - ys.from)) (k - r * n) ≡ median_of_place planes rows n mask k
     row_median k e =
         let p = and_true _ _ e in
-        let lo : r * n ≤ k = ltb-false k (r * n) (not_true _ p.0) in
+        let lo : r * n ≤ k = ltb-false k (r * n) (not-true _ p.0) in
         let hi : k < r * n + n = ltb-true k (r * n + n) p.1 in
         let g : r * n + (k - r * n) ≡ k = omega arith in
         voted_median (k - r * n) (omega arith) ∙ ap (median_of_place planes rows n mask) g

@@ -1,7 +1,7 @@
 -- Where a lane is padded and where the line stays as it was, by the answers of the tests.
 -- Assumes nothing.
 use mathlib.Core.Path.{◌≡◌, refl, sym, ap, subst, ◌∙◌}
-use mathlib.Core.Bool.{Bool, true, false, ◌&&◌, not, cond, and_false}
+use mathlib.Core.Bool.{Bool, true, false, ◌&&◌, not, cond, and-false}
 use mathlib.Core.List.{List, ◌++◌}
 use Prim.Native.Nat.{ℕ, ◌+◌, ◌*◌, ◌≤◌, ◌<◌}
 use native.Mathlib.Omega.{arith}
@@ -21,7 +21,7 @@ use Rattle.pad_line.proofs.Padded.{length-padded}
 
 -- ---- a lane that is inside, and a padded line that is short enough
 pub too_long : (n s l count total room : ℕ) → room < total → false ≡ lane_inside n s l count && leb total room
-too_long n s l count total room h = sym (ap (λ t. lane_inside n s l count && t) (lt-leb total room h) ∙ and_false (lane_inside n s l count))
+too_long n s l count total room h = sym (ap (λ t. lane_inside n s l count && t) (lt-leb total room h) ∙ and-false (lane_inside n s l count))
 
 module _ (n s l count r : ℕ) (e : r ≡ cond (lane_inside n s l count) (lane_base n s l) count) where
   pub lane_out : r ≡ count → (t : Bool) → false ≡ lane_inside n s l count && t
@@ -44,7 +44,7 @@ module _ {A : Type 0} (d : A) (b : Border A) (n s l left right : ℕ) (g held : 
 
   pub bad-right_stays : {r : Bool} → r ≡ bad_pad b n right → r ≡ true → held ≡ padded_lane d b n s l left right g held
   unfolding pad_serves fit
-  bad-right_stays e t = stays (ap (λ x. fit && not (bad_pad b n left) && not x) (condition_is e t) ∙ and_false (fit && not (bad_pad b n left)))
+  bad-right_stays e t = stays (ap (λ x. fit && not (bad_pad b n left) && not x) (condition_is e t) ∙ and-false (fit && not (bad_pad b n left)))
 
   pub bad-left_stays : {r : Bool} → r ≡ bad_pad b n left → r ≡ true → held ≡ padded_lane d b n s l left right g held
   unfolding pad_serves fit

@@ -1,7 +1,7 @@
 -- A lane of a grid while its rims are filled, over any element and border: cell by cell from its start up to its own cells, then from their end on.
 -- Assumes nothing.
 use mathlib.Core.Path.{◌≡◌, refl, sym, ap, subst, ◌∙◌}
-use mathlib.Core.Bool.{Bool, true, false, ◌&&◌, ◌||◌, cond, and_false}
+use mathlib.Core.Bool.{Bool, true, false, ◌&&◌, ◌||◌, cond, and-false}
 use mathlib.Core.List.{List}
 use Prim.Native.Nat.{ℕ, ◌+◌, ◌*◌, ◌-◌, ◌/◌, ◌%◌, ◌≤◌, ◌<◌, zero-le}
 use native.Mathlib.Nat.{mod-lt}
@@ -44,7 +44,7 @@ pub record Filled {A : Type 0} (d : A) (b : Border A) (p s l left n : ℕ) (g₀
 pub filled_none : {A : Type 0} (d : A) (b : Border A) (p s l left n : ℕ) (g : List A) → Filled d b p s l left n g g 0
 filled_none d b p s l left n g = record {
   stored = stored_none d (rim_at d b p s l left n g) (on_lane p s l 0) g
-      (λ j. ap (λ t. eqb (lane_of p s j) l && t) (le-ltb (j / s % p) 0 zero-le) ∙ and_false (eqb (lane_of p s j) l));
+      (λ j. ap (λ t. eqb (lane_of p s j) l && t) (le-ltb (j / s % p) 0 zero-le) ∙ and-false (eqb (lane_of p s j) l));
 }
 
 -- the grid keeps its length

@@ -1,7 +1,7 @@
 -- Padded levels are no larger than the grid's, so no sum of a lane leaves 64 bits: condition 12 never holds where 1 and 3 do not.
 -- Assumes nothing.
 use mathlib.Core.Path.{◌≡◌, refl, ap, ◌∙◌}
-use mathlib.Core.Bool.{false, ◌&&◌, and_false}
+use mathlib.Core.Bool.{false, ◌&&◌, and-false}
 use mathlib.Core.List.{List}
 use Prim.Native.Nat.{ℕ, zero, suc, ◌+◌, ◌-◌, ◌/◌, ◌%◌, ◌≤◌}
 use native.Mathlib.Nat.{mul-le-mul, le_refl}
@@ -75,7 +75,7 @@ sum_fits (Constant c) s n h = refl
 sum_fits Edge s n h = refl
 sum_fits Maximum s n h = refl
 sum_fits Mean s n h = sum_within s n h
-sum_fits Median s n h = ap (λ t. eqb (length s % 2) 0 && t) (middle_within s h ((length s - 1) / 2) (suc ((length s - 1) / 2))) ∙ and_false (eqb (length s % 2) 0)
+sum_fits Median s n h = ap (λ t. eqb (length s % 2) 0 && t) (middle_within s h ((length s - 1) / 2) (suc ((length s - 1) / 2))) ∙ and-false (eqb (length s % 2) 0)
 sum_fits Minimum s n h = refl
 sum_fits Reflect s n h = refl
 sum_fits Symmetric s n h = refl
@@ -102,4 +102,4 @@ no_bad_sums mode ns pads count cells s l c =
     at d k =
         ap (λ t. middle_from ns (lefts_of ns pads count) (suc d) (coordinate ps k) && t) (sum_fits mode (own_cells mode ns (lefts_of ns pads count) cells d (coordinate ps k)) (short d k)
         (size_own mode ns (lefts_of ns pads count) cells c (levels_sized cells l) d (coordinate ps k)))
-        ∙ and_false (middle_from ns (lefts_of ns pads count) (suc d) (coordinate ps k))
+        ∙ and-false (middle_from ns (lefts_of ns pads count) (suc d) (coordinate ps k))

@@ -1,7 +1,7 @@
 -- Condition 7 by the origin's sign, the pads as sums of natural numbers, and that no pad of an accepted origin is negative.
 use Prim.Native.Nat.{ℕ, zero, suc, ◌+◌, ◌-◌, ◌/◌, ◌≤◌, ◌<◌, zero-le}
 use mathlib.Core.Path.{◌≡◌, refl, sym, ap, ◌∙◌}
-use mathlib.Core.Bool.{Bool, true, false, ◌||◌, or_true, or_false, true≢false}
+use mathlib.Core.Bool.{Bool, true, false, ◌||◌, or-true, or-false, true≢false}
 use native.Mathlib.Nat.{le_refl}
 use native.Mathlib.Omega.{arith}
 use borrow.Author.Tests.{le-ltb, ltb-false, le-leb, leb-false}
@@ -25,7 +25,7 @@ below k (suc m) = refl
 -- a window of no cells has no origin
 pub origin_none : (o : ℤ) → bad_origin 0 o ≡ true
 unfolding bad_origin
-origin_none (pos k) = search or_true
+origin_none (pos k) = search or-true
 origin_none (negsuc k) = refl
 
 pub origin_on : (len k : ℕ) → 0 < len → bad_origin len (pos k) ≡ ltb ((len - 1) / 2) k
@@ -38,7 +38,7 @@ pub origin_back : (len k : ℕ) → 0 < len → bad_origin len (negsuc k) ≡ le
 unfolding bad_origin
 origin_back len k h =
     ap (λ (z : ℤ). lt_z (negsuc k) (neg_ℤ (pos (len / 2))) || lt_z (shr_z z 2) (negsuc k)) (minus_pos len 1 h)
-    ∙ or_false (lt_z (negsuc k) (neg_ℤ (pos (len / 2))))
+    ∙ or-false (lt_z (negsuc k) (neg_ℤ (pos (len / 2))))
     ∙ below k (len / 2)
 
 -- ---- what an accepted origin tells

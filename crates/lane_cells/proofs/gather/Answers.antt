@@ -35,9 +35,6 @@ pub loop-i-preserved : goal.loop-i-preserved
 loop-i-preserved c = let l = c.loop-i in
     (search rules, l.invariant.1, front-more (pos 0) _ _ (omega arith) l.invariant.2 (read c.v-1.given refl))
 
-pub same-length : goal.same-length
-same-length c = c.loop-i.invariant.2.kept
-
 pub returns : goal.returns
 unfolding lane_at
 returns c = front-all (pos 0) _ (omega arith) c.loop-i.invariant.2

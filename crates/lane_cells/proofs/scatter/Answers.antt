@@ -31,8 +31,5 @@ loop-i-preserved c =
     let s = c.before.before.before in
     (search rules, l.invariant.1, written_more _ s.requires.1 s.requires.2 c.loop-i-test.true ((let at_in : let s = c in s.args.base + c.loop-i.i * s.args.stride < length s.args.grid.now = let s = c in index_in s.args.base s.args.stride (length s.args.grid.now) c.loop-i-test.true s.requires.3 in at_in)) (read c.v-1.given refl) l.invariant.2)
 
-pub same-length : goal.same-length
-same-length c = c.loop-i.invariant.2.stored.kept
-
 pub returns : goal.returns
 returns c = written_all c.requires.0 (omega arith) c.loop-i.invariant.2

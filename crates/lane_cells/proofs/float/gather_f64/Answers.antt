@@ -29,9 +29,6 @@ pub loop-i-preserved : goal.loop-i-preserved
 loop-i-preserved c = let l = c.loop-i in
     (search rules, l.invariant.1, front-more nan _ _ (omega arith) l.invariant.2 refl)
 
-pub same-length : goal.same-length
-same-length c = c.loop-i.invariant.2.kept
-
 pub returns : goal.returns
 unfolding lane_at
 returns c = front-all nan _ (omega arith) c.loop-i.invariant.2

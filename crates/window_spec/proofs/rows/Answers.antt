@@ -1,11 +1,9 @@
 -- `rows` meets its contract: every row holds by computing.
--- Assumes nothing.
 use mathlib.Core.Path.{refl}
 use Rattle.window_spec.specs.Origin.{bad_origin}
-use Rattle.window_spec.proofs.rows.Statement.{statement}
-use Rattle.window_spec.proofs.rows.Tie as tie
+use Rattle.window_spec.proofs.rows.Goals as goal
 
-returns : tie.Need-returns
+pub returns : goal.returns
 unfolding bad_origin
 returns c = record {
   origins_none = refl;
@@ -30,6 +28,3 @@ returns c = record {
   changed = refl;
   applied = refl;
 }
-
-pub rows-spec : {M : Type 1} → statement M
-rows-spec = tie.close (tie.spec returns)
