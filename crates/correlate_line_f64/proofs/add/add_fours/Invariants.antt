@@ -1,0 +1,14 @@
+-- `add_fours` meets its contract: each turn adds the terms of four weights to the whole row.
+use mathlib.Core.Path.{◌≡◌}
+use Prim.Native.Nat.{◌-◌, ◌≤◌}
+use lib.ListN.{length}
+use Rattle.direction.specs.Direction.{directed}
+use Rattle.correlate_spec.specs.Weighed.{float_ops, plain_to}
+use Rattle.correlate_spec.proofs.Along.{Row}
+use Rattle.correlate_line_f64.proofs.add.add_fours.Given as goal
+
+abbrev pub invariant-loop-k : goal.invariant-loop-k
+invariant-loop-k l = (l.k ≤ l.count) × (l.count ≡ length l.weights) × Row (plain_to float_ops (directed l.backward l.weights) l.line l.k) (length l.initial.out) l.out
+
+abbrev pub decreases-loop-k : goal.decreases-loop-k
+decreases-loop-k l = l.count - l.k

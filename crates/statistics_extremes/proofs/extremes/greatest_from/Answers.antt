@@ -1,0 +1,14 @@
+-- `greatest_from` meets its contract, by the laws of Running. The loop's invariant: the greatest of `greatest` and the levels from `i` on is the greatest of
+-- `first` and the levels from `from` on. The measure is what is left of the line.
+use Prim.Native.Nat.{◌-◌}
+use borrow.Author.Rules.{rules}
+use Rattle.numbers.specs.Order.{at_least}
+use Rattle.statistics_extremes.proofs.Running.{from_more, from_last}
+use Rattle.statistics_extremes.proofs.extremes.greatest_from.Goals as goal
+
+pub loop-i-preserved : goal.loop-i-preserved
+loop-i-preserved c = let k = c in
+    from_more at_least _ k.loop-i.i _ k.loop-i.invariant (search rules) c.x-1.given c.greater-greatest.type_inv c.greater-greatest.ensures
+
+pub returns : goal.returns
+returns c = let s = c in from_last at_least s.args.line.now _ s.args.from _ c.loop-i.invariant c.loop-i-test.false s.ranges.first

@@ -1,0 +1,13 @@
+-- `left_at` meets its contract.
+use mathlib.Core.Path.{refl}
+use borrow.Author.Tests.{eq-eqb, ne_eqb}
+use Rattle.words.proofs.left_at.Goals as goal
+
+pub returns-then-byte-end : goal.returns-then-byte-end
+returns-then-byte-end c = rw (ne_eqb _ _ c.if-byte-end.true) refl
+
+pub returns-then-n-eq0 : goal.returns-then-n-eq0
+returns-then-n-eq0 c = rw (eq-eqb _ _ c.if-byte-end.false, c.if-n-eq0.true) refl
+
+pub returns : goal.returns
+returns c = rw (eq-eqb _ _ c.if-byte-end.false) refl
