@@ -15,7 +15,7 @@ pub returns-in_default : goal.returns-in_default
 returns-in_default c =
     let a = c.args in
     class_first differ_f nan (directed a.backward a.weights.now) (rw (directed-length a.backward a.weights.now) c.if-weights-eq0.false) _
-    c.check_pairs_f64-state.ensures (not_non _ c.in_default.keys2)
+    c.check_pairs_f64-state.ensures c.in_default.not-NonSymmetric
 
 pub returns : goal.returns
 returns c =

@@ -10,7 +10,7 @@ returns-then-weights-eq0 c = class_even differ_z (pos 0) c.args.weights.now c.if
 pub returns-in_default : goal.returns-in_default
 returns-in_default c =
     class_first differ_z (pos 0) c.args.weights.now c.if-weights-eq0.false _ c.check_pairs_i64-state.ensures
-    (not_non _ c.in_default.keys2)
+    c.in_default.not-NonSymmetric
 
 pub returns : goal.returns
 returns c =

@@ -15,11 +15,8 @@ use Rattle.correlate_axis.proofs.LaneSums.{lane_weighed}
 use borrow.Author.Rules.{rules}
 use Rattle.correlate_axis.proofs.each_lane.correlate_lane.Goals as goal
 
-pub slice_bounds-correlate_line-end : goal.slice_bounds-correlate_line-end
-slice_bounds-correlate_line-end c = search rules
-
 pub slice_bounds-correlate_line-end-2 : goal.slice_bounds-correlate_line-end-2
-slice_bounds-correlate_line-end-2 c = sym (length-take-le _ _ (slice_bounds-correlate_line-end c))
+slice_bounds-correlate_line-end-2 c = sym (length-take-le _ _ ((search rules)))
 
 pub correlate_line-requires : goal.correlate_line-requires
 correlate_line-requires c =

@@ -1,8 +1,8 @@
 -- `correlate_lanes` meets its contract: the lanes below the one that the loop has reached are written.
 use Prim.Native.Nat.{◌-◌}
-use mathlib.Core.Path.{refl, sym, ◌∙◌}
+use mathlib.Core.Path.{refl}
 use native.Mathlib.Omega.{arith}
-use Rattle.pad_line.proofs.ColumnLoop.{column_none, column_needs, column_write, column_step, column_more, column_row, column_all}
+use Rattle.pad_line.proofs.ColumnLoop.{column_none, column_needs, column_write, column_step, column_more, column_all}
 use borrow.Author.Rules.{rules}
 use Rattle.correlate_axis.proofs.each_lane.correlate_lanes.Goals as goal
 
@@ -14,7 +14,7 @@ correlate_lane-requires c = let P = c.requires in (column_needs c.loop-lane.inva
 
 pub write_from-requires : goal.write_from-requires
 write_from-requires c = let k = c in
-    column_write k.loop-lane.invariant k.loop-lane-test.true c.correlate_lane.auto.1.1.1.1.1.1.1.1.1.0
+    column_write k.loop-lane.invariant k.loop-lane-test.true c.correlate_lane.auto.row
 
 pub next_start-start-requires : goal.next_start-start-requires
 next_start-start-requires c = let k = c in column_step k.loop-lane.invariant k.loop-lane-test.true
@@ -24,17 +24,8 @@ overflow_add-lane c = let k = c in omega (arith, k.loop-lane-test.true, k.lanes_
 
 pub loop-lane-preserved : goal.loop-lane-preserved
 loop-lane-preserved c = let k = c in let f = c.correlate_lane in
-    column_more k.loop-lane.invariant k.loop-lane-test.true refl f.auto.1.1.1.1.1.1.1.1.0 f.auto.1.1.1.1.1.1.1.1.1.0
+    column_more k.loop-lane.invariant k.loop-lane-test.true refl f.auto.line f.auto.row
     f.ensures c.write_from.ensures c.next_start-start.ensures
-
-pub shape_of-line : goal.shape_of-line
-shape_of-line c = c.loop-lane.invariant.sweeping.buffer ∙ sym c.requires.3
-
-pub shape_of-swept : goal.shape_of-swept
-shape_of-swept c = column_row c.loop-lane.invariant c.requires.4
-
-pub shape_of-out : goal.shape_of-out
-shape_of-out c = c.loop-lane.invariant.sweeping.stored.kept
 
 pub returns : goal.returns
 returns c = column_all c.loop-lane.invariant (search rules)

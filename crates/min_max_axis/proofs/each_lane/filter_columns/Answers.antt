@@ -8,9 +8,9 @@ pub slice_bounds-swept-end : goal.slice_bounds-swept-end
 slice_bounds-swept-end c = axis_short c.requires.0 c.len_of-n.ensures
 
 pub slice_bounds-filter_lanes-end : goal.slice_bounds-filter_lanes-end
-slice_bounds-filter_lanes-end c = sym (length-take-le c.len_of-n.result _ (slice_bounds-swept-end c))
+slice_bounds-filter_lanes-end c = sym (length-take-le c.len_of-n.result _ ((axis_short c.requires.0 c.len_of-n.ensures)))
 
 pub filter_lanes-requires : goal.filter_lanes-requires
 filter_lanes-requires c =
     let P = c.requires in
-    (P.0, P.1, P.2, sym (slice_bounds-filter_lanes-end c) ∙ c.len_of-n.ensures)
+    (P.0, P.1, P.2, sym ((sym (length-take-le c.len_of-n.result _ ((axis_short c.requires.0 c.len_of-n.ensures))))) ∙ c.len_of-n.ensures)

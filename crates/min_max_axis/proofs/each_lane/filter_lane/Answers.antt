@@ -12,11 +12,8 @@ use Rattle.min_max_axis.proofs.OnePass.{lane_served}
 use borrow.Author.Rules.{rules}
 use Rattle.min_max_axis.proofs.each_lane.filter_lane.Goals as goal
 
-pub slice_bounds-filter_line-end : goal.slice_bounds-filter_line-end
-slice_bounds-filter_line-end c = search rules
-
 pub slice_bounds-filter_line-end-2 : goal.slice_bounds-filter_line-end-2
-slice_bounds-filter_line-end-2 c = sym (length-take-le _ _ (slice_bounds-filter_line-end c))
+slice_bounds-filter_line-end-2 c = sym (length-take-le _ _ ((search rules)))
 
 pub filter_line-requires : goal.filter_line-requires
 filter_line-requires c =

@@ -1,6 +1,6 @@
 -- `min_max_axis::each_lane::filter_rows` meets its contract: the lanes below the one that the loop has reached are written, each as a part of out.
 use Prim.Native.Nat.{◌-◌}
-use mathlib.Core.Path.{refl, sym, ◌∙◌}
+use mathlib.Core.Path.{refl}
 use native.Mathlib.Omega.{arith}
 use Rattle.pad_line.proofs.RowLoop.{row_none, row_small, row_needs, row_more, row_all}
 use borrow.Author.Rules.{rules}
@@ -22,13 +22,7 @@ pub loop-lane-preserved : goal.loop-lane-preserved
 loop-lane-preserved c =
     let k = c.filter_lane in
     row_more c.loop-lane.invariant c.loop-lane-test.true refl
-    k.auto.1.1.1.1.1.1.1.0 k.auto.1.1.1.1.1.1.1.1.0 k.ensures refl
-
-pub shape_of-line : goal.shape_of-line
-shape_of-line c = c.loop-lane.invariant.sweeping.buffer ∙ sym c.requires.2
-
-pub shape_of-out : goal.shape_of-out
-shape_of-out c = c.loop-lane.invariant.sweeping.stored.kept
+    k.auto.line k.auto.row k.ensures refl
 
 pub returns : goal.returns
 returns c = row_all c.loop-lane.invariant (search rules)

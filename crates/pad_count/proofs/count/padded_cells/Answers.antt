@@ -11,7 +11,7 @@ use Rattle.pad_spec.proofs.PairOf.{pair-asked, padded_short, padded-three}
 use Rattle.pad_count.proofs.count.padded_cells.Goals as goal
 
 pub padded_len-a-requires : goal.padded_len-a-requires
-padded_len-a-requires c = asked (c) 0
+padded_len-a-requires c = (let asked : (k : ℕ) → let a = c.args in (length_of a.shape.now k ≤ 1024) × (k < length a.shape.now → over_pad (pair_of a.pads a.count k) ≡ false) = λ k. let s = c in pair-asked s.args.shape.now s.args.pads s.args.count s.requires.0 ((let pads_three : length c.args.pads ≡ 3 = search rules in pads_three)) s.requires.1 s.requires.2 k in asked) 0
 
 pub padded_len-b-requires : goal.padded_len-b-requires
 padded_len-b-requires c = (let asked : (k : ℕ) → let a = c.args in (length_of a.shape.now k ≤ 1024) × (k < length a.shape.now → over_pad (pair_of a.pads a.count k) ≡ false) = λ k. let s = c in pair-asked s.args.shape.now s.args.pads s.args.count s.requires.0 ((let pads_three : length c.args.pads ≡ 3 = search rules in pads_three)) s.requires.1 s.requires.2 k in asked) 1

@@ -5,10 +5,10 @@ use Rattle.statistics_spec.proofs.Offset.{above_fits, above_read, level_fits, le
 use Rattle.statistics.proofs.middle.above.Goals as goal
 
 pub overflow_add-result : goal.overflow_add-result
-overflow_add-result c = above_fits c.args.low c.requires.0 c.args.offset c.requires.1.0
+overflow_add-result c = above_fits c.args.low c.requires.low_bound c.args.offset c.requires.offset_bound
 
 pub overflow_cast-result-2 : goal.overflow_cast-result-2
-overflow_cast-result-2 c = level_fits w32 (omega arith) _ c.requires.1.1 (above_read c.args.low c.requires.0 c.args.offset c.requires.1.0)
+overflow_cast-result-2 c = level_fits w32 (omega arith) _ c.requires.offset_bound_2 (above_read c.args.low c.requires.low_bound c.args.offset c.requires.offset_bound)
 
 pub returns : goal.returns
-returns c = level-read w32 (omega arith) _ c.requires.1.1 (above_read c.args.low c.requires.0 c.args.offset c.requires.1.0)
+returns c = level-read w32 (omega arith) _ c.requires.offset_bound_2 (above_read c.args.low c.requires.low_bound c.args.offset c.requires.offset_bound)

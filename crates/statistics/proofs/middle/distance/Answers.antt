@@ -5,10 +5,10 @@ use Rattle.statistics_spec.proofs.Offset.{distance_fits, distance_read, distance
 use Rattle.statistics.proofs.middle.distance.Goals as goal
 
 pub overflow_sub-result : goal.overflow_sub-result
-overflow_sub-result c = distance_fits c.args.low c.requires.0 c.args.high c.requires.1.0
+overflow_sub-result c = distance_fits c.args.low c.requires.low_bound c.args.high c.requires.high_bound
 
 pub overflow_cast-result : goal.overflow_cast-result
-overflow_cast-result c = distance_casts c.args.low c.requires.0 c.args.high c.requires.1.0 c.requires.1.1
+overflow_cast-result c = distance_casts c.args.low c.requires.low_bound c.args.high c.requires.high_bound c.requires.low_le_high
 
 pub returns : goal.returns
-returns c = ap nat_abs (distance_read c.args.low c.requires.0 c.args.high c.requires.1.0)
+returns c = ap nat_abs (distance_read c.args.low c.requires.low_bound c.args.high c.requires.high_bound)

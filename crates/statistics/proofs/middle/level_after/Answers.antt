@@ -19,21 +19,21 @@ use Rattle.statistics_spec.proofs.Sizes.{size_maximum}
 use Rattle.statistics.proofs.middle.level_after.Goals as goal
 
 pub count_at_most-requires : goal.count_at_most-requires
-count_at_most-requires c = served_length c.args.levels.now c.requires.0
+count_at_most-requires c = served_length c.args.levels.now c.requires.levels_value
 
 pub returns-then-k-count_at_most : goal.returns-then-k-count_at_most
 returns-then-k-count_at_most c =
     let s = c in
-    next_again le_z total_≤ (pos 0) s.args.levels.now s.args.k s.requires.1.0 _ ((let lower_is : to_z w32 (of_z w32 s.args.lower) ≡ ranked s.args.levels.now s.args.k = to_z-of_z w32 _ s.ranges.lower ∙ s.requires.1.1.0 in lower_is)) (omega (arith, c.count_at_most.ensures, c.if-k-count_at_most.true))
+    next_again le_z total_≤ (pos 0) s.args.levels.now s.args.k s.requires.k_in_bounds _ ((let lower_is : to_z w32 (of_z w32 s.args.lower) ≡ ranked s.args.levels.now s.args.k = to_z-of_z w32 _ s.ranges.lower ∙ s.requires.lower_value in lower_is)) (omega (arith, c.count_at_most.ensures, c.if-k-count_at_most.true))
 
 pub overflow_cast-high : goal.overflow_cast-high
-overflow_cast-high c = let s = c in level_fits w32 (omega arith) _ ((let high_size : nat_abs (maximum_of s.args.levels.now) ≤ 2147483647 = let l = s.args.levels.now in (size_maximum 2147483647 l (served_sized l s.requires.0)).size in high_size)) ((let high_is : to_z w64 (of_z w64 s.args.high) ≡ maximum_of s.args.levels.now = to_z-of_z w64 _ s.ranges.high ∙ s.requires.1.1.1 in high_is))
+overflow_cast-high c = let s = c in level_fits w32 (omega arith) _ ((let high_size : nat_abs (maximum_of s.args.levels.now) ≤ 2147483647 = let l = s.args.levels.now in (size_maximum 2147483647 l (served_sized l s.requires.levels_value)).size in high_size)) ((let high_is : to_z w64 (of_z w64 s.args.high) ≡ maximum_of s.args.levels.now = to_z-of_z w64 _ s.ranges.high ∙ s.requires.high_value in high_is))
 
 pub returns : goal.returns
 returns c =
     let s = c in
     let l = s.args.levels.now in
     read_at_lem w32 c.least_above.type_inv (c.least_above.ensures ∙ ap (λ t. least_above le_z (to_z w32 (of_z w32 s.args.lower)) t l)
-    (level-read w32 (omega arith) (maximum_of l) ((let high_size : nat_abs (maximum_of s.args.levels.now) ≤ 2147483647 = let l = s.args.levels.now in (size_maximum 2147483647 l (served_sized l s.requires.0)).size in high_size)) ((let high_is : to_z w64 (of_z w64 s.args.high) ≡ maximum_of s.args.levels.now = to_z-of_z w64 _ s.ranges.high ∙ s.requires.1.1.1 in high_is))))
-    ∙ next_above le_z total_≤ (pos 0) l s.args.k s.requires.1.0 _ ((let lower_is : to_z w32 (of_z w32 s.args.lower) ≡ ranked s.args.levels.now s.args.k = to_z-of_z w32 _ s.ranges.lower ∙ s.requires.1.1.0 in lower_is)) (maximum_of l) (ranked-below l (s.args.k + 1) s.requires.1.0).le
+    (level-read w32 (omega arith) (maximum_of l) ((let high_size : nat_abs (maximum_of s.args.levels.now) ≤ 2147483647 = let l = s.args.levels.now in (size_maximum 2147483647 l (served_sized l s.requires.levels_value)).size in high_size)) ((let high_is : to_z w64 (of_z w64 s.args.high) ≡ maximum_of s.args.levels.now = to_z-of_z w64 _ s.ranges.high ∙ s.requires.high_value in high_is))))
+    ∙ next_above le_z total_≤ (pos 0) l s.args.k s.requires.k_in_bounds _ ((let lower_is : to_z w32 (of_z w32 s.args.lower) ≡ ranked s.args.levels.now s.args.k = to_z-of_z w32 _ s.ranges.lower ∙ s.requires.lower_value in lower_is)) (maximum_of l) (ranked-below l (s.args.k + 1) s.requires.k_in_bounds).le
     (omega (arith, c.count_at_most.ensures, c.if-k-count_at_most.false))

@@ -18,8 +18,5 @@ middle_level-requires c =
       ),
     )
 
-pub shape_of-levels : goal.shape_of-levels
-shape_of-levels c = let n = c in ap length n.narrow.ensures ∙ sym n.requires.line_nonzero.1
-
 pub returns : goal.returns
 returns c = read c.middle_level.type_inv (c.middle_level.ensures ∙ ap median_of c.narrow.ensures)

@@ -26,23 +26,23 @@ pub level_of_rank-lower-requires : goal.level_of_rank-lower-requires
 level_of_rank-lower-requires c = (c.requires.0, (to_z-of_z w64 _ c.ranges.low ∙ c.requires.1.0, (to_z-of_z w64 _ c.ranges.high ∙ c.requires.1.1.0, omega arith)))
 
 pub overflow_cast-result : goal.overflow_cast-result
-overflow_cast-result c = let s = c in level_fits w64 (omega arith) (ranked s.args.levels.now ((length s.args.levels.now - 1) / 2)) ((let ranked_size : (k : ℕ) → nat_abs (ranked s.args.levels.now k) ≤ 2147483647 = λ k. let l = s.args.levels.now in (size_ranked 2147483647 l (served_sized l s.requires.0) k).size in ranked_size) _) ((let lower_is : let l = c.args.levels.now in to_z w32 (of_z w32 c.level_of_rank-lower.result) ≡ ranked l ((length l - 1) / 2) = read_at_lem w32 c.level_of_rank-lower.type_inv c.level_of_rank-lower.ensures in lower_is))
+overflow_cast-result c = let s = c in level_fits w64 (omega arith) (ranked s.args.levels.now ((length s.args.levels.now - 1) / 2)) ((let ranked_size : (k : ℕ) → nat_abs (ranked s.args.levels.now k) ≤ 2147483647 = λ k. let l = s.args.levels.now in (size_ranked 2147483647 l (served_sized l s.requires.levels_value) k).size in ranked_size) _) ((let lower_is : let l = c.args.levels.now in to_z w32 (of_z w32 c.level_of_rank-lower.result) ≡ ranked l ((length l - 1) / 2) = read_at_lem w32 c.level_of_rank-lower.type_inv c.level_of_rank-lower.ensures in lower_is))
 
 pub returns-then-n-eq1 : goal.returns-then-n-eq1
 returns-then-n-eq1 c =
     let s = c in
     let l = s.args.levels.now in
-    level-read w64 (omega arith) (ranked l ((length l - 1) / 2)) ((let ranked_size : (k : ℕ) → nat_abs (ranked s.args.levels.now k) ≤ 2147483647 = λ k. let l = s.args.levels.now in (size_ranked 2147483647 l (served_sized l s.requires.0) k).size in ranked_size) _) ((let lower_is : let l = c.args.levels.now in to_z w32 (of_z w32 c.level_of_rank-lower.result) ≡ ranked l ((length l - 1) / 2) = read_at_lem w32 c.level_of_rank-lower.type_inv c.level_of_rank-lower.ensures in lower_is)) ∙ median_odd l c.if-n-eq1.true
+    level-read w64 (omega arith) (ranked l ((length l - 1) / 2)) ((let ranked_size : (k : ℕ) → nat_abs (ranked s.args.levels.now k) ≤ 2147483647 = λ k. let l = s.args.levels.now in (size_ranked 2147483647 l (served_sized l s.requires.levels_value) k).size in ranked_size) _) ((let lower_is : let l = c.args.levels.now in to_z w32 (of_z w32 c.level_of_rank-lower.result) ≡ ranked l ((length l - 1) / 2) = read_at_lem w32 c.level_of_rank-lower.type_inv c.level_of_rank-lower.ensures in lower_is)) ∙ median_odd l c.if-n-eq1.true
 
 pub level_after-upper-requires : goal.level_after-upper-requires
 level_after-upper-requires c = (c.requires.0, (omega (arith, c.if-n-eq1.false), ((let lower_is : let l = c.args.levels.now in to_z w32 (of_z w32 c.level_of_rank-lower.result) ≡ ranked l ((length l - 1) / 2) = read_at_lem w32 c.level_of_rank-lower.type_inv c.level_of_rank-lower.ensures in lower_is), to_z-of_z w64 _ c.ranges.high ∙ c.requires.1.1.0)))
 
 pub overflow_cast-result-2 : goal.overflow_cast-result-2
-overflow_cast-result-2 c = let s = c in level_fits w64 (omega arith) (ranked s.args.levels.now ((length s.args.levels.now - 1) / 2)) ((let ranked_size : (k : ℕ) → nat_abs (ranked s.args.levels.now k) ≤ 2147483647 = λ k. let l = s.args.levels.now in (size_ranked 2147483647 l (served_sized l s.requires.0) k).size in ranked_size) _)
+overflow_cast-result-2 c = let s = c in level_fits w64 (omega arith) (ranked s.args.levels.now ((length s.args.levels.now - 1) / 2)) ((let ranked_size : (k : ℕ) → nat_abs (ranked s.args.levels.now k) ≤ 2147483647 = λ k. let l = s.args.levels.now in (size_ranked 2147483647 l (served_sized l s.requires.levels_value) k).size in ranked_size) _)
     ((let lower_is : let l = c.args.levels.now in to_z w32 (of_z w32 c.level_of_rank-lower.result) ≡ ranked l ((length l - 1) / 2) = read_at_lem w32 c.level_of_rank-lower.type_inv c.level_of_rank-lower.ensures in lower_is))
 
 pub overflow_cast-result-3 : goal.overflow_cast-result-3
-overflow_cast-result-3 c = let s = c in level_fits w64 (omega arith) (ranked s.args.levels.now ((length s.args.levels.now - 1) / 2 + 1)) ((let ranked_size : (k : ℕ) → nat_abs (ranked s.args.levels.now k) ≤ 2147483647 = λ k. let l = s.args.levels.now in (size_ranked 2147483647 l (served_sized l s.requires.0) k).size in ranked_size) _) (upper_is c)
+overflow_cast-result-3 c = let s = c in level_fits w64 (omega arith) (ranked s.args.levels.now ((length s.args.levels.now - 1) / 2 + 1)) ((let ranked_size : (k : ℕ) → nat_abs (ranked s.args.levels.now k) ≤ 2147483647 = λ k. let l = s.args.levels.now in (size_ranked 2147483647 l (served_sized l s.requires.levels_value) k).size in ranked_size) _) (upper_is c)
 
 -- the sum of the two, which fits
 middles : (c : After-level_after-upper) → let l = c.args.levels.now in
@@ -50,13 +50,13 @@ middles : (c : After-level_after-upper) → let l = c.args.levels.now in
     ≡ ranked l ((length l - 1) / 2) +ℤ ranked l ((length l - 1) / 2 + 1)
 middles c = let s = c in
     let l = s.args.levels.now in
-    (λ i. level-read w64 (omega arith) (ranked l ((length l - 1) / 2)) ((let ranked_size : (k : ℕ) → nat_abs (ranked s.args.levels.now k) ≤ 2147483647 = λ k. let l = s.args.levels.now in (size_ranked 2147483647 l (served_sized l s.requires.0) k).size in ranked_size) _) ((let lower_is : let l = c.args.levels.now in to_z w32 (of_z w32 c.level_of_rank-lower.result) ≡ ranked l ((length l - 1) / 2) = read_at_lem w32 c.level_of_rank-lower.type_inv c.level_of_rank-lower.ensures in lower_is)) i
-    +ℤ level-read w64 (omega arith) (ranked l ((length l - 1) / 2 + 1)) ((let ranked_size : (k : ℕ) → nat_abs (ranked s.args.levels.now k) ≤ 2147483647 = λ k. let l = s.args.levels.now in (size_ranked 2147483647 l (served_sized l s.requires.0) k).size in ranked_size) _) (upper_is c) i)
+    (λ i. level-read w64 (omega arith) (ranked l ((length l - 1) / 2)) ((let ranked_size : (k : ℕ) → nat_abs (ranked s.args.levels.now k) ≤ 2147483647 = λ k. let l = s.args.levels.now in (size_ranked 2147483647 l (served_sized l s.requires.levels_value) k).size in ranked_size) _) ((let lower_is : let l = c.args.levels.now in to_z w32 (of_z w32 c.level_of_rank-lower.result) ≡ ranked l ((length l - 1) / 2) = read_at_lem w32 c.level_of_rank-lower.type_inv c.level_of_rank-lower.ensures in lower_is)) i
+    +ℤ level-read w64 (omega arith) (ranked l ((length l - 1) / 2 + 1)) ((let ranked_size : (k : ℕ) → nat_abs (ranked s.args.levels.now k) ≤ 2147483647 = λ k. let l = s.args.levels.now in (size_ranked 2147483647 l (served_sized l s.requires.levels_value) k).size in ranked_size) _) (upper_is c) i)
 
 pub overflow_add-result : goal.overflow_add-result
 overflow_add-result c = let s = c in
     let l = s.args.levels.now in
-    let size = size_ranked 2147483647 l (served_sized l s.requires.0) in
+    let size = size_ranked 2147483647 l (served_sized l s.requires.levels_value) in
     subst⁻¹ (SFits w64) (middles c) (fits_size (size_add (size ((length l - 1) / 2)) (size ((length l - 1) / 2 + 1))) (omega arith))
 
 pub nonzero_div-result : goal.nonzero_div-result

@@ -26,9 +26,6 @@ loop-k-preserved c =
     let k = c in
     (search rules, k.loop-k.invariant.1, front-more (pos 0) _ _ (search rules) k.loop-k.invariant.2 (level-read w32 (omega arith) _ ((let level_size : nat_abs (get_or k.args.line.now k.loop-k.k (pos 0)) ≤ 2147483647 = let l = k.args.line.now in (member_sized 2147483647 l (served_sized l k.requires.line_value) k.loop-k.k).size in level_size)) (read c.z-1.given refl)))
 
-pub shape_of-levels : goal.shape_of-levels
-shape_of-levels c = c.loop-k.invariant.2.kept
-
 pub returns : goal.returns
 returns c =
     let s = c in

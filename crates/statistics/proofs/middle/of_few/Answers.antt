@@ -4,11 +4,8 @@ use borrow.Author.Rules.{rules}
 use lib.Seq.{length-take-le}
 use Rattle.statistics.proofs.middle.of_few.Goals as goal
 
-pub slice_bounds-room-end : goal.slice_bounds-room-end
-slice_bounds-room-end c = search rules
-
 pub slice_bounds-median_in-end : goal.slice_bounds-median_in-end
-slice_bounds-median_in-end c = sym (length-take-le _ _ (slice_bounds-room-end c))
+slice_bounds-median_in-end c = sym (length-take-le _ _ ((search rules)))
 
 pub median_in-requires : goal.median_in-requires
 median_in-requires c = let s = c in (s.requires.0, (s.requires.1.0, sym (slice_bounds-median_in-end c)))

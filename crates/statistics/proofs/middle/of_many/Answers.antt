@@ -8,7 +8,7 @@ pub slice_bounds-room-end : goal.slice_bounds-room-end
 slice_bounds-room-end c = served_length c.args.line.now c.requires.line_value
 
 pub slice_bounds-median_in-end : goal.slice_bounds-median_in-end
-slice_bounds-median_in-end c = sym (length-take-le _ _ (slice_bounds-room-end c))
+slice_bounds-median_in-end c = sym (length-take-le _ _ ((served_length c.args.line.now c.requires.line_value)))
 
 pub median_in-requires : goal.median_in-requires
 median_in-requires c = let s = c in (s.requires.0, (s.requires.1, sym (slice_bounds-median_in-end c)))

@@ -1,0 +1,47 @@
+-- `correlate_lanes` meets its contract: the lanes below the one that the loop has reached are written.
+use Prim.Native.Nat.{◌-◌}
+use mathlib.Core.Path.{refl, sym, ◌∙◌}
+use native.Mathlib.Omega.{arith}
+use Rattle.pad_line.proofs.ColumnLoop.{column_none, column_needs, column_write, column_step, column_more, column_row, column_all}
+use borrow.Author.Rules.{rules}
+use Rattle.correlate_axis_f64.proofs.each_lane.correlate_lanes.Goals as goal
+
+pub loop-lane-init : goal.loop-lane-init
+loop-lane-init c = let P = c.requires in column_none P.0 P.2 P.3 c.lanes_of-along.ensures
+
+pub correlate_lane-requires : goal.correlate_lane-requires
+correlate_lane-requires c = (
+      column_needs c.loop-lane.invariant c.loop-lane-test.true (search rules),
+      c.requires.1,
+    )
+
+pub write_from_f64-requires : goal.write_from_f64-requires
+write_from_f64-requires c = let k = c in
+    column_write k.loop-lane.invariant k.loop-lane-test.true c.correlate_lane.auto.row
+
+pub next_start-start-requires : goal.next_start-start-requires
+next_start-start-requires c = let k = c in column_step k.loop-lane.invariant k.loop-lane-test.true
+
+pub overflow_add-lane : goal.overflow_add-lane
+overflow_add-lane c = let k = c in omega (arith, k.loop-lane-test.true, k.lanes_of-along.type_inv)
+
+pub loop-lane-smaller : goal.loop-lane-smaller
+loop-lane-smaller c = omega (arith, c.loop-lane-test.true)
+
+pub loop-lane-preserved : goal.loop-lane-preserved
+loop-lane-preserved c = let k = c in
+    let f = c.correlate_lane in
+    column_more k.loop-lane.invariant k.loop-lane-test.true refl f.auto.line f.auto.row
+    f.ensures c.write_from_f64.ensures c.next_start-start.ensures
+
+pub shape_of-line : goal.shape_of-line
+shape_of-line c = c.loop-lane.invariant.sweeping.buffer ∙ sym c.requires.2
+
+pub shape_of-swept : goal.shape_of-swept
+shape_of-swept c = column_row c.loop-lane.invariant c.requires.3
+
+pub shape_of-out : goal.shape_of-out
+shape_of-out c = c.loop-lane.invariant.sweeping.stored.kept
+
+pub returns : goal.returns
+returns c = column_all c.loop-lane.invariant (search rules)

@@ -1,0 +1,12 @@
+-- `min_max::every_axis::maximum_filter` meets its contract: the worker's, in the order of the greatest.
+use mathlib.Core.Path.{◌≡◌}
+use mir.Syntax.{w64}
+use mir.Val.{to_z, of_z}
+use borrow.Author.Rules.{rules}
+use Rattle.min_max.proofs.every_axis.maximum_filter.Goals as goal
+
+pub returns : goal.returns
+returns c =
+    let a = c.args in
+    let e : to_z w64 (of_z w64 a.origin) ≡ a.origin = search rules in
+    rw e at c.filter.ensures
