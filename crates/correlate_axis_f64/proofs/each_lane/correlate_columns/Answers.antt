@@ -5,10 +5,10 @@ use Rattle.pad_line.proofs.EveryLane.{axis_short}
 use Rattle.correlate_axis_f64.proofs.each_lane.correlate_columns.Goals as goal
 
 pub slice_bounds-swept-end : goal.slice_bounds-swept-end
-(axis_short c.requires.0 c.len_of-n.ensures) = axis_short c.requires.0 c.len_of-n.ensures
+slice_bounds-swept-end c = axis_short c.requires.0 c.len_of-n.ensures
 
 pub slice_bounds-correlate_lanes-end : goal.slice_bounds-correlate_lanes-end
-(sym (length-take-le c.len_of-n.result _ ((axis_short c.requires.0 c.len_of-n.ensures)))) = sym (length-take-le c.len_of-n.result _ ((axis_short c.requires.0 c.len_of-n.ensures)))
+slice_bounds-correlate_lanes-end c = sym (length-take-le c.len_of-n.result _ ((axis_short c.requires.0 c.len_of-n.ensures)))
 
 pub correlate_lanes-requires : goal.correlate_lanes-requires
 correlate_lanes-requires c =

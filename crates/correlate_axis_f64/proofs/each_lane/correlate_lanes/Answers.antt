@@ -1,8 +1,8 @@
 -- `correlate_lanes` meets its contract: the lanes below the one that the loop has reached are written.
 use Prim.Native.Nat.{◌-◌}
-use mathlib.Core.Path.{refl, sym, ◌∙◌}
+use mathlib.Core.Path.{refl}
 use native.Mathlib.Omega.{arith}
-use Rattle.pad_line.proofs.ColumnLoop.{column_none, column_needs, column_write, column_step, column_more, column_row, column_all}
+use Rattle.pad_line.proofs.ColumnLoop.{column_none, column_needs, column_write, column_step, column_more, column_all}
 use borrow.Author.Rules.{rules}
 use Rattle.correlate_axis_f64.proofs.each_lane.correlate_lanes.Goals as goal
 
@@ -33,15 +33,6 @@ loop-lane-preserved c = let k = c in
     let f = c.correlate_lane in
     column_more k.loop-lane.invariant k.loop-lane-test.true refl f.auto.line f.auto.row
     f.ensures c.write_from_f64.ensures c.next_start-start.ensures
-
-pub shape_of-line : goal.shape_of-line
-shape_of-line c = c.loop-lane.invariant.sweeping.buffer ∙ sym c.requires.2
-
-pub shape_of-swept : goal.shape_of-swept
-shape_of-swept c = column_row c.loop-lane.invariant c.requires.3
-
-pub shape_of-out : goal.shape_of-out
-shape_of-out c = c.loop-lane.invariant.sweeping.stored.kept
 
 pub returns : goal.returns
 returns c = column_all c.loop-lane.invariant (search rules)

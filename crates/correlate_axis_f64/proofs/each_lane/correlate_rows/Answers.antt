@@ -1,8 +1,8 @@
 -- `correlate_rows` meets its contract: the lanes below the one that the loop has reached are written, each as a part of out.
 use Prim.Native.Nat.{◌-◌}
-use mathlib.Core.Path.{refl, sym, ◌∙◌}
+use mathlib.Core.Path.{refl}
 use native.Mathlib.Omega.{arith}
-use Rattle.pad_line.proofs.RowLoop.{row_none, row_small, row_needs, row_more, row_all}
+use Rattle.pad_line.proofs.RowLoop.{row_none, row_in_grid, row_small, row_needs, row_more, row_all}
 use borrow.Author.Rules.{rules}
 use Rattle.correlate_axis_f64.proofs.each_lane.correlate_rows.Goals as goal
 
@@ -15,6 +15,9 @@ overflow_add-e c = omega (arith, row_small c.loop-lane.invariant c.loop-lane-tes
 pub offset_bounds-out-base : goal.offset_bounds-out-base
 offset_bounds-out-base c = omega (arith, row_small c.loop-lane.invariant c.loop-lane-test.true)
 
+pub slice_bounds-correlate_lane-end : goal.slice_bounds-correlate_lane-end
+slice_bounds-correlate_lane-end c = row_in_grid c.loop-lane.invariant c.loop-lane-test.true
+
 pub correlate_lane-requires : goal.correlate_lane-requires
 correlate_lane-requires c =
     (row_needs c.loop-lane.invariant c.loop-lane-test.true (search rules), c.requires.1)
@@ -23,12 +26,6 @@ pub loop-lane-preserved : goal.loop-lane-preserved
 loop-lane-preserved c = let k = c.correlate_lane in
     row_more c.loop-lane.invariant c.loop-lane-test.true refl
     k.auto.line k.auto.row k.ensures refl
-
-pub shape_of-line : goal.shape_of-line
-shape_of-line c = c.loop-lane.invariant.sweeping.buffer ∙ sym c.requires.2
-
-pub shape_of-out : goal.shape_of-out
-shape_of-out c = c.loop-lane.invariant.sweeping.stored.kept
 
 pub returns : goal.returns
 returns c = row_all c.loop-lane.invariant (search rules)

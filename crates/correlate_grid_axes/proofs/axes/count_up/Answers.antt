@@ -16,8 +16,5 @@ pub loop-i-preserved : goal.loop-i-preserved
 loop-i-preserved c = let l = c.loop-i in
     (search rules, l.invariant.1, front-more (pos 0) pos _ (omega arith) l.invariant.2 (to_z_pos w64 {n = l.i} (omega arith)))
 
-pub shape_of-out : goal.shape_of-out
-shape_of-out c = c.loop-i.invariant.2.kept
-
 pub returns : goal.returns
 returns c = front-all (pos 0) _ (omega arith) c.loop-i.invariant.2

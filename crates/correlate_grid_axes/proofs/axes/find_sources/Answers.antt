@@ -7,4 +7,4 @@ pub returns : goal.returns
 returns c = let s = c in
     sources_found (border_of s.args.mode) _ s.args.axis _ s.args.table.now _ s.requires.0 c.numbering.ensures
     c.count_up.ensures s.requires.1
-    c.pad_lane.auto.1.1.1.1.1.1.1.0 c.pad_lane.ensures
+    c.pad_lane.auto.line c.pad_lane.ensures

@@ -42,6 +42,9 @@ overflow_add-e c = omega (arith, whole c, small c)
 pub offset_bounds-out-a : goal.offset_bounds-out-a
 offset_bounds-out-a c = omega (arith, whole c, small c)
 
+pub slice_bounds-copy_rims-end : goal.slice_bounds-copy_rims-end
+slice_bounds-copy_rims-end c = whole c
+
 pub copy_rims-requires : goal.copy_rims-requires
 copy_rims-requires c =
     let t = c in
@@ -61,9 +64,6 @@ pub loop-first-preserved : goal.loop-first-preserved
 loop-first-preserved c =
     let t = c in
     (filled_more t.requires.0 t.loop-first.invariant.0 t.least-count.result ((let more : t.loop-first.first + t.least-count.result ≤ t.args.blocks = omega (arith, t.least-count.ensures.0, t.loop-first-test.true) in more)) c.copy_rims.ensures refl, (let more : t.loop-first.first + t.least-count.result ≤ t.args.blocks = omega (arith, t.least-count.ensures.0, t.loop-first-test.true) in more))
-
-pub shape_of-out : goal.shape_of-out
-shape_of-out c = c.loop-first.invariant.0.stored.kept
 
 pub returns : goal.returns
 returns c = filled-all c.requires.0 c.loop-first.invariant.0 c.loop-first-test.false

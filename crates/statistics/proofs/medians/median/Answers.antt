@@ -15,7 +15,7 @@ pub returns-then-not_served : goal.returns-then-not_served
 returns-then-not_served c = answered-unserved median_of c.args.line.now (condition_is c.not_served.ensures c.if-not_served.true)
 
 pub of_few-requires : goal.of_few-requires
-of_few-requires c = (condition_is c.not_served.ensures c.if-not_served.false, (omega arith, omega arith))
+of_few-requires c = record { line_value = condition_is c.not_served.ensures c.if-not_served.false; line_nonzero = omega arith; line_len_bound = omega arith }
 
 pub returns-then-n-le128 : goal.returns-then-n-le128
 returns-then-n-le128 c =

@@ -20,7 +20,7 @@ use Rattle.statistics_spec.proofs.Served.{served_length}
 use Rattle.statistics.proofs.middle.level_of_rank.Goals as goal
 
 pub distance-to-requires : goal.distance-to-requires
-distance-to-requires c = let E = (let found : Ends c.args.levels.now c.args.k (to_z w64 (of_z w64 c.args.low)) (to_z w64 (of_z w64 c.args.high)) = ends c.args.levels.now c.args.k c.requires.levels_value c.requires.k_in_bounds (to_z-of_z w64 _ c.ranges.low ∙ c.requires.low_value) (to_z-of_z w64 _ c.ranges.high ∙ c.requires.high_value) in found) in (E.low_size, (E.high_size, E.low_high))
+distance-to-requires c = let E = (let found : Ends c.args.levels.now c.args.k (to_z w64 (of_z w64 c.args.low)) (to_z w64 (of_z w64 c.args.high)) = ends c.args.levels.now c.args.k c.requires.levels_value c.requires.k_in_bounds (to_z-of_z w64 _ c.ranges.low ∙ c.requires.low_value) (to_z-of_z w64 _ c.ranges.high ∙ c.requires.high_value) in found) in record { low_bound = E.low_size; high_bound = E.high_size; low_le_high = E.low_high }
 
 pub loop-from-init : goal.loop-from-init
 loop-from-init c =
@@ -36,7 +36,7 @@ pub overflow_add-middle : goal.overflow_add-middle
 overflow_add-middle c = omega (arith, ends_apart ((let found : Ends c.args.levels.now c.args.k (to_z w64 (of_z w64 c.args.low)) (to_z w64 (of_z w64 c.args.high)) = ends c.args.levels.now c.args.k c.requires.levels_value c.requires.k_in_bounds (to_z-of_z w64 _ c.ranges.low ∙ c.requires.low_value) (to_z-of_z w64 _ c.ranges.high ∙ c.requires.high_value) in found)))
 
 pub above-z-requires : goal.above-z-requires
-above-z-requires c = let E = (let found : Ends c.args.levels.now c.args.k (to_z w64 (of_z w64 c.args.low)) (to_z w64 (of_z w64 c.args.high)) = ends c.args.levels.now c.args.k c.requires.levels_value c.requires.k_in_bounds (to_z-of_z w64 _ c.ranges.low ∙ c.requires.low_value) (to_z-of_z w64 _ c.ranges.high ∙ c.requires.high_value) in found) in (E.low_size, (omega (arith, ends_apart E), offset_size E _ (omega arith)))
+above-z-requires c = let E = (let found : Ends c.args.levels.now c.args.k (to_z w64 (of_z w64 c.args.low)) (to_z w64 (of_z w64 c.args.high)) = ends c.args.levels.now c.args.k c.requires.levels_value c.requires.k_in_bounds (to_z-of_z w64 _ c.ranges.low ∙ c.requires.low_value) (to_z-of_z w64 _ c.ranges.high ∙ c.requires.high_value) in found) in record { low_bound = E.low_size; offset_bound = omega (arith, ends_apart E); offset_bound_2 = offset_size E _ (omega arith) }
 
 pub count_at_most-count-requires : goal.count_at_most-count-requires
 count_at_most-count-requires c = let s = c in served_length s.args.levels.now s.requires.levels_value
@@ -70,7 +70,7 @@ loop-from-preserved c =
     (omega (arith, h), omega arith, omega arith)
 
 pub above-requires : goal.above-requires
-above-requires c = let E = (let found : Ends c.args.levels.now c.args.k (to_z w64 (of_z w64 c.args.low)) (to_z w64 (of_z w64 c.args.high)) = ends c.args.levels.now c.args.k c.requires.levels_value c.requires.k_in_bounds (to_z-of_z w64 _ c.ranges.low ∙ c.requires.low_value) (to_z-of_z w64 _ c.ranges.high ∙ c.requires.high_value) in found) in (E.low_size, (omega (arith, ends_apart E), offset_size E _ (omega arith)))
+above-requires c = let E = (let found : Ends c.args.levels.now c.args.k (to_z w64 (of_z w64 c.args.low)) (to_z w64 (of_z w64 c.args.high)) = ends c.args.levels.now c.args.k c.requires.levels_value c.requires.k_in_bounds (to_z-of_z w64 _ c.ranges.low ∙ c.requires.low_value) (to_z-of_z w64 _ c.ranges.high ∙ c.requires.high_value) in found) in record { low_bound = E.low_size; offset_bound = omega (arith, ends_apart E); offset_bound_2 = offset_size E _ (omega arith) }
 
 pub returns : goal.returns
 returns c =

@@ -9,14 +9,13 @@ use Rattle.statistics.proofs.middle.median_in.Goals as goal
 pub middle_level-requires : goal.middle_level-requires
 middle_level-requires c =
     let n = c in
-    let e = n.narrow.ensures in (
-      ap unserved e ∙ n.requires.0,
-      (
-        read c.minimum-low.type_inv c.minimum-low.ensures
-            ∙ ap minimum_of (sym e),
-        (read c.maximum-high.type_inv c.maximum-high.ensures ∙ ap maximum_of (sym e), omega (arith, ap length e, n.requires.1.0)),
-      ),
-    )
+    let e = n.narrow.ensures in record {
+      levels_value = ap unserved e ∙ n.requires.line_value;
+      low_value = read c.minimum-low.type_inv c.minimum-low.ensures
+            ∙ ap minimum_of (sym e);
+      high_value = read c.maximum-high.type_inv c.maximum-high.ensures ∙ ap maximum_of (sym e);
+      levels_nonzero = omega (arith, ap length e, n.requires.line_nonzero);
+    }
 
 pub returns : goal.returns
 returns c = read c.middle_level.type_inv (c.middle_level.ensures ∙ ap median_of c.narrow.ensures)

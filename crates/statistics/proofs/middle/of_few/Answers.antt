@@ -8,4 +8,4 @@ pub slice_bounds-median_in-end : goal.slice_bounds-median_in-end
 slice_bounds-median_in-end c = sym (length-take-le _ _ ((search rules)))
 
 pub median_in-requires : goal.median_in-requires
-median_in-requires c = let s = c in (s.requires.0, (s.requires.1.0, sym (slice_bounds-median_in-end c)))
+median_in-requires c = let s = c in record { line_value = s.requires.line_value; line_nonzero = s.requires.line_nonzero; levels_len = sym (slice_bounds-median_in-end c) }

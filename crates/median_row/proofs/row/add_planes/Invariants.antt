@@ -1,0 +1,12 @@
+-- `add_planes` meets its contract: each turn adds the rows of one plane.
+use Prim.Native.Nat.{◌-◌}
+use lib.ListN.{length}
+use Rattle.median_spec.specs.ByRows.{plane_count}
+use Rattle.median_spec.proofs.Adding.{Adding}
+use Rattle.median_row.proofs.row.add_planes.Given as goal
+
+abbrev pub invariant-loop-x : goal.invariant-loop-x
+invariant-loop-x l = Adding (plane_count l.mask l.rows (length l.initial.counts) l.ys) l.initial.x l.end l.initial.counts l.x l.counts
+
+abbrev pub decreases-loop-x : goal.decreases-loop-x
+decreases-loop-x l = l.end - l.x

@@ -1,0 +1,10 @@
+-- `last_after` meets its contract.
+use mathlib.Core.Path.{refl}
+use borrow.Author.Tests.{eq-eqb, ne_eqb}
+use Rattle.ndimage_parts.proofs.parts.last_after.Goals as goal
+
+pub returns-then-code-eq0 : goal.returns-then-code-eq0
+returns-then-code-eq0 c = rw (eq-eqb _ _ c.if-code-eq0.true) refl
+
+pub returns : goal.returns
+returns c = rw (ne_eqb _ _ c.if-code-eq0.false) refl
