@@ -45,19 +45,19 @@ fn rows() {
     pad::rows();
 }
 
-fn main() {
+fn main(rt: HostRuntime) {
     rows();
-    kernels::shapes();
-    kernels::directions();
-    padded::pad_conditions();
-    padded::fits();
-    padded::lines();
-    padded::windows();
-    weighing::weights();
-    weighing::judges();
-    weighing::judges_f64();
-    judges::one_cell();
-    judges::gradients();
-    judges::means();
-    judges::masks();
+    kernels::shapes(&rt);
+    kernels::directions(&rt);
+    padded::pad_conditions(&rt);
+    padded::fits(&rt);
+    padded::lines(&rt);
+    padded::windows(&rt);
+    weighing::weights(&rt);
+    weighing::judges(&rt);
+    weighing::judges_f64(&rt);
+    judges::one_cell(&rt);
+    judges::gradients(&rt);
+    judges::means(&rt);
+    judges::masks(&rt);
 }

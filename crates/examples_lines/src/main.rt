@@ -31,21 +31,21 @@ fn rows() {
     codes_cells::rows();
 }
 
-fn main() {
+fn main(rt: HostRuntime) {
     rows();
-    arrays::shapes();
-    arrays::limits();
-    arrays::large_shapes();
-    arrays::level_conditions();
-    arrays::levels_outside();
-    arrays::judges();
-    arrays::copies();
-    arrays::read_lanes();
-    borders::modes();
-    borders::origins();
-    extremes::rings();
-    extremes::lines();
-    averages::lines();
-    averages::odd_lines();
-    filters::judges();
+    arrays::shapes(&rt);
+    arrays::limits(&rt);
+    arrays::large_shapes(&rt);
+    arrays::level_conditions(&rt);
+    arrays::levels_outside(&rt);
+    arrays::judges(&rt);
+    arrays::copies(&rt);
+    arrays::read_lanes(&rt);
+    borders::modes(&rt);
+    borders::origins(&rt);
+    extremes::rings(&rt);
+    extremes::lines(&rt);
+    averages::lines(&rt);
+    averages::odd_lines(&rt);
+    filters::judges(&rt);
 }

@@ -6,7 +6,7 @@
 ghost use Rattle.std.specs.Prelude.{◌≤◌};
 
 use grid_text_spec::TextState;
-use libc::STDOUT_FILENO;
+use std::io::Print;
 
 // Where a text of n bytes is cut.
 fn cut_at(cut: usize, n: usize) -> usize
@@ -28,16 +28,16 @@ fn read_text(text: &[u8], cut: usize, lengths: &mut [usize], levels: &mut [i64])
 }
 
 // Writes the first bytes of what is printed, and an empty line.
-fn show(printed: &[u8], n: usize) {
+fn show(rt: &impl Print, printed: &[u8], n: usize) {
     if n > printed.len() {
         return;
     }
-    io::write_all(STDOUT_FILENO, &printed[..n]);
-    examples_print::end();
+    let _ = rt.write_all(&printed[..n]);
+    examples_print::end(rt);
 }
 
 // What is printed of a file and of a text that is cut in two.
-fn case(file: &[u8], text: &[u8], cut: usize) {
+fn case(rt: &impl Print, file: &[u8], text: &[u8], cut: usize) {
     let mut lengths = [0usize; 3];
     let mut levels = [0i64; 8192];
     let mut out = [0i64; 8192];
@@ -53,93 +53,108 @@ fn case(file: &[u8], text: &[u8], cut: usize) {
         &mut second,
         &mut printed,
     );
-    show(&printed, n);
+    show(rt, &printed, n);
 }
 
 // A text over document 02's step: the minimum along axis 0 of windows of 2 cells under nearest.
-fn least(text: &[u8], cut: usize) {
-    case(b"LKS\x00\x01\x01\x00\x00\x02\x00\x02\x00\x00", text, cut);
+fn least(rt: &impl Print, text: &[u8], cut: usize) {
+    case(
+        rt,
+        b"LKS\x00\x01\x01\x00\x00\x02\x00\x02\x00\x00",
+        text,
+        cut,
+    );
 }
 
 // The example, whole and cut in its numbers and gaps; without a line feed at its end, with one and with several.
-fn examples() {
-    least(b"1 3 4 2 7", 0);
-    least(b"1 3 4 2 7\n", 1);
-    least(b"\n\n 1\n3   4\n2 7 \n\n", 6);
-    least(b"1 3 40 -20 70", 9);
-    least(b"1 3 40 -20 70", 8);
+fn examples(rt: &impl Print) {
+    least(rt, b"1 3 4 2 7", 0);
+    least(rt, b"1 3 4 2 7\n", 1);
+    least(rt, b"\n\n 1\n3   4\n2 7 \n\n", 6);
+    least(rt, b"1 3 40 -20 70", 9);
+    least(rt, b"1 3 40 -20 70", 8);
 }
 
 // 1: a count, a length or a product of the lengths.
-fn shapes() {
-    least(b"0", 0);
-    least(b"4 1 1 1 1 5", 3);
-    least(b"-0", 1);
-    least(b"9 x", 2);
-    least(b"1 0", 2);
-    least(b"1 1025", 4);
-    least(b"2 1024 9 5", 6);
-    least(b"2 x 5000", 3);
-    least(b"1000000000000000000000000000001", 20);
+fn shapes(rt: &impl Print) {
+    least(rt, b"0", 0);
+    least(rt, b"4 1 1 1 1 5", 3);
+    least(rt, b"-0", 1);
+    least(rt, b"9 x", 2);
+    least(rt, b"1 0", 2);
+    least(rt, b"1 1025", 4);
+    least(rt, b"2 1024 9 5", 6);
+    least(rt, b"2 x 5000", 3);
+    least(rt, b"1000000000000000000000000000001", 20);
 }
 
 // 2: empty text, too few levels and too many, words that are no numbers.
-fn texts() {
-    least(b"", 0);
-    least(b" \n", 1);
-    least(b"1 2 5", 4);
-    least(b"1 1 5 6", 5);
-    least(b"3 1024 1024", 5);
-    least(b"1\t1 5", 2);
-    least(b"1 1 5\r\n", 5);
-    least(b"1 1 5\x00", 5);
-    least(b"1 1 +5", 5);
-    least(b"1 1 -", 5);
-    least(b"1 1 --5", 5);
-    least(b"1 1 5-", 5);
+fn texts(rt: &impl Print) {
+    least(rt, b"", 0);
+    least(rt, b" \n", 1);
+    least(rt, b"1 2 5", 4);
+    least(rt, b"1 1 5 6", 5);
+    least(rt, b"3 1024 1024", 5);
+    least(rt, b"1\t1 5", 2);
+    least(rt, b"1 1 5\r\n", 5);
+    least(rt, b"1 1 5\x00", 5);
+    least(rt, b"1 1 +5", 5);
+    least(rt, b"1 1 -", 5);
+    least(rt, b"1 1 --5", 5);
+    least(rt, b"1 1 5-", 5);
 }
 
 // Levels: zeros before, 18 digits and 19, minus zero, both ends of the range, and 3 one past each.
-fn levels() {
-    least(b"1 1 000000000000000007", 10);
-    least(b"1 1 0000000000000000007", 10);
-    least(b"1 1 -000000000000000007", 10);
-    least(b"1 2 -0 0", 5);
-    least(b"1 2 2147483647 -2147483647", 12);
-    least(b"1 1 2147483648", 7);
-    least(b"1 1 -2147483648", 7);
-    least(b"1 1 999999999999999999", 7);
+fn levels(rt: &impl Print) {
+    least(rt, b"1 1 000000000000000007", 10);
+    least(rt, b"1 1 0000000000000000007", 10);
+    least(rt, b"1 1 -000000000000000007", 10);
+    least(rt, b"1 2 -0 0", 5);
+    least(rt, b"1 2 2147483647 -2147483647", 12);
+    least(rt, b"1 1 2147483648", 7);
+    least(rt, b"1 1 -2147483648", 7);
+    least(rt, b"1 1 999999999999999999", 7);
 }
 
 // 13, 14 and 15 of a file, whatever the text is.
-fn files() {
-    case(b"", b"9", 0);
-    case(b"LKS\x00\x01", b"1 3 4 2 7", 0);
+fn files(rt: &impl Print) {
+    case(rt, b"", b"9", 0);
+    case(rt, b"LKS\x00\x01", b"1 3 4 2 7", 0);
     case(
+        rt,
         b"LKT\x00\x01\x01\x00\x00\x02\x00\x02\x00\x00",
         b"1 3 4 2 7",
         0,
     );
     case(
+        rt,
         b"LKS\x01\x00\x01\x00\x00\x02\x00\x02\x00\x00",
         b"1 3 4 2 7",
         0,
     );
-    case(b"LKS\x00\x01\x00", b"9", 0);
-    case(b"LKS\x00\x01\x01\x00\x00\x02\x00\x02\x00", b"1 3 4 2 7", 0);
+    case(rt, b"LKS\x00\x01\x00", b"9", 0);
     case(
+        rt,
+        b"LKS\x00\x01\x01\x00\x00\x02\x00\x02\x00",
+        b"1 3 4 2 7",
+        0,
+    );
+    case(
+        rt,
         b"LKS\x00\x01\x01\x00\x00\x02\x00\x02\x00\x00\x00",
         b"1 3 4 2 7",
         0,
     );
-    case(b"LKS\x00\x01\x01\x03\x00\x02\x00\x02\x00\x00", b"9", 0);
-    case(b"LKS\x00\x01\x01\x00\x00\x02\x00\x05\x00\x00", b"", 0);
+    case(rt, b"LKS\x00\x01\x01\x03\x00\x02\x00\x02\x00\x00", b"9", 0);
+    case(rt, b"LKS\x00\x01\x01\x00\x00\x02\x00\x05\x00\x00", b"", 0);
     case(
+        rt,
         b"LKS\x00\x01\x01\x00\x00\x02\x00\x02\x00\x01",
         b"1 3 4 2 7",
         0,
     );
     case(
+        rt,
         b"LKS\x00\x01\x01\x02\x00\x02\x01\x02\x00\x00",
         b"1 3 4 2 7",
         0,
@@ -147,41 +162,46 @@ fn files() {
 }
 
 // The mark of 16 steps: 118 bytes give the number of the first step, whose length is 0; a longer file gives 14.
-fn long_files() {
+fn long_files(rt: &impl Print) {
     let mut file = [0u8; 200];
     file[0] = 76;
     file[1] = 75;
     file[2] = 83;
     file[4] = 1;
     file[5] = 16;
-    case(&file[..118], b"1 3 4 2 7", 0);
-    case(&file[..119], b"1 3 4 2 7", 0);
-    case(&file, b"1 3 4 2 7", 0);
+    case(rt, &file[..118], b"1 3 4 2 7", 0);
+    case(rt, &file[..119], b"1 3 4 2 7", 0);
+    case(rt, &file, b"1 3 4 2 7", 0);
 }
 
 // T4's minimum and maximum, T5's two steps, and a second step that is refused.
-fn recipes() {
+fn recipes(rt: &impl Print) {
     case(
+        rt,
         b"LKS\x00\x01\x01\x00\x00\x03\x00\x03\x00\x00",
         b"1 4 4 2 7 1",
         5,
     );
     case(
+        rt,
         b"LKS\x00\x01\x01\x01\x00\x03\x00\x03\x00\x00",
         b"1 4 4 2 7 1",
         5,
     );
     case(
+        rt,
         b"LKS\x00\x01\x02\x00\x00\x02\x00\x00\x00\x00\x00\x01\x02\x00\x00\x00\x00",
         b"2 2 2\n5 3\n4 9\n",
         5,
     );
     case(
+        rt,
         b"LKS\x00\x01\x02\x00\x00\x02\x00\x02\x00\x00\x00\x01\x02\x00\x02\x00\x00",
         b"1 3 4 2 7",
         5,
     );
     case(
+        rt,
         b"LKS\x00\x01\x02\x00\x00\x02\x00\x02\x00\x00\x00\x00\x42\x00\x02\x00\x00",
         b"1 3 4 2 7",
         5,
@@ -189,12 +209,12 @@ fn recipes() {
 }
 
 // The first four levels of a grid.
-fn first_four(levels: &[i64; 8192]) {
-    examples_print::levels(&[levels[0], levels[1], levels[2], levels[3]]);
+fn first_four(rt: &impl Print, levels: &[i64; 8192]) {
+    examples_print::levels(rt, &[levels[0], levels[1], levels[2], levels[3]]);
 }
 
 // The levels that a call leaves and the bytes that lines take, as the comments of the calls say.
-fn calls() {
+fn calls(rt: &impl Print) {
     let mut lengths = [0usize; 3];
     let mut levels = [0i64; 8192];
     let mut out = [9i64; 8192];
@@ -208,25 +228,25 @@ fn calls() {
         &mut out,
         &mut second,
     );
-    examples_print::line(number as usize);
-    first_four(&out);
-    first_four(&second);
+    examples_print::line(rt, number as usize);
+    first_four(rt, &out);
+    first_four(rt, &second);
     let mut text = [0u8; 42];
-    examples_print::line(grid_text::write_lines(&[-7, 12], &mut text));
-    show(&text, 6);
+    examples_print::line(rt, grid_text::write_lines(&[-7, 12], &mut text));
+    show(rt, &text, 6);
     let mut short = [0u8; 41];
-    examples_print::line(grid_text::write_lines(&[-7, 12], &mut short));
+    examples_print::line(rt, grid_text::write_lines(&[-7, 12], &mut short));
 }
 
-fn main() {
+fn main(rt: HostRuntime) {
     play_text::rows();
     play_text::first_bytes();
-    examples();
-    shapes();
-    texts();
-    levels();
-    files();
-    long_files();
-    recipes();
-    calls();
+    examples(&rt);
+    shapes(&rt);
+    texts(&rt);
+    levels(&rt);
+    files(&rt);
+    long_files(&rt);
+    recipes(&rt);
+    calls(&rt);
 }

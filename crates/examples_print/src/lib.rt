@@ -2,74 +2,74 @@
 // speak of it, as `io` does not; the file `stdout` of each program holds it. Nothing here is refused.
 #![tactic(auto)]
 
-use libc::STDOUT_FILENO;
+use std::io::Print;
 
 // Writes a space.
-pub fn space() {
-    io::write_all(STDOUT_FILENO, b" ");
+pub fn space(rt: &impl Print) {
+    let _ = rt.write_all(b" ");
 }
 
 // Ends the line.
-pub fn end() {
-    io::write_all(STDOUT_FILENO, b"\n");
+pub fn end(rt: &impl Print) {
+    let _ = rt.write_all(b"\n");
 }
 
 // Writes n in decimal: 12 as 12.
-pub fn number(n: usize) {
-    io::print_decimal(STDOUT_FILENO, n as u64);
+pub fn number(rt: &impl Print, n: usize) {
+    let _ = print!(rt; "{}", n as u64);
 }
 
 // Writes n and ends the line.
-pub fn line(n: usize) {
-    number(n);
-    end();
+pub fn line(rt: &impl Print, n: usize) {
+    number(rt, n);
+    end(rt);
 }
 
 // Writes a line: 1 for yes, 0 for no.
-pub fn test(answer: bool) {
+pub fn test(rt: &impl Print, answer: bool) {
     if answer {
-        line(1);
+        line(rt, 1);
     } else {
-        line(0);
+        line(rt, 0);
     }
 }
 
 // Writes a level in decimal: −2 as -2.
-fn level(z: i64) {
+fn level(rt: &impl Print, z: i64) {
     if z < 0 {
-        io::write_all(STDOUT_FILENO, b"-");
+        let _ = rt.write_all(b"-");
         let m = -(z + 1);
-        io::print_decimal(STDOUT_FILENO, m as u64 + 1);
+        let _ = print!(rt; "{}", m as u64 + 1);
         return;
     }
-    io::print_decimal(STDOUT_FILENO, z as u64);
+    let _ = print!(rt; "{}", z as u64);
 }
 
 // Writes a level and ends the line.
-pub fn level_line(z: i64) {
-    level(z);
-    end();
+pub fn level_line(rt: &impl Print, z: i64) {
+    level(rt, z);
+    end(rt);
 }
 
 // Writes the levels on one line, each with a space after it: 4 2 7 1.
-pub fn levels(cells: &[i64]) {
+pub fn levels(rt: &impl Print, cells: &[i64]) {
     let mut i = 0;
     while i < cells.len() {
         let z = cells[i];
-        level(z);
-        space();
+        level(rt, z);
+        space(rt);
         i += 1;
     }
-    end();
+    end(rt);
 }
 
 // Writes a mask on one line, 1 for true and 0 for false, each with a space after it: 1 0 1.
-fn marks(cells: &[bool]) {
+fn marks(rt: &impl Print, cells: &[bool]) {
     let mut i = 0;
     while i < cells.len() {
-        number(cells[i] as usize);
-        space();
+        number(rt, cells[i] as usize);
+        space(rt);
         i += 1;
     }
-    end();
+    end(rt);
 }

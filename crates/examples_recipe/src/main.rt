@@ -3,6 +3,7 @@
 #![tactic(auto)]
 
 use recipe_spec::Step;
+use std::io::Print;
 
 // The minimum along axis 0 of windows of 2 cells under nearest.
 const LEAST: Step = Step {
@@ -31,61 +32,67 @@ fn length_of(s: Step) -> usize {
 }
 
 // The count and the first length of document 02's example, and the number of a file without its last byte.
-fn reads() {
+fn reads(rt: &impl Print) {
     let recipe = recipe_file::read_recipe(&[76, 75, 83, 0, 1, 1, 0, 0, 2, 0, 2, 0, 0]);
     let count = recipe.count;
-    examples_print::line(count as usize);
+    examples_print::line(rt, count as usize);
     let steps = recipe.steps;
     let first = steps[0];
-    examples_print::line(length_of(first));
+    examples_print::line(rt, length_of(first));
     let short = recipe_file::read_recipe(&[76, 75, 83, 0, 1, 1, 0, 0, 2, 0, 2, 0]);
     let number = short.number;
-    examples_print::line(number as usize);
+    examples_print::line(rt, number as usize);
 }
 
 // The example written: whether its bytes are the file's, and the number where a byte too few is lent.
-fn writes() {
+fn writes(rt: &impl Print) {
     let steps = [LEAST; 16];
     let mut out = [9; 13];
     let accepted = recipe_file::write_recipe(1, steps, &mut out);
-    examples_print::line(accepted as usize);
-    examples_print::test(check::same(&out, &[76, 75, 83, 0, 1, 1, 0, 0, 2, 0, 2, 0, 0]));
+    examples_print::line(rt, accepted as usize);
+    examples_print::test(
+        rt,
+        check::same(&out, &[76, 75, 83, 0, 1, 1, 0, 0, 2, 0, 2, 0, 0]),
+    );
     let mut short = [9; 12];
     let refused = recipe_file::write_recipe(1, steps, &mut short);
-    examples_print::line(refused as usize);
-    examples_print::test(check::same(&short, &[9; 12]));
+    examples_print::line(rt, refused as usize);
+    examples_print::test(rt, check::same(&short, &[9; 12]));
     let enough = recipe_file::judge_recipe(1, steps, 13);
-    examples_print::line(enough as usize);
+    examples_print::line(rt, enough as usize);
     let few = recipe_file::judge_recipe(1, steps, 12);
-    examples_print::line(few as usize);
+    examples_print::line(rt, few as usize);
 }
 
 // The example as numbers: read into 97 cells, and refused where a cell less is lent; written from its six numbers, and
 // refused where a kind is 256.
-fn fields() {
+fn fields(rt: &impl Print) {
     let mut out = [9; 97];
     let accepted = recipe_fields::read_fields(
         &[76, 75, 83, 0, 1, 1, 0, 0, 2, 0, 2, 0, 0],
         &mut out,
     );
-    examples_print::line(accepted as usize);
-    examples_print::levels(&out);
+    examples_print::line(rt, accepted as usize);
+    examples_print::levels(rt, &out);
     let mut short = [9; 96];
     let refused = recipe_fields::read_fields(
         &[76, 75, 83, 0, 1, 1, 0, 0, 2, 0, 2, 0, 0],
         &mut short,
     );
-    examples_print::line(refused as usize);
+    examples_print::line(rt, refused as usize);
     let mut file = [9; 13];
     let written = recipe_fields::write_fields(1, &[0, 0, 2, 0, 2, 0], &mut file);
-    examples_print::line(written as usize);
-    examples_print::test(check::same(&file, &[76, 75, 83, 0, 1, 1, 0, 0, 2, 0, 2, 0, 0]));
+    examples_print::line(rt, written as usize);
+    examples_print::test(
+        rt,
+        check::same(&file, &[76, 75, 83, 0, 1, 1, 0, 0, 2, 0, 2, 0, 0]),
+    );
     let unheld = recipe_fields::write_fields(1, &[256, 0, 2, 0, 2, 0], &mut file);
-    examples_print::line(unheld as usize);
+    examples_print::line(rt, unheld as usize);
 }
 
 // The example played over 4 2 7, and a file whose second step is refused: out and the second grid stay.
-fn plays() {
+fn plays(rt: &impl Print) {
     let mut out = [5; 3];
     let mut second = [6; 3];
     let accepted = recipe_play::play(
@@ -95,9 +102,9 @@ fn plays() {
         &mut out,
         &mut second,
     );
-    examples_print::line(accepted as usize);
-    examples_print::levels(&out);
-    examples_print::levels(&second);
+    examples_print::line(rt, accepted as usize);
+    examples_print::levels(rt, &out);
+    examples_print::levels(rt, &second);
     let mut kept = [5; 3];
     let mut beside = [6; 3];
     let refused = recipe_play::play(
@@ -109,9 +116,9 @@ fn plays() {
         &mut kept,
         &mut beside,
     );
-    examples_print::line(refused as usize);
-    examples_print::levels(&kept);
-    examples_print::levels(&beside);
+    examples_print::line(rt, refused as usize);
+    examples_print::levels(rt, &kept);
+    examples_print::levels(rt, &beside);
 }
 
 // The number of a text that is fed in one part.
@@ -125,25 +132,25 @@ fn number_of(text: &[u8]) -> u8 {
 
 // A text of three cells in two parts: the length and the levels that it stores, and its number; then the numbers of the
 // empty text and of the examples that are refused.
-fn texts() {
+fn texts(rt: &impl Print) {
     let mut lengths = [9; 3];
     let mut levels = [9; 4];
     let start = grid_text::start();
     let half = grid_text::feed(start, b"1 3 4 -", &mut lengths, &mut levels);
     let state = grid_text::feed(half, b"2 7\n", &mut lengths, &mut levels);
-    examples_print::line(lengths[0]);
-    examples_print::levels(&levels);
-    examples_print::line(grid_text::finish(state) as usize);
-    examples_print::line(number_of(b"") as usize);
-    examples_print::line(number_of(b"9 x") as usize);
-    examples_print::line(number_of(b"3 1024 1024") as usize);
+    examples_print::line(rt, lengths[0]);
+    examples_print::levels(rt, &levels);
+    examples_print::line(rt, grid_text::finish(state) as usize);
+    examples_print::line(rt, number_of(b"") as usize);
+    examples_print::line(rt, number_of(b"9 x") as usize);
+    examples_print::line(rt, number_of(b"3 1024 1024") as usize);
 }
 
-fn main() {
+fn main(rt: HostRuntime) {
     theorems();
-    reads();
-    writes();
-    fields();
-    plays();
-    texts();
+    reads(&rt);
+    writes(&rt);
+    fields(&rt);
+    plays(&rt);
+    texts(&rt);
 }

@@ -2,6 +2,7 @@
 use border::BorderModeF64;
 use ndimage_parts::requests::CORRELATE1D;
 use ndimage_parts::state::{AXIS, Floats, OUT, REQUEST, State};
+use std::io::Print;
 
 // The call, and its number.
 fn apply(state: &State, floats: &[f64], mode: BorderModeF64, origin: i64, out: &mut [f64]) -> u8 {
@@ -23,16 +24,16 @@ fn apply(state: &State, floats: &[f64], mode: BorderModeF64, origin: i64, out: &
     correlate1d_f64::convolve1d_f64(data, shape, weights, axis, mode, origin as isize, out)
 }
 
-fn answered(refusal: u8, out: &[f64]) {
+fn answered(rt: &impl Print, refusal: u8, out: &[f64]) {
     if refusal != 0 {
-        ndimage_write::refused(refusal);
+        ndimage_write::refused(rt, refusal);
         return;
     }
-    ndimage_write::levels_f64(out);
+    ndimage_write::levels_f64(rt, out);
 }
 
 // The call and its answer.
-fn answer(state: &State, floats: &Floats, origin: i64, out: &mut [f64]) {
+fn answer(rt: &impl Print, state: &State, floats: &Floats, origin: i64, out: &mut [f64]) {
     let refusal = apply(
         state,
         floats,
@@ -40,11 +41,11 @@ fn answer(state: &State, floats: &Floats, origin: i64, out: &mut [f64]) {
         origin,
         out,
     );
-    answered(refusal, out);
+    answered(rt, refusal, out);
 }
 
-pub(crate) fn filter(state: &State, floats: &Floats, origin: i64) {
+pub(crate) fn filter(rt: &impl Print, state: &State, floats: &Floats, origin: i64) {
     let mut out = [0.0; 8193];
     let n = ndimage_arguments::lent(state[OUT], 8193);
-    answer(state, floats, origin, &mut out[0..n]);
+    answer(rt, state, floats, origin, &mut out[0..n]);
 }

@@ -7,6 +7,7 @@
 
 use ndimage_parts::state::{Buffer, FAULT, FORM, File, Floats, LEN, Levels, REQUEST, State};
 use ndimage_read::cursor;
+use std::io::{Print, Read};
 
 mod filter;
 mod filter_f64;
@@ -19,26 +20,35 @@ mod request;
 type Out = [i64; 32769];
 
 // The answer to what was read; what is wrong with it, 0 for nothing.
-fn answer(state: &State, levels: &Levels, floats: &Floats, file: &File, out: &mut Out) -> usize {
+fn answer(
+    rt: &impl Print,
+    state: &State,
+    levels: &Levels,
+    floats: &Floats,
+    file: &File,
+    out: &mut Out,
+) -> usize {
     if state[FAULT] != 0 {
         return state[FAULT];
     }
     if ndimage_arguments::is_whole(state[REQUEST], state[FORM]) {
-        return request::whole(state, levels, file, out);
+        return request::whole(rt, state, levels, file, out);
     }
-    request::other(state, levels, floats, file)
+    request::other(rt, state, levels, floats, file)
 }
 
 // What is wrong with the line, where something is.
-fn report(buffer: &[u8], state: &State, fault: usize) {
+fn report(rt: &impl Print, buffer: &[u8], state: &State, fault: usize) {
     if fault == 0 {
         return;
     }
-    ndimage_write::error(buffer, state[LEN], fault);
+    ndimage_write::error(rt, buffer, state[LEN], fault);
 }
 
 // A line: what it asks for, or what is wrong with it. Behind the last line feed there is none.
 fn serve(
+    rt: &impl Print,
+    input: &mut impl Read,
     buffer: &mut Buffer,
     state: &mut State,
     levels: &mut Levels,
@@ -46,25 +56,28 @@ fn serve(
     file: &mut File,
     out: &mut Out,
 ) {
-    ndimage_read::read(buffer, state, levels, floats, file);
+    ndimage_read::read(input, buffer, state, levels, floats, file);
     if cursor::past(state) {
         return;
     }
-    let fault = answer(state, levels, floats, file, out);
-    report(buffer, state, fault);
+    let fault = answer(rt, state, levels, floats, file, out);
+    report(rt, buffer, state, fault);
 }
 
 // The arrays are made once.
-fn main() {
+fn main(rt: HostRuntime) {
     let mut buffer = [0u8; 65792];
     let mut state = [0usize; 48];
     let mut levels = [0i64; 41406];
     let mut floats = [0.0; 8538];
     let mut file = [0u8; 128];
     let mut out = [0i64; 32769];
+    let mut input = rt.stdin();
     let mut turns = u64::MAX;
     while turns > 0 {
         serve(
+            &rt,
+            &mut input,
             &mut buffer,
             &mut state,
             &mut levels,

@@ -5,6 +5,7 @@ use ndimage_parts::requests::{
     PAD, PAD_TO, PLAY, READ_RECIPE, SYMMETRY, UNIFORM1D, WRITE_RECIPE,
 };
 use ndimage_parts::state::{File, Floats, Levels, ORIGIN_AT, OUT, REQUEST, State};
+use std::io::Print;
 
 // The call, and its number.
 fn apply(state: &State, levels: &[i64], file: &File, out: &mut [i64]) -> u8 {
@@ -24,53 +25,65 @@ fn apply(state: &State, levels: &[i64], file: &File, out: &mut [i64]) -> u8 {
 }
 
 // A number or the levels; a fault where a mask has other levels than 0 and 1.
-fn answered(refusal: u8, out: &[i64]) -> usize {
+fn answered(rt: &impl Print, refusal: u8, out: &[i64]) -> usize {
     if refusal == crate::mask::ODD {
         return ndimage_write::MASK;
     }
     if refusal != 0 {
-        ndimage_write::refused(refusal);
+        ndimage_write::refused(rt, refusal);
         return 0;
     }
-    ndimage_write::levels(out);
+    ndimage_write::levels(rt, out);
     0
 }
 
 // The call and its answer.
-fn answer(state: &State, levels: &[i64], file: &File, out: &mut [i64]) -> usize {
+fn answer(rt: &impl Print, state: &State, levels: &[i64], file: &File, out: &mut [i64]) -> usize {
     let refusal = apply(state, levels, file, out);
-    answered(refusal, out)
+    answered(rt, refusal, out)
 }
 
 // A request with an output of whole levels; what is wrong with it, 0 for nothing.
-pub(crate) fn whole(state: &State, levels: &[i64], file: &File, out: &mut [i64]) -> usize {
+pub(crate) fn whole(
+    rt: &impl Print,
+    state: &State,
+    levels: &[i64],
+    file: &File,
+    out: &mut [i64],
+) -> usize {
     let n = ndimage_arguments::lent(
         ndimage_arguments::lent(state[OUT], ndimage_arguments::most_out(state[REQUEST])),
         out.len(),
     );
-    answer(state, levels, file, &mut out[0..n])
+    answer(rt, state, levels, file, &mut out[0..n])
 }
 
 // Any other request; what is wrong with it, 0 for nothing.
-pub(crate) fn other(state: &State, levels: &Levels, floats: &Floats, file: &File) -> usize {
+pub(crate) fn other(
+    rt: &impl Print,
+    state: &State,
+    levels: &Levels,
+    floats: &Floats,
+    file: &File,
+) -> usize {
     let request = state[REQUEST];
     match request {
-        SYMMETRY => crate::kernel::symmetry(state, levels, floats),
+        SYMMETRY => crate::kernel::symmetry(rt, state, levels, floats),
         KERNEL3D => {
-            crate::kernel::show(state);
+            crate::kernel::show(rt, state);
             0
         }
         READ_RECIPE => {
-            crate::recipe::read(state, file);
+            crate::recipe::read(rt, state, file);
             0
         }
-        WRITE_RECIPE => crate::recipe::write(state, levels),
+        WRITE_RECIPE => crate::recipe::write(rt, state, levels),
         HELP => {
-            ndimage_write::show_help();
+            ndimage_write::show_help(rt);
             0
         }
         _ => {
-            crate::filter_f64::filter(state, floats, levels[ORIGIN_AT]);
+            crate::filter_f64::filter(rt, state, floats, levels[ORIGIN_AT]);
             0
         }
     }

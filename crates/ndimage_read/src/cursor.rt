@@ -2,9 +2,9 @@
 ghost use Rattle.std.specs.Prelude.{◌≡◌};
 ghost use Rattle.ndimage_spec.specs.Reading.{input_ended, no_line, end_behind};
 
-use libc::STDIN_FILENO;
 use ndimage_parts::state::{AT, Buffer, END, FAULT, LEN, LINE, STAGE, State};
 use ndimage_write::{EXTRA, LONG};
+use std::io::Read;
 
 // How many bytes of a token are kept, in front of what was read.
 const KEPT: usize = 256;
@@ -56,17 +56,19 @@ pub(crate) fn faulty(state: &mut State, fault: usize) {
 }
 
 // Reads behind the token: how many bytes.
-fn bring(buffer: &mut [u8]) -> usize {
+fn bring(input: &mut impl Read, buffer: &mut [u8]) -> usize {
     if buffer.len() < KEPT {
         return 0;
     }
-    let got = libc::read(STDIN_FILENO, &mut buffer[KEPT..]);
-    io::count(got, &buffer[KEPT..])
+    match input.read(&mut buffer[KEPT..]) {
+        Ok(n) => n,
+        Err(_) => 0,
+    }
 }
 
 // More bytes, or the end of the input.
-fn fill(buffer: &mut Buffer, state: &mut State) {
-    let n = bring(buffer);
+fn fill(input: &mut impl Read, buffer: &mut Buffer, state: &mut State) {
+    let n = bring(input, buffer);
     if n == 0 {
         state[STAGE] = INPUT_END;
         return;
@@ -104,10 +106,10 @@ fn wide(byte: u8) -> usize
 }
 
 // The next byte; NONE where more bytes had to be brought into the buffer first, or the input has ended.
-fn advance(buffer: &mut Buffer, state: &mut State) -> usize {
+fn advance(input: &mut impl Read, buffer: &mut Buffer, state: &mut State) -> usize {
     let at = state[AT];
     if at >= state[END] {
-        fill(buffer, state);
+        fill(input, buffer, state);
         return NONE;
     }
     if at >= 65792 {
@@ -153,8 +155,8 @@ fn take(buffer: &mut Buffer, state: &mut State, byte: usize) {
 }
 
 // One byte, or more bytes into the buffer.
-fn turn(buffer: &mut Buffer, state: &mut State) {
-    let byte = advance(buffer, state);
+fn turn(input: &mut impl Read, buffer: &mut Buffer, state: &mut State) {
+    let byte = advance(input, buffer, state);
     if byte == NONE {
         return;
     }
@@ -162,32 +164,32 @@ fn turn(buffer: &mut Buffer, state: &mut State) {
 }
 
 // Reads on to a stage or a later one.
-fn run(buffer: &mut Buffer, state: &mut State, stage: usize) {
+fn run(input: &mut impl Read, buffer: &mut Buffer, state: &mut State, stage: usize) {
     let mut turns = u64::MAX;
     while turns > 0 {
         if state[STAGE] >= stage {
             break;
         }
-        turn(buffer, state);
+        turn(input, buffer, state);
         turns -= 1;
     }
 }
 
 // The next token of the line: its length is 0 where there is none.
-pub(crate) fn next(buffer: &mut Buffer, state: &mut State) {
+pub(crate) fn next(input: &mut impl Read, buffer: &mut Buffer, state: &mut State) {
     state[LEN] = 0;
     if state[STAGE] == SPACE {
         state[STAGE] = OPEN;
     }
-    run(buffer, state, SPACE);
+    run(input, buffer, state, SPACE);
 }
 
 // Nothing may follow.
-fn expect_end(buffer: &mut Buffer, state: &mut State) {
+fn expect_end(input: &mut impl Read, buffer: &mut Buffer, state: &mut State) {
     if state[FAULT] != 0 {
         return;
     }
-    next(buffer, state);
+    next(input, buffer, state);
     if state[LEN] == 0 {
         return;
     }
@@ -204,8 +206,8 @@ fn measure(state: &mut State) {
 }
 
 // The end of the request.
-pub(crate) fn finish(buffer: &mut Buffer, state: &mut State) {
-    expect_end(buffer, state);
-    run(buffer, state, LINE_END);
+pub(crate) fn finish(input: &mut impl Read, buffer: &mut Buffer, state: &mut State) {
+    expect_end(input, buffer, state);
+    run(input, buffer, state, LINE_END);
     measure(state);
 }

@@ -9,6 +9,7 @@
 
 use ndimage_parts::state::{Buffer, FAULT, FORM, File, Floats, LAST, LEN, Levels, REQUEST, State};
 use ndimage_spec::{Kind, Part};
+use std::io::Read;
 use words::Found;
 
 pub mod cursor;
@@ -40,9 +41,9 @@ fn begin(buffer: &[u8], state: &mut State, table: &[u8]) {
 }
 
 // The line's request.
-fn open(buffer: &mut Buffer, state: &mut State, table: &[u8]) {
+fn open(input: &mut impl Read, buffer: &mut Buffer, state: &mut State, table: &[u8]) {
     cursor::begin_line(state);
-    cursor::next(buffer, state);
+    cursor::next(input, buffer, state);
     begin(buffer, state, table);
 }
 
@@ -69,6 +70,7 @@ fn take(
 
 // Token i of a part, which has to be there.
 fn read_token(
+    input: &mut impl Read,
     buffer: &mut Buffer,
     state: &mut State,
     levels: &mut Levels,
@@ -79,7 +81,7 @@ fn read_token(
 ) {
     let kind = part.0;
     let at = ndimage_parts::slot_of(part.2, part.3, i);
-    cursor::next(buffer, state);
+    cursor::next(input, buffer, state);
     if state[LEN] == 0 {
         cursor::faulty(state, ndimage_write::MISSING);
         return;
@@ -93,6 +95,7 @@ fn read_token(
 
 // The tokens of a part.
 fn read_part(
+    input: &mut impl Read,
     buffer: &mut Buffer,
     state: &mut State,
     levels: &mut Levels,
@@ -107,13 +110,14 @@ fn read_part(
         if state[FAULT] != 0 {
             break;
         }
-        read_token(buffer, state, levels, floats, file, part, i);
+        read_token(input, buffer, state, levels, floats, file, part, i);
         i += 1;
     }
 }
 
 // The parts of a request, by their letters.
 fn read_parts(
+    input: &mut impl Read,
     buffer: &mut Buffer,
     state: &mut State,
     levels: &mut Levels,
@@ -127,6 +131,7 @@ fn read_parts(
             break;
         }
         read_part(
+            input,
             buffer,
             state,
             levels,
@@ -140,6 +145,7 @@ fn read_parts(
 
 // A line: its request, with the parts that it has.
 pub fn read(
+    input: &mut impl Read,
     buffer: &mut Buffer,
     state: &mut State,
     levels: &mut Levels,
@@ -147,8 +153,8 @@ pub fn read(
     file: &mut File,
 ) {
     let table = ndimage_parts::requests::table();
-    open(buffer, state, &table);
+    open(input, buffer, state, &table);
     let letters = words::rest_at(&table, state[REQUEST]);
-    read_parts(buffer, state, levels, floats, file, letters);
-    cursor::finish(buffer, state);
+    read_parts(input, buffer, state, levels, floats, file, letters);
+    cursor::finish(input, buffer, state);
 }

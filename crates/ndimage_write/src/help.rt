@@ -1,17 +1,19 @@
 // The list of requests, with an example of each.
 use crate::say;
+use std::io::Print;
 
-pub fn show_help() {
-    parts();
-    filters();
-    sums();
-    others();
-    recipes();
+pub fn show_help(rt: &impl Print) {
+    parts(rt);
+    filters(rt);
+    sums(rt);
+    others(rt);
+    recipes(rt);
 }
 
 // What the names stand for.
-fn parts() {
+fn parts(rt: &impl Print) {
     say(
+        rt,
         b"\
 GRID = axes, lengths, number of levels, levels (last axis fastest); LIST = number, levels
 BORDER = constant LEVEL, mirror, nearest, reflect or wrap; BORDERS = three, one for each axis
@@ -24,8 +26,9 @@ STEPS = number, then of each step: kind, axis, length, origin, border, constant
     );
 }
 
-fn filters() {
+fn filters(rt: &impl Print) {
     say(
+        rt,
         b"\
 correlate1d|convolve1d i|f GRID WEIGHTS:LIST AXIS BORDER ORIGIN OUT
     correlate1d i 1 3 3 1 2 3 3 1 2 3 0 nearest 0 3
@@ -38,8 +41,9 @@ minimum_filter|maximum_filter GRID SIZE BORDERS ORIGIN OUT SECOND
     );
 }
 
-fn sums() {
+fn sums(rt: &impl Print) {
     say(
+        rt,
         b"\
 correlate|convolve GRID SIDES (number, sides) WEIGHTS:LIST BORDER ORIGIN OUT
     correlate 2 2 2 4 1 2 3 4 2 2 2 4 1 0 0 10 nearest 0 4
@@ -53,8 +57,9 @@ uniform_filter GRID SIZE BORDERS OUT SECOND
     );
 }
 
-fn others() {
+fn others(rt: &impl Print) {
     say(
+        rt,
         b"\
 median_filter GRID OUT (levels 0 and 1, three axes)
     median_filter 3 2 2 2 8 1 0 1 0 0 1 0 1 8
@@ -70,8 +75,9 @@ kernel3d star|ball|full
     );
 }
 
-fn recipes() {
+fn recipes(rt: &impl Print) {
     say(
+        rt,
         b"\
 read_recipe FILE
     read_recipe 4c4b5300010100000200020000

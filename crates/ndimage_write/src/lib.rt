@@ -8,7 +8,7 @@ ghost use Rattle.std.specs.Prelude.{◌≡◌, cond, ◌+◌, ◌-◌, ltb, leng
 ghost use Rattle.words.specs.Words.{lines_of};
 ghost use Rattle.ndimage_spec.specs.Faults.{fault_texts, shows_token, visible_of};
 
-use libc::STDOUT_FILENO;
+use std::io::Print;
 
 mod help;
 
@@ -46,20 +46,20 @@ pub const MANY_STEPS: usize = 14;
 pub const FIELD: usize = 15;
 
 // Writes out the first `at` bytes.
-fn flush(answer: &[u8], at: usize) {
+fn flush(rt: &impl Print, answer: &[u8], at: usize) {
     if at > answer.len() {
         return;
     }
-    io::write_all(STDOUT_FILENO, &answer[0..at]);
+    let _ = rt.write_all(&answer[0..at]);
 }
 
 // Where the next 32 bytes go.
-fn make_room(answer: &[u8], at: usize) -> usize {
+fn make_room(rt: &impl Print, answer: &[u8], at: usize) -> usize {
     if answer.len() < 32 {
         return 0;
     }
     if at > answer.len() - 32 {
-        flush(answer, at);
+        flush(rt, answer, at);
         return 0;
     }
     at
@@ -87,8 +87,8 @@ fn sum(a: usize, b: usize) -> usize
     a + b
 }
 
-fn put_level(answer: &mut [u8], at: usize, z: i64) -> usize {
-    let here = make_room(answer, at);
+fn put_level(rt: &impl Print, answer: &mut [u8], at: usize, z: i64) -> usize {
+    let here = make_room(rt, answer, at);
     if here > answer.len() {
         return here;
     }
@@ -96,8 +96,8 @@ fn put_level(answer: &mut [u8], at: usize, z: i64) -> usize {
     sum(here, n)
 }
 
-fn put_level_f64(answer: &mut [u8], at: usize, x: f64) -> usize {
-    let here = make_room(answer, at);
+fn put_level_f64(rt: &impl Print, answer: &mut [u8], at: usize, x: f64) -> usize {
+    let here = make_room(rt, answer, at);
     if here > answer.len() {
         return here;
     }
@@ -105,11 +105,11 @@ fn put_level_f64(answer: &mut [u8], at: usize, x: f64) -> usize {
     sum(here, n)
 }
 
-fn put_byte(answer: &mut [u8], at: usize, byte: u8) -> usize {
+fn put_byte(rt: &impl Print, answer: &mut [u8], at: usize, byte: u8) -> usize {
     if answer.len() < 2 {
         return at;
     }
-    let here = make_room(answer, at);
+    let here = make_room(rt, answer, at);
     if here > answer.len() - 2 {
         return here;
     }
@@ -118,67 +118,67 @@ fn put_byte(answer: &mut [u8], at: usize, byte: u8) -> usize {
 }
 
 // The byte between level i and the one before it.
-fn between(answer: &mut [u8], at: usize, i: usize) -> usize {
+fn between(rt: &impl Print, answer: &mut [u8], at: usize, i: usize) -> usize {
     if i == 0 {
         return at;
     }
-    let here = make_room(answer, at);
+    let here = make_room(rt, answer, at);
     put(answer, here, 32)
 }
 
 // The end of the line.
-fn end(answer: &mut [u8], at: usize) {
-    let here = make_room(answer, at);
+fn end(rt: &impl Print, answer: &mut [u8], at: usize) {
+    let here = make_room(rt, answer, at);
     let whole = put(answer, here, 10);
-    flush(answer, whole);
+    flush(rt, answer, whole);
 }
 
 // Levels between single spaces.
-pub fn levels(cells: &[i64]) {
+pub fn levels(rt: &impl Print, cells: &[i64]) {
     let mut answer = [0u8; 4096];
     let mut at = 0;
     let mut i = 0;
     while i < cells.len() {
-        at = between(&mut answer, at, i);
-        at = put_level(&mut answer, at, cells[i]);
+        at = between(rt, &mut answer, at, i);
+        at = put_level(rt, &mut answer, at, cells[i]);
         i += 1;
     }
-    end(&mut answer, at);
+    end(rt, &mut answer, at);
 }
 
-pub fn levels_f64(cells: &[f64]) {
+pub fn levels_f64(rt: &impl Print, cells: &[f64]) {
     let mut answer = [0u8; 4096];
     let mut at = 0;
     let mut i = 0;
     while i < cells.len() {
-        at = between(&mut answer, at, i);
-        at = put_level_f64(&mut answer, at, cells[i]);
+        at = between(rt, &mut answer, at, i);
+        at = put_level_f64(rt, &mut answer, at, cells[i]);
         i += 1;
     }
-    end(&mut answer, at);
+    end(rt, &mut answer, at);
 }
 
 // Bytes, two hexadecimal digits each.
-pub fn bytes(cells: &[u8]) {
+pub fn bytes(rt: &impl Print, cells: &[u8]) {
     let mut answer = [0u8; 4096];
     let mut at = 0;
     let mut i = 0;
     while i < cells.len() {
-        at = put_byte(&mut answer, at, cells[i]);
+        at = put_byte(rt, &mut answer, at, cells[i]);
         i += 1;
     }
-    end(&mut answer, at);
+    end(rt, &mut answer, at);
 }
 
 // Words, straight to standard output.
-pub fn say(bytes: &[u8]) {
-    io::write_all(STDOUT_FILENO, bytes);
+pub fn say(rt: &impl Print, bytes: &[u8]) {
+    let _ = rt.write_all(bytes);
 }
 
-pub fn refused(number: u8) {
-    say(b"refused ");
-    io::print_decimal(STDOUT_FILENO, number as u64);
-    say(b"\n");
+pub fn refused(rt: &impl Print, number: u8) {
+    say(rt, b"refused ");
+    let _ = print!(rt; "{number}");
+    say(rt, b"\n");
 }
 
 // A question mark for what is no visible character.
@@ -195,7 +195,7 @@ fn visible(byte: u8) -> u8
 }
 
 // The token that is wrong, its first 40 bytes at most.
-fn echo(token: &[u8], len: usize) {
+fn echo(rt: &impl Print, token: &[u8], len: usize) {
     let mut answer = [0u8; 64];
     let mut at = 0;
     let mut i = 0;
@@ -209,7 +209,7 @@ fn echo(token: &[u8], len: usize) {
         at = put(&mut answer, at, visible(token[i]));
         i += 1;
     }
-    end(&mut answer, at);
+    end(rt, &mut answer, at);
 }
 
 // The texts of the faults, a line each, from 0 on, which is no fault.
@@ -247,14 +247,14 @@ fn shows_token(text: &[u8]) -> bool
 }
 
 // What is wrong with a line, and the token where it is that.
-pub fn error(token: &[u8], len: usize, fault: usize) {
+pub fn error(rt: &impl Print, token: &[u8], len: usize, fault: usize) {
     let table = texts();
     let text = words::line_at(&table, fault);
-    say(b"error ");
-    say(text);
+    say(rt, b"error ");
+    say(rt, text);
     if shows_token(text) {
-        echo(token, len);
+        echo(rt, token, len);
         return;
     }
-    say(b"\n");
+    say(rt, b"\n");
 }

@@ -6,31 +6,46 @@
 // contract can say what is read or written.
 #![tactic(auto)]
 
-ghost use Rattle.std.specs.Prelude.{◌<◌};
-ghost use Rattle.io.specs.Counts.{IsPrefixLen};
+ghost use Rattle.std.specs.Prelude.{◌<◌, ◌≤◌, length};
 
 use grid_text_spec::TextState;
-use libc::{STDIN_FILENO, STDOUT_FILENO};
+use std::fs::File;
+use std::io::{Print, Read};
+use std::rt::Files;
 
-// The first bytes of the file at the front of what is lent, and how many; none where it cannot be opened or read.
-fn read_file(file: &mut [u8]) -> usize
-    ensures { IsPrefixLen result file.new }
+// A part of what is read at the front of what is lent, and how many bytes; none at its end or where it cannot be read.
+fn bring(source: &mut impl Read, part: &mut [u8]) -> usize
+    ensures { result ≤ length part.new }
 {
-    let descriptor = os::open_read(b"look.lks");
-    if descriptor < 0 {
-        return 0;
+    match source.read(part) {
+        Ok(n) => n,
+        Err(_) => 0,
     }
-    let n = io::read_full(descriptor, file);
-    libc::close(descriptor);
-    n
 }
 
-// A part of standard input at the front of what is lent, and how many bytes; none at its end.
-fn bring(part: &mut [u8]) -> usize
-    ensures { IsPrefixLen result part.new }
+// What is read until the bytes that are lent are full, and how many.
+fn read_full(source: &mut impl Read, bytes: &mut [u8]) -> usize
+    ensures { result ≤ length bytes.new }
 {
-    let got = libc::read(STDIN_FILENO, part);
-    io::count(got, part)
+    let mut done = 0;
+    while done < bytes.len() {
+        let n = bring(source, &mut bytes[done..]);
+        if n == 0 {
+            break;
+        }
+        done += n;
+    }
+    done
+}
+
+// The first bytes of the file at the front of what is lent, and how many; none where it cannot be opened or read.
+fn read_file<R: Files>(rt: &R, file: &mut [u8]) -> usize
+    ensures { result ≤ length file.new }
+{
+    match File::open(rt, "look.lks") {
+        Ok(mut source) => read_full(&mut source, file),
+        Err(_) => 0,
+    }
 }
 
 // How many parts more are read: none after a part of no bytes.
@@ -45,11 +60,16 @@ fn turns_left(n: usize, turns: u64) -> u64
 }
 
 // The state after standard input, part after part, and one line feed more.
-fn read_text(part: &mut [u8], lengths: &mut [usize], levels: &mut [i64]) -> TextState {
+fn read_text(
+    input: &mut impl Read,
+    part: &mut [u8],
+    lengths: &mut [usize],
+    levels: &mut [i64],
+) -> TextState {
     let mut state = grid_text::start();
     let mut turns = u64::MAX;
     while turns > 0 {
-        let n = bring(part);
+        let n = bring(input, part);
         state = grid_text::feed(state, &part[..n], lengths, levels);
         turns = turns_left(n, turns);
     }
@@ -57,24 +77,24 @@ fn read_text(part: &mut [u8], lengths: &mut [usize], levels: &mut [i64]) -> Text
 }
 
 // Writes the first bytes of a text in one piece.
-fn show(text: &[u8], n: usize) {
+fn show(rt: &impl Print, text: &[u8], n: usize) {
     if n > text.len() {
         return;
     }
-    io::write_all(STDOUT_FILENO, &text[..n]);
+    let _ = rt.write_all(&text[..n]);
 }
 
 // 119 bytes of the file are enough, as `play_text::first_bytes` says. One buffer serves for the parts that are read and
 // for what is printed, with 21 bytes for a line: each page more costs as much as some hundred levels.
-fn main() {
+fn main(rt: HostRuntime) {
     let mut file = [0u8; 119];
     let mut lengths = [0usize; 3];
     let mut levels = [0i64; 8192];
     let mut out = [0i64; 8192];
     let mut second = [0i64; 8192];
     let mut text = [0u8; 172032];
-    let n = read_file(&mut file);
-    let state = read_text(&mut text, &mut lengths, &mut levels);
+    let n = read_file(&rt, &mut file);
+    let state = read_text(&mut rt.stdin(), &mut text, &mut lengths, &mut levels);
     let printed = play_text::respond(
         &file[..n],
         state,
@@ -84,5 +104,5 @@ fn main() {
         &mut second,
         &mut text,
     );
-    show(&text, printed);
+    show(&rt, &text, printed);
 }

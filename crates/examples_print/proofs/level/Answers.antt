@@ -6,16 +6,16 @@ use Rattle.numbers.proofs.Sign.{below-next_fits, below-turned_fits, below-turned
 use Rattle.examples_print.proofs.level.Goals as goal
 
 pub overflow_add-m : goal.overflow_add-m
-overflow_add-m c = below-next_fits _ c.ranges.z c.if-z-lt0.true
+overflow_add-m g c = below-next_fits _ c.ranges.z c.if-z-lt0.true
 
 pub overflow_sub-m : goal.overflow_sub-m
-overflow_sub-m c = below-turned_fits _ c.ranges.z c.if-z-lt0.true
+overflow_sub-m g c = below-turned_fits _ c.ranges.z c.if-z-lt0.true
 
 pub overflow_cast-m : goal.overflow_cast-m
-overflow_cast-m c = below_casts _ c.ranges.z c.if-z-lt0.true
+overflow_cast-m g c = below_casts _ c.ranges.z c.if-z-lt0.true
 
 pub overflow_add-m-then-z-lt0 : goal.overflow_add-m-then-z-lt0
-overflow_add-m-then-z-lt0 c = let f = c.ranges.z in omega (arith, ap nat_abs (below-turned _ f c.if-z-lt0.true), f.sfits)
+overflow_add-m-then-z-lt0 g c = let f = c.ranges.z in omega (arith, ap nat_abs (below-turned _ f c.if-z-lt0.true), f.sfits)
 
 pub overflow_cast-z : goal.overflow_cast-z
-overflow_cast-z c = on_casts _ c.ranges.z c.if-z-lt0.false
+overflow_cast-z g c = on_casts _ c.ranges.z c.if-z-lt0.false

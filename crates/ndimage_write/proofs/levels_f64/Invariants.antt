@@ -5,7 +5,7 @@ use lib.ListN.{length}
 use Rattle.ndimage_write.proofs.levels_f64.Given as goal
 
 abbrev pub invariant-loop-i : goal.invariant-loop-i
-invariant-loop-i l = length l.answer ≡ 4096
+invariant-loop-i g l = length l.answer ≡ 4096
 
 abbrev pub decreases-loop-i : goal.decreases-loop-i
-decreases-loop-i l = length l.cells - l.i
+decreases-loop-i g l = length l.cells - l.i

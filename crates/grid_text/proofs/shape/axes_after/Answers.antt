@@ -15,4 +15,4 @@ pub returns : goal.returns
 unfolding axes_after
 returns c =
     let d = c in
-    rw (sym d.is_broken.ensures ∙ d.if-is_broken.false, sym d.is_out.ensures ∙ d.if-is_out.false) c.Capped-at.ensures
+    rw (sym d.is_broken.ensures ∙ d.if-is_broken.false, sym d.is_out.ensures ∙ d.if-is_out.false) c.capped_at.ensures

@@ -13,12 +13,12 @@ returns-then-is_broken c = rw (sym c.is_broken.ensures ∙ c.if-is_broken.true) 
 pub overflow_mul-cells : goal.overflow_mul-cells
 overflow_mul-cells c =
     let a = c.args in
-    let l : c.Capped-at.result ≤ length_cap = omega (arith, c.Capped-at.ensures) in
-    omega (arith, product_most a.cells c.Capped-at.result 4294967296 length_cap (omega arith) l)
+    let l : c.capped_at-size.result ≤ length_cap = omega (arith, c.capped_at-size.ensures) in
+    omega (arith, product_most a.cells c.capped_at-size.result 4294967296 length_cap (omega arith) l)
 
 pub returns : goal.returns
 unfolding cells_after
 returns c =
     let a = c.args in
     rw (sym c.is_broken.ensures ∙ c.if-is_broken.false)
-    (c.capped_at.ensures ∙ ap (λ n. min (a.cells * n) cell_cap) c.Capped-at.ensures)
+    (c.capped_at.ensures ∙ ap (λ n. min (a.cells * n) cell_cap) c.capped_at-size.ensures)

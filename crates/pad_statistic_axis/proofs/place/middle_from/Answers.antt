@@ -18,14 +18,14 @@ returns-then-not-on_middle c =
     let l = c in
     let s = l in
     let t = in_middle s.args.shape.now s.args.lefts.now (coordinate s.args.padded.now s.args.place) in
-    all_stops t (length s.args.shape.now) l.loop-a.a l.loop-a.invariant.1 (omega arith) (ap not (sym c.on_middle.ensures) ∙ c.if-not-on_middle.true)
+    all_stops t (length s.args.shape.now) l.loop-a.a l.loop-a.invariant.1 (omega arith) (ap not (sym c.on_middle.ensures) ∙ (ap not c.if-not-on_middle.true))
 
 pub loop-a-preserved : goal.loop-a-preserved
 loop-a-preserved c =
     let l = c in
     let s = l in
     let t = in_middle s.args.shape.now s.args.lefts.now (coordinate s.args.padded.now s.args.place) in
-    (search rules, all_goes t (length s.args.shape.now) l.loop-a.a l.loop-a.invariant.1 (omega arith) (ap not (sym c.on_middle.ensures) ∙ c.if-not-on_middle.false))
+    (search rules, all_goes t (length s.args.shape.now) l.loop-a.a l.loop-a.invariant.1 (omega arith) (ap not (sym c.on_middle.ensures) ∙ (ap not c.if-not-on_middle.false)))
 
 pub returns : goal.returns
 returns c =

@@ -64,9 +64,6 @@ loop-j-preserved c =
     let l = c.loop-j in
     (search rules, search rules, l.invariant.2, after_constant l.invariant.3 l.invariant.2 a.requires.1 a.requires.2 _ l.invariant.0 (omega arith) refl)
 
-pub shape_of-out : goal.shape_of-out
-shape_of-out c = c.loop-j.invariant.3.stored.kept ∙ c.loop-k.invariant.1.stored.kept
-
 pub returns : goal.returns
 returns c =
     let s = c in

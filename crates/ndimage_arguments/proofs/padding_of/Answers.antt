@@ -1,0 +1,12 @@
+-- `padding_of` meets its contract: what its callees ensure, put together.
+use mathlib.Core.Path.{◌≡◌}
+use mir.Syntax.{w64}
+use mir.Val.{to_z, of_z}
+use mir.ValLaws.{to_z-of_z}
+use Rattle.ndimage_arguments.proofs.padding_of.Goals as goal
+
+pub returns : goal.returns
+returns c =
+    let z = c.level in
+    let e : to_z w64 (of_z w64 z.result) ≡ z.result = to_z-of_z w64 z.result (record { sfits = z.type_inv }) in
+    rw (e, c.code.ensures, z.ensures) at c.pad_mode_of.ensures

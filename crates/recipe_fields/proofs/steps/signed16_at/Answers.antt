@@ -1,0 +1,12 @@
+-- `signed16_at` meets its contract: what its callees ensure, put together.
+use mathlib.Core.Path.{ap, ◌∙◌}
+use mir.Syntax.{w16, w64}
+use mir.ValLaws.{to_z-of_z}
+use Rattle.recipe_fields.specs.Fields.{signed16_of}
+use Rattle.recipe_fields.proofs.steps.signed16_at.Goals as goal
+
+pub returns : goal.returns
+returns c =
+    let z = c.number_at in
+    let r = c.signed16_of in
+    to_z-of_z w16 r.result (record { sfits = r.type_inv }) ∙ r.ensures ∙ ap signed16_of (to_z-of_z w64 z.result (record { sfits = z.type_inv }) ∙ z.ensures)
