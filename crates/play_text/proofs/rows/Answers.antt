@@ -1,5 +1,4 @@
 -- `rows` meets its contract: every row holds by computing.
--- Assumes nothing.
 use mathlib.Core.Path.{refl}
 use Rattle.numbers.specs.Lists.{tabulate}
 use Rattle.numbers.specs.Windows.{window_of}
@@ -16,10 +15,9 @@ use Rattle.text_spec.specs.Writing.{places_of}
 use Rattle.recipe_spec.specs.Recipes.{file_of, bad_mark, bad_step_count, bad_step_constant, bad_step_origin, bad_step}
 use Rattle.recipe_spec.specs.Player.{played, steps_judged}
 use Rattle.grid_text_spec.specs.Words.{not_number, bad_word, word_outside, axis_count}
-use Rattle.play_text.proofs.rows.Statement.{statement}
-use Rattle.play_text.proofs.rows.Tie as tie
+use Rattle.play_text.proofs.rows.Goals as goal
 
-returns : tie.Need-returns
+pub returns : goal.returns
 unfolding places_of tabulate window_of place_of coordinate bad_shape grid_count bad_level along_axis cell_for extended_lane bad_origin padded_at padded_line first_in answer_of mode_of file_of bad_mark bad_step_count
     bad_step_constant bad_step_origin bad_step played steps_judged not_number bad_word word_outside axis_count
 returns c =
@@ -36,6 +34,3 @@ returns c =
       shown = refl;
       printed = refl;
     }
-
-pub rows-spec : {M : Type 1} → statement M
-rows-spec = tie.close (tie.spec returns)
