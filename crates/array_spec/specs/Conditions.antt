@@ -10,7 +10,7 @@
 --                      test bad of one level, in rising order
 --   grid_judged ns cells lent         the same of whole levels
 -- Conditions 1 and 3 of a whole list are tests of any member: any_of bad_level, any_of bad_float.
-use Rattle.std.specs.Prelude.{ℕ, ◌-◌, ◌^◌, Bool, true, false, not, ◌||◌, cond, List, [], ◌∷◌, ltb, eqb, Float, ℤ, pos, length}
+use Rattle.std.specs.Prelude.{ℕ, Bool, true, false, not, ◌||◌, cond, List, [], ◌∷◌, ltb, eqb, Float, ℤ, length}
 use Rattle.std.specs.Float.{nan, inf, fin}
 use Rattle.numbers.specs.Limits.{largest_level, longest_axis, most_cells}
 use Rattle.numbers.specs.Lists.{any_of}

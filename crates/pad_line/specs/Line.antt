@@ -16,7 +16,7 @@
 --                                         apart: they are some and inside,
 --                                         the border fills both pads, and the padded line is no longer than the lent
 --                                         one
-use Rattle.std.specs.Prelude.{ℕ, ◌+◌, ◌-◌, ◌*◌, ◌≤◌, ◌<◌, ◌≡◌, Bool, false, ◌&&◌, not, cond, List, ◌++◌, leb, pos, ◌-ℤ◌, length, get_or, take, drop}
+use Rattle.std.specs.Prelude.{ℕ, ◌+◌, ◌*◌, ◌≤◌, ◌<◌, ◌≡◌, Bool, false, ◌&&◌, not, cond, List, ◌++◌, leb, pos, ◌-ℤ◌, length, get_or, take, drop}
 use Rattle.numbers.specs.Lists.{tabulate}
 use Rattle.lanes.specs.Lanes.{lane, lane_inside}
 use Rattle.border.specs.Border.{Border, extended_lane}

@@ -7,7 +7,7 @@
 --                         what padding lane l of axis 0 of the rows 1 2 3 / 4 5 6 leaves in a line of that many cells,
 --                         all 9
 --   LineRows           the rows
-use Rattle.std.specs.Prelude.{ℕ, ◌≡◌, Bool, true, false, List, [], ◌∷◌, map, ℤ, pos, replicate, take}
+use Rattle.std.specs.Prelude.{ℕ, ◌≡◌, Bool, List, [], ◌∷◌, map, ℤ, pos, replicate, take}
 use Rattle.numbers.specs.Windows.{window_of}
 use Rattle.numbers.specs.Rows.{wholes}
 use Rattle.border.specs.Modes.{border_of}

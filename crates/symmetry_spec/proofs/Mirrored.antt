@@ -12,7 +12,6 @@ use lib.Dec.{eqb}
 use lib.IntN.{ℤ, pos, neg_ℤ}
 use lib.ListN.{length, get_or}
 use Rattle.symmetry_spec.specs.Class.{some_differs, pair_differs, class_of, equal_z, differ_z, class_z}
-use Rattle.symmetry_spec.specs.declared.SymmetryState.{SymmetryState}
 use Rattle.symmetry_spec.specs.declared.SymmetryState.TheVariants.{NonSymmetric, Symmetric, AntiSymmetric}
 use Rattle.symmetry_spec.proofs.Bits.{equal_true}
 

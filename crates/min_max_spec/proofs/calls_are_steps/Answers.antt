@@ -17,9 +17,11 @@ module _ (le : ℤ → ℤ → Bool) (cells : List ℤ) (c : Call) (r : ℕ) (le
   same_number : r ≡ number_of cells c
   unfolding number_of
   same_number = A.number
+
   goes_on : (t : Bool) → eqb r 0 ≡ t → cond t left cells ≡ cond t (answer_of le cells c) cells
   goes_on true e = A.cells ∙ ap (λ u. cond u (answer_of le cells c) c.out) e
   goes_on false e = refl
+
   same_levels : cond (eqb r 0) left cells ≡ after le cells c
   unfolding after
   same_levels = goes_on (eqb r 0) refl ∙ ap (λ n. cond (eqb n 0) (answer_of le cells c) cells) same_number

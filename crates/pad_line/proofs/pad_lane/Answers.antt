@@ -18,7 +18,7 @@ returns-then-not-lane_fits c = let a = c.args in lane_stays (pos 0) (border_of a
     a.line.now c.lane_fits.ensures (c.if-not-lane_fits.true)
 
 pub pad_from-requires : goal.pad_from-requires
-pad_from-requires c = served_from (pos 0) ((let served : let a = c.args in Serves (border_of a.mode) a.n a.stride a.lane a.left a.right a.grid.now a.line.now = record { fits = condition_is c.lane_fits.ensures (c.if-not-lane_fits.false); fills_left = condition_is c.bad_pad.ensures c.if-bad_pad.false; fills_right = condition_is c.bad_pad-2.ensures c.if-bad_pad-2.false; } in served)) c.first_place-base.ensures
+pad_from-requires c = served_from (pos 0) ((let served : let a = c.args in Serves (border_of a.mode) a.n a.stride a.lane a.left a.right a.grid.now a.line.now = record { fits = condition_is c.lane_fits.ensures (c.if-not-lane_fits.false); fills_left = condition_is c.bad_pad.ensures c.if-bad_pad.false; fills_right = condition_is c.bad_pad-2.ensures c.if-bad_pad-2.false } in served)) c.first_place-base.ensures
 
 pub returns : goal.returns
-returns c = lane-padded (pos 0) ((let served : let a = c.args in Serves (border_of a.mode) a.n a.stride a.lane a.left a.right a.grid.now a.line.now = record { fits = condition_is c.lane_fits.ensures (c.if-not-lane_fits.false); fills_left = condition_is c.bad_pad.ensures c.if-bad_pad.false; fills_right = condition_is c.bad_pad-2.ensures c.if-bad_pad-2.false; } in served)) c.first_place-base.ensures c.pad_from.ensures
+returns c = lane-padded (pos 0) ((let served : let a = c.args in Serves (border_of a.mode) a.n a.stride a.lane a.left a.right a.grid.now a.line.now = record { fits = condition_is c.lane_fits.ensures (c.if-not-lane_fits.false); fills_left = condition_is c.bad_pad.ensures c.if-bad_pad.false; fills_right = condition_is c.bad_pad-2.ensures c.if-bad_pad-2.false } in served)) c.first_place-base.ensures c.pad_from.ensures

@@ -1,6 +1,5 @@
 -- `check_pairs_f64` meets its contract. The loop's invariant: no pair at a smaller distance differs, and the state is the one
 -- handed in. The measure is how many distances are left.
-use Prim.Native.Nat.{◌-◌}
 use mathlib.Core.Path.{◌≡◌, sym, ◌∙◌}
 use mathlib.Core.Bool.{Bool}
 use native.Mathlib.Omega.{arith}

@@ -3,7 +3,7 @@ use lib.Ieee.{nan}
 use Rattle.direction.specs.Direction.{directed}
 use Rattle.direction.proofs.Directed.{directed-length}
 use Rattle.symmetry_spec.specs.Class.{differ_f}
-use Rattle.symmetry_spec.proofs.Steps.{class_even, class_first, class_second, not_non}
+use Rattle.symmetry_spec.proofs.Steps.{class_even, class_first, class_second}
 use Rattle.symmetry.proofs.directed_state_f64.Goals as goal
 
 pub returns-then-weights-eq0 : goal.returns-then-weights-eq0

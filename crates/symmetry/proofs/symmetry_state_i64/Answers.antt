@@ -1,7 +1,7 @@
 -- `symmetry_state_i64` meets its contract: the length's parity, and then the answers of the two searches, give the class.
 use lib.IntN.{pos}
 use Rattle.symmetry_spec.specs.Class.{differ_z}
-use Rattle.symmetry_spec.proofs.Steps.{class_even, class_first, class_second, not_non}
+use Rattle.symmetry_spec.proofs.Steps.{class_even, class_first, class_second}
 use Rattle.symmetry.proofs.symmetry_state_i64.Goals as goal
 
 pub returns-then-weights-eq0 : goal.returns-then-weights-eq0

@@ -1,7 +1,6 @@
 -- `any_other` meets its contract: no length before the one that the loop has reached differs from the count.
 use mathlib.Core.Path.{refl, sym, ap}
 use mathlib.Core.Bool.{not}
-use Prim.Native.Nat.{◌-◌}
 use native.Mathlib.Omega.{arith}
 use borrow.Author.Tests.{eq-eqb, ne_eqb}
 use lib.ListN.{get_or}

@@ -1,7 +1,6 @@
 -- `fill` meets its contract: the cells are stored from the front, all with the one level.
 use borrow.Author.Rules.{rules}
 use mathlib.Core.Path.{refl, ap, ◌∙◌}
-use Prim.Native.Nat.{◌-◌}
 use native.Mathlib.Omega.{arith}
 use lib.IntN.{pos}
 use lib.ListN.{length, replicate}
@@ -10,8 +9,6 @@ use mir.Syntax.{w64}
 use mir.Val.{to_z, of_z}
 use Rattle.numbers.proofs.Stored.{front-none, front-more, front-all}
 use Rattle.numbers.proofs.Tabulate.{tabulate-replicate}
-use Rattle.array.proofs.copies.fill.Reads as reads
-use Rattle.array.proofs.copies.fill.Lts as lts
 use Rattle.array.proofs.copies.fill.Goals as goal
 
 pub loop-k-init : goal.loop-k-init

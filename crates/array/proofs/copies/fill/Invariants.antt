@@ -5,8 +5,6 @@ use lib.Dec.{ltb}
 use lib.IntN.{pos}
 use lib.ListN.{length}
 use Rattle.numbers.proofs.Stored.{Stored}
-use Rattle.array.proofs.copies.fill.Reads as reads
-use Rattle.array.proofs.copies.fill.Lts as lts
 use Rattle.array.proofs.copies.fill.Given as goal
 
 abbrev pub invariant-loop-k : goal.invariant-loop-k

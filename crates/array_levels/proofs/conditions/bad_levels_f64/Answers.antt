@@ -1,6 +1,6 @@
 -- `bad_levels_f64` meets its contract. The loop's invariant: `bad`, at most `k`, is above 0 exactly where a level before place `k` is not finite.
 -- The measure is what is left of the grid.
-use Rattle.std.proofs.Common.{◌-◌, sym, ◌∙◌, arith, rules}
+use Rattle.std.proofs.Common.{sym, ◌∙◌, arith, rules}
 use lib.Ieee.{nan}
 use Rattle.numbers.proofs.Seen.{seen_none, seen_hit, seen_miss, seen_all}
 use Rattle.array_spec.specs.Conditions.{bad_float}

@@ -1,6 +1,6 @@
 -- `any_over` meets its contract. The loop's invariant: the sizes before place `i`, joined, pass the limit exactly where one of them is outside.
 -- The measure is what is left of the line.
-use Rattle.std.proofs.Common.{◌-◌, rules}
+use Rattle.std.proofs.Common.{rules}
 use Rattle.numbers.proofs.Seen.{seen_none, seen_size, seen_all}
 use Rattle.array_levels.proofs.level_range.any_over.Goals as goal
 

@@ -1,6 +1,6 @@
 -- `far_in` meets its contract. The loop's invariant: the lifted levels before place `i`, joined, pass the limit exactly where one of the levels is
 -- outside. The measure is what is left of the line.
-use Rattle.std.proofs.Common.{◌-◌, get_or, pos, rules}
+use Rattle.std.proofs.Common.{get_or, pos, rules}
 use Rattle.numbers.proofs.Seen.{seen_none, seen_joined, seen_all}
 use Rattle.array_levels.proofs.Raising.{lift_read}
 use Rattle.array_levels.proofs.level_range.far_in.Goals as goal

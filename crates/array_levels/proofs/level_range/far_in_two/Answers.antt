@@ -1,6 +1,6 @@
 -- `far_in_two` meets its contract. The loop's invariant: of each line the lifted levels before place `i`, joined, pass the limit exactly where one of them is
 -- outside. The measure is what is left of the lines.
-use Rattle.std.proofs.Common.{◌-◌, ◌||◌, get_or, pos, sym, ap, ◌∙◌, arith, rules, le-ltb, lt-ltb}
+use Rattle.std.proofs.Common.{◌||◌, get_or, pos, sym, ap, ◌∙◌, arith, rules, le-ltb, lt-ltb}
 use Rattle.numbers.specs.Lists.{any_of}
 use Rattle.numbers.proofs.Seen.{seen_none, seen_joined, seen_all}
 use Rattle.array_levels.specs.Near.{is_far}

@@ -1,5 +1,4 @@
 -- `bad_constant_any` meets its contract: no axis before the one that the loop has reached has a refused constant.
-use Prim.Native.Nat.{◌-◌}
 use mathlib.Core.Path.{◌≡◌, sym, ap, ◌∙◌}
 use Rattle.numbers.proofs.Tests.{condition_is}
 use Rattle.array_spec.specs.Conditions.{bad_level}

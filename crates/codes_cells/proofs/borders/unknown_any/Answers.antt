@@ -19,10 +19,13 @@ use Rattle.codes_cells.proofs.borders.unknown_any.Goals as goal
 module _ (codes : List ℕ) {n a r : ℕ} (h : a < n) (s : any_of unknown_border (codes_of codes n) ≡ any_of unknown_border (drop a (codes_of codes n))) (e : r ≡ code_at codes a) where
   judged : {t : Bool} → unknown_border r ≡ t → unknown_border (get_or (codes_of codes n) a 255) ≡ t
   judged p = ap unknown_border (get_d_tabulate (code_at codes) n a 255 h ∙ sym e) ∙ p
+
   inside : a < length (codes_of codes n)
   inside = omega (arith, length-tabulate (code_at codes) 0 n)
+
   hit : unknown_border r ≡ true → any_of unknown_border (codes_of codes n) ≡ true
   hit p = any_hit unknown_border 255 a (codes_of codes n) inside s (judged p)
+
   miss : unknown_border r ≡ false → any_of unknown_border (codes_of codes n) ≡ any_of unknown_border (drop (a + 1) (codes_of codes n))
   miss p = any_miss unknown_border 255 a (codes_of codes n) inside s (judged p)
 

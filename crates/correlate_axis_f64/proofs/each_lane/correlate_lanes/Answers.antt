@@ -11,9 +11,9 @@ loop-lane-init c = let P = c.requires in column_none P.0 P.2 P.3 c.lanes_of-alon
 
 pub correlate_lane-requires : goal.correlate_lane-requires
 correlate_lane-requires c = (
-      column_needs c.loop-lane.invariant c.loop-lane-test.true (search rules),
-      c.requires.1,
-    )
+  column_needs c.loop-lane.invariant c.loop-lane-test.true (search rules),
+  c.requires.1,
+)
 
 pub write_from_f64-requires : goal.write_from_f64-requires
 write_from_f64-requires c = let k = c in

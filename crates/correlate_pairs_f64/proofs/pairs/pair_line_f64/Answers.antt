@@ -21,6 +21,7 @@ single w s op n {l} b e = pairs_end float_ops w s op (pairs_start float_ops w s 
   where
     zero : 0 ≡ length w / 2
     zero = omega arith
+
     r : Row (λ i. cell_term float_ops w s i 0) n l
     r = record { is = e }
 

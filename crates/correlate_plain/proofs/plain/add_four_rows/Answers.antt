@@ -20,11 +20,11 @@ bounds-line-j-3 c = omega (arith, c.requires.0.line.long)
 
 pub loop-i-init : goal.loop-i-init
 loop-i-init c = let s = c in let W = s.requires.0.line in let l = s.args.line.now in let j = s.args.j in (
-      cell_at l j (0 + j) (cell-read W j) (omega arith),
-      cell_at l (j + 1) (0 + j + 1) (cell-read W (j + 1)) (omega arith),
-      cell_at l (j + 2) (0 + j + 2) (cell-read W (j + 2)) (omega arith),
-      pass_none (pos 0) _ _,
-    )
+  cell_at l j (0 + j) (cell-read W j) (omega arith),
+  cell_at l (j + 1) (0 + j + 1) (cell-read W (j + 1)) (omega arith),
+  cell_at l (j + 2) (0 + j + 2) (cell-read W (j + 2)) (omega arith),
+  pass_none (pos 0) _ _,
+)
 
 pub overflow_mul-out : goal.overflow_mul-out
 overflow_mul-out c = let g = c in let s = g in let W = line-directed s.args.backward s.requires.0.line in

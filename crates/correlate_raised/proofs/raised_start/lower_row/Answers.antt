@@ -38,9 +38,9 @@ overflow_sub-sum c = let s = c in let l = c.loop-i in let W = s.requires.0.weigh
 
 pub loop-i-preserved : goal.loop-i-preserved
 loop-i-preserved c = let s = c in let l = c.loop-i in let W = s.requires.0.weighable in (
-      left-read s.args.line.now W.cells (length s.args.weights.now - 1) l.i (omega (arith, W.few)) l.invariant.0 (omega (arith, W.some, W.long)),
-      pass_more l.invariant.1 c.loop-i-test.true (lowered-read s.requires.0 l.i (record { fits = s.ranges.base; is = s.requires.1 }) l.invariant.0 (omega arith)),
-    )
+  left-read s.args.line.now W.cells (length s.args.weights.now - 1) l.i (omega (arith, W.few)) l.invariant.0 (omega (arith, W.some, W.long)),
+  pass_more l.invariant.1 c.loop-i-test.true (lowered-read s.requires.0 l.i (record { fits = s.ranges.base; is = s.requires.1 }) l.invariant.0 (omega arith)),
+)
 
 pub shape_of-out : goal.shape_of-out
 shape_of-out c = c.loop-i.invariant.1.stored.kept

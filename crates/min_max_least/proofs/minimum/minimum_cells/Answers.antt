@@ -40,14 +40,14 @@ loop-last-preserved c = let m = c in
 
 pub loop-i-preserved : goal.loop-i-preserved
 loop-i-preserved c = let is = read c.v-1.given refl in record {
-      short = c.loop-i-test.true;
-      ring =
-          elim c.if-v-front.branch [
-            then-v-front w ↦ rw (w.pairs-is, w.front-is-bits, w.death-is, w.count-is) (ring_replaced total_≤ c.loop-i.invariant.ring is w.if-v-front.true)
-          | else-v-front+else-loop-last-test w ↦
-              rw (w.pairs-is, w.front-is-bits, w.death-is, w.count-is) (fill_pushed total_≤ w.loop-last.invariant is w.loop-last-test.false)
-          ];
-    }
+  short = c.loop-i-test.true;
+  ring =
+      elim c.if-v-front.branch [
+        | then-v-front w ↦ rw (w.pairs-is, w.front-is-bits, w.death-is, w.count-is) (ring_replaced total_≤ c.loop-i.invariant.ring is w.if-v-front.true)
+        | else-v-front+else-loop-last-test w ↦
+            rw (w.pairs-is, w.front-is-bits, w.death-is, w.count-is) (fill_pushed total_≤ w.loop-last.invariant is w.loop-last-test.false)
+      ];
+}
 
 pub loop-i-2-init : goal.loop-i-2-init
 loop-i-2-init c = sweep_begun total_≤ _ c.loop-i.invariant c.loop-i-test.false c.requires
@@ -66,36 +66,36 @@ bounds-pairs-start c = next_in c.loop-i-2.invariant.ring c.place-start.ensures
 
 pub offset_bounds-pairs-start-then-v-front-2 : goal.offset_bounds-pairs-start-then-v-front-2
 offset_bounds-pairs-start-then-v-front-2 c = slot_fits (let aged : Ring le_z c.args.line.now c.args.len c.loop-i-2.i (c.loop-i-2.i + 1 - c.args.len) c.loop-i-2.pairs c.if-death-i.start c.if-death-i.count
-          (to_z w64 c.if-death-i.front-bits) c.if-death-i.death =
-          elim c.if-death-i.branch [
-            then-death-i w ↦
-                rw (w.start-is, w.count-is, w.front-is-bits, read w.struct_told-then-death-i-1.given.0.1 refl, w.death-is)
-                (ring_popped total_≤ c.loop-i-2.invariant.ring w.if-death-i.true w.place-start.ensures)
-          | else-death-i w ↦ rw (w.start-is, w.count-is, w.front-is-bits, w.death-is) (ring_kept total_≤ c.loop-i-2.invariant.ring w.if-death-i.false)
-          ] in
-      aged).within
+    (to_z w64 c.if-death-i.front-bits) c.if-death-i.death =
+    elim c.if-death-i.branch [
+      | then-death-i w ↦
+          rw (w.start-is, w.count-is, w.front-is-bits, read w.struct_told-then-death-i-1.given.0.1 refl, w.death-is)
+          (ring_popped total_≤ c.loop-i-2.invariant.ring w.if-death-i.true w.place-start.ensures)
+      | else-death-i w ↦ rw (w.start-is, w.count-is, w.front-is-bits, w.death-is) (ring_kept total_≤ c.loop-i-2.invariant.ring w.if-death-i.false)
+    ] in
+    aged).within
 
 pub bounds-pairs-start-then-v-front-2 : goal.bounds-pairs-start-then-v-front-2
 bounds-pairs-start-then-v-front-2 c = (let aged : Ring le_z c.args.line.now c.args.len c.loop-i-2.i (c.loop-i-2.i + 1 - c.args.len) c.loop-i-2.pairs c.if-death-i.start c.if-death-i.count
-          (to_z w64 c.if-death-i.front-bits) c.if-death-i.death =
-          elim c.if-death-i.branch [
-            then-death-i w ↦
-                rw (w.start-is, w.count-is, w.front-is-bits, read w.struct_told-then-death-i-1.given.0.1 refl, w.death-is)
-                (ring_popped total_≤ c.loop-i-2.invariant.ring w.if-death-i.true w.place-start.ensures)
-          | else-death-i w ↦ rw (w.start-is, w.count-is, w.front-is-bits, w.death-is) (ring_kept total_≤ c.loop-i-2.invariant.ring w.if-death-i.false)
-          ] in
-      aged).within
+    (to_z w64 c.if-death-i.front-bits) c.if-death-i.death =
+    elim c.if-death-i.branch [
+      | then-death-i w ↦
+          rw (w.start-is, w.count-is, w.front-is-bits, read w.struct_told-then-death-i-1.given.0.1 refl, w.death-is)
+          (ring_popped total_≤ c.loop-i-2.invariant.ring w.if-death-i.true w.place-start.ensures)
+      | else-death-i w ↦ rw (w.start-is, w.count-is, w.front-is-bits, w.death-is) (ring_kept total_≤ c.loop-i-2.invariant.ring w.if-death-i.false)
+    ] in
+    aged).within
 
 pub loop-last-else-v-front-2-init : goal.loop-last-else-v-front-2-init
 loop-last-else-v-front-2-init c = let j = c in sweep_trim total_≤ j.loop-i-2.invariant (let aged : Ring le_z c.args.line.now c.args.len c.loop-i-2.i (c.loop-i-2.i + 1 - c.args.len) c.loop-i-2.pairs c.if-death-i.start c.if-death-i.count
-          (to_z w64 c.if-death-i.front-bits) c.if-death-i.death =
-          elim c.if-death-i.branch [
-            then-death-i w ↦
-                rw (w.start-is, w.count-is, w.front-is-bits, read w.struct_told-then-death-i-1.given.0.1 refl, w.death-is)
-                (ring_popped total_≤ c.loop-i-2.invariant.ring w.if-death-i.true w.place-start.ensures)
-          | else-death-i w ↦ rw (w.start-is, w.count-is, w.front-is-bits, w.death-is) (ring_kept total_≤ c.loop-i-2.invariant.ring w.if-death-i.false)
-          ] in
-      aged) (read c.last-else-v-front-2-1.given refl)
+    (to_z w64 c.if-death-i.front-bits) c.if-death-i.death =
+    elim c.if-death-i.branch [
+      | then-death-i w ↦
+          rw (w.start-is, w.count-is, w.front-is-bits, read w.struct_told-then-death-i-1.given.0.1 refl, w.death-is)
+          (ring_popped total_≤ c.loop-i-2.invariant.ring w.if-death-i.true w.place-start.ensures)
+      | else-death-i w ↦ rw (w.start-is, w.count-is, w.front-is-bits, w.death-is) (ring_kept total_≤ c.loop-i-2.invariant.ring w.if-death-i.false)
+    ] in
+    aged) (read c.last-else-v-front-2-1.given refl)
 
 pub overflow_sub-count-in-loop-last-else-v-front-2 : goal.overflow_sub-count-in-loop-last-else-v-front-2
 overflow_sub-count-in-loop-last-else-v-front-2 c = c.loop-last-else-v-front-2.invariant.some
@@ -138,20 +138,20 @@ pub loop-i-2-preserved : goal.loop-i-2-preserved
 loop-i-2-preserved c = let is = read c.v-in-loop-i-2-1.given refl in
     sweep_more total_≤ c.loop-i-2.invariant
     (elim c.if-v-front-2.branch [
-      then-v-front-2 w ↦
+      | then-v-front-2 w ↦
           rw (w.pairs-is, w.count-is, w.front-is-bits, w.death-is)
           (ring_replaced total_≤ (let aged : Ring le_z c.args.line.now c.args.len c.loop-i-2.i (c.loop-i-2.i + 1 - c.args.len) c.loop-i-2.pairs c.if-death-i.start c.if-death-i.count
           (to_z w64 c.if-death-i.front-bits) c.if-death-i.death =
           elim c.if-death-i.branch [
-            then-death-i w ↦
+            | then-death-i w ↦
                 rw (w.start-is, w.count-is, w.front-is-bits, read w.struct_told-then-death-i-1.given.0.1 refl, w.death-is)
                 (ring_popped total_≤ c.loop-i-2.invariant.ring w.if-death-i.true w.place-start.ensures)
-          | else-death-i w ↦ rw (w.start-is, w.count-is, w.front-is-bits, w.death-is) (ring_kept total_≤ c.loop-i-2.invariant.ring w.if-death-i.false)
+            | else-death-i w ↦ rw (w.start-is, w.count-is, w.front-is-bits, w.death-is) (ring_kept total_≤ c.loop-i-2.invariant.ring w.if-death-i.false)
           ] in
-      aged) is w.if-v-front-2.true)
-    | else-v-front-2+else-loop-last-else-v-front-2-test w ↦
-        rw (w.pairs-is, w.count-is, w.front-is-bits, w.death-is)
-        (ring_pushed total_≤ w.loop-last-else-v-front-2.invariant is w.loop-last-else-v-front-2-test.false w.place-b-else-v-front-2.ensures)
+          aged) is w.if-v-front-2.true)
+      | else-v-front-2+else-loop-last-else-v-front-2-test w ↦
+          rw (w.pairs-is, w.count-is, w.front-is-bits, w.death-is)
+          (ring_pushed total_≤ w.loop-last-else-v-front-2.invariant is w.loop-last-else-v-front-2-test.false w.place-b-else-v-front-2.ensures)
     ])
     c.loop-i-2-test.true
 

@@ -1,6 +1,5 @@
 -- `pad_line::extension::extend_constant` meets its contract: the two rims are filled with the constant, which belongs there.
 use mathlib.Core.Path.{refl, ap, ◌∙◌}
-use Prim.Native.Nat.{◌-◌}
 use native.Mathlib.Omega.{arith}
 use borrow.Author.Rules.{rules}
 use lib.IntN.{ℤ, pos}

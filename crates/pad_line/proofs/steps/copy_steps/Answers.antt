@@ -1,6 +1,5 @@
 -- `copy_steps` meets its contract, by the laws of StepByStep: the cells are stored one after the other, and none of them is read later.
 use mathlib.Core.Path.{refl}
-use Prim.Native.Nat.{◌-◌}
 use native.Mathlib.Omega.{arith}
 use borrow.Author.Rules.{rules}
 use lib.IntN.{pos}

@@ -41,9 +41,9 @@ overflow_add-row c = let k = c in omega (arith, walk_few k.requires.0 k.loop-row
 
 pub loop-row-preserved : goal.loop-row-preserved
 loop-row-preserved c = let k = c in let F = k.requires.0 in let W = k.loop-row.invariant.0 in let b = k.loop-row-test.true in (
-      walk_more F W b c.next_row-start.ensures,
-      around-more _ _ _ _ k.loop-row.invariant.1 _ c.fill_gap.ensures F (walk_row F W b) (walk_target F W b) W.width,
-    )
+  walk_more F W b c.next_row-start.ensures,
+  around-more _ _ _ _ k.loop-row.invariant.1 _ c.fill_gap.ensures F (walk_row F W b) (walk_target F W b) W.width,
+)
 
 pub returns : goal.returns
 returns c = let k = c in let s = k in

@@ -26,10 +26,10 @@ overflow_mul-row c = let F = c.requires.0 in omega (arith, walk_read F c.loop-ro
 
 pub copy_row-requires : goal.copy_row-requires
 copy_row-requires c = let k = c in let s = k in let F = s.requires.0 in let v = k.loop-row.invariant in let b = k.loop-row-test.true in (
-      omega (arith, walk_read F v.0 b, s.requires.1),
-      omega (arith, walk_in F v.0 b, v.1.stored.kept, s.requires.2),
-      omega (arith, v.1.stored.kept, s.requires.2, F.small),
-    )
+  omega (arith, walk_read F v.0 b, s.requires.1),
+  omega (arith, walk_in F v.0 b, v.1.stored.kept, s.requires.2),
+  omega (arith, v.1.stored.kept, s.requires.2, F.small),
+)
 
 pub next_row-start-requires : goal.next_row-start-requires
 next_row-start-requires c = let k = c in let F = k.requires.0 in

@@ -27,12 +27,12 @@ loop-j-preserved c =
     let e : to_z w32 (of_z w32 (get_or l k.loop-j.j (pos 0))) ≡ get_or l k.loop-j.j (pos 0) = read_at_lem w32 c.x-1.given refl in
     let left : ℕ → ℕ = λ n. n + at_most le_z (to_z w32 (of_z w32 k.args.z)) (drop (k.loop-j.j + 1) l) in
     elim c.if-x-z.branch [
-      then-x-z w ↦ (
+      | then-x-z w ↦ (
         search rules,
         omega (arith, w.count-is),
         ap left w.count-is ∙ count_hit le_z _ l k.loop-j.j _ _ k.loop-j.invariant.2 (pos 0) (omega arith) (rw e at w.if-x-z.true),
       )
-    | else-x-z w ↦ (
+      | else-x-z w ↦ (
         search rules,
         omega (arith, w.count-is),
         ap left w.count-is ∙ count_miss le_z _ l k.loop-j.j _ _ k.loop-j.invariant.2 (pos 0) (omega arith) (rw e at w.if-x-z.false),

@@ -12,7 +12,7 @@ middle_level-requires c =
     let e = n.narrow.ensures in record {
       levels_value = ap unserved e ∙ n.requires.line_value;
       low_value = read c.minimum-low.type_inv c.minimum-low.ensures
-            ∙ ap minimum_of (sym e);
+          ∙ ap minimum_of (sym e);
       high_value = read c.maximum-high.type_inv c.maximum-high.ensures ∙ ap maximum_of (sym e);
       levels_nonzero = omega (arith, ap length e, n.requires.line_nonzero);
     }

@@ -24,11 +24,11 @@ upper_is c = read_at_lem w32 c.level_after-upper.type_inv c.level_after-upper.en
 
 pub level_of_rank-lower-requires : goal.level_of_rank-lower-requires
 level_of_rank-lower-requires c = record {
-      levels_value = c.requires.levels_value;
-      low_value = to_z-of_z w64 _ c.ranges.low ∙ c.requires.low_value;
-      high_value = to_z-of_z w64 _ c.ranges.high ∙ c.requires.high_value;
-      k_in_bounds = omega arith;
-    }
+  levels_value = c.requires.levels_value;
+  low_value = to_z-of_z w64 _ c.ranges.low ∙ c.requires.low_value;
+  high_value = to_z-of_z w64 _ c.ranges.high ∙ c.requires.high_value;
+  k_in_bounds = omega arith;
+}
 
 pub overflow_cast-result : goal.overflow_cast-result
 overflow_cast-result c = let s = c in level_fits w64 (omega arith) (ranked s.args.levels.now ((length s.args.levels.now - 1) / 2)) ((let ranked_size : (k : ℕ) → nat_abs (ranked s.args.levels.now k) ≤ 2147483647 = λ k. let l = s.args.levels.now in (size_ranked 2147483647 l (served_sized l s.requires.levels_value) k).size in ranked_size) _) ((let lower_is : let l = c.args.levels.now in to_z w32 (of_z w32 c.level_of_rank-lower.result) ≡ ranked l ((length l - 1) / 2) = read_at_lem w32 c.level_of_rank-lower.type_inv c.level_of_rank-lower.ensures in lower_is))
@@ -41,11 +41,11 @@ returns-then-n-eq1 c =
 
 pub level_after-upper-requires : goal.level_after-upper-requires
 level_after-upper-requires c = record {
-      levels_value = c.requires.levels_value;
-      k_in_bounds = omega (arith, c.if-n-eq1.false);
-      lower_value = (let lower_is : let l = c.args.levels.now in to_z w32 (of_z w32 c.level_of_rank-lower.result) ≡ ranked l ((length l - 1) / 2) = read_at_lem w32 c.level_of_rank-lower.type_inv c.level_of_rank-lower.ensures in lower_is);
-      high_value = to_z-of_z w64 _ c.ranges.high ∙ c.requires.high_value;
-    }
+  levels_value = c.requires.levels_value;
+  k_in_bounds = omega (arith, c.if-n-eq1.false);
+  lower_value = (let lower_is : let l = c.args.levels.now in to_z w32 (of_z w32 c.level_of_rank-lower.result) ≡ ranked l ((length l - 1) / 2) = read_at_lem w32 c.level_of_rank-lower.type_inv c.level_of_rank-lower.ensures in lower_is);
+  high_value = to_z-of_z w64 _ c.ranges.high ∙ c.requires.high_value;
+}
 
 pub overflow_cast-result-2 : goal.overflow_cast-result-2
 overflow_cast-result-2 c = let s = c in level_fits w64 (omega arith) (ranked s.args.levels.now ((length s.args.levels.now - 1) / 2)) ((let ranked_size : (k : ℕ) → nat_abs (ranked s.args.levels.now k) ≤ 2147483647 = λ k. let l = s.args.levels.now in (size_ranked 2147483647 l (served_sized l s.requires.levels_value) k).size in ranked_size) _)

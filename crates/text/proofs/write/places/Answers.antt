@@ -18,6 +18,6 @@ pub returns : goal.returns
 returns c =
     let o = c in
     elim c.loop-k-test.branch [
-      else-loop-k-test w ↦ count_all o.loop-k.invariant w.loop-k-test.false
-    | then-loop-k-test+then-n-power w ↦ count_end_lem o.loop-k.invariant w.if-n-power.true
+      | else-loop-k-test w ↦ count_all o.loop-k.invariant w.loop-k-test.false
+      | then-loop-k-test+then-n-power w ↦ count_end_lem o.loop-k.invariant w.if-n-power.true
     ]

@@ -1,5 +1,4 @@
 -- `bad_pads_any` meets its contract: no axis before the one that the loop has reached refuses its pads.
-use Prim.Native.Nat.{◌-◌}
 use mathlib.Core.Path.{◌≡◌, sym, ap, ◌∙◌}
 use lib.ListN.{get_or}
 use Rattle.numbers.proofs.Tests.{condition_is}
