@@ -11,7 +11,7 @@
  * Floats: all NaNs count as one. Where an answer is a NaN the cell is a NaN and its bits are open; what is promised of a lent cell that held
  * a NaN and is left as it was is that it is a NaN.
  *
- * `rt staticlib capi` makes the archive to link with, target/staticlib/libcapi.a.
+ * `tools/prove staticlib capi` makes the archive to link with, target/staticlib/libcapi.a.
  */
 #ifndef SUVVOKAL_H
 #define SUVVOKAL_H

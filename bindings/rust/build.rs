@@ -1,4 +1,4 @@
-//! Links the proved archive that `rt staticlib capi` makes: target/staticlib of the project, or the folder that SUVVOKAL_ARCHIVE names.
+//! Links the proved archive that `tools/prove staticlib capi` makes: target/staticlib of the project, or the folder that SUVVOKAL_ARCHIVE names.
 use std::path::PathBuf;
 
 fn main() {
@@ -10,7 +10,7 @@ fn main() {
     let archive = folder.join("libcapi.a");
     println!("cargo:rerun-if-changed={}", archive.display());
     if !archive.is_file() {
-        panic!("{} is not there: `rt staticlib capi` makes it", archive.display());
+        panic!("{} is not there: `tools/prove staticlib capi` makes it", archive.display());
     }
     println!("cargo:rustc-link-search=native={}", folder.display());
     println!("cargo:rustc-link-lib=static=capi");
