@@ -6,7 +6,7 @@
 // contract can say what is read or written.
 #![tactic(auto)]
 
-ghost use Rattle.std.specs.Prelude.{◌<◌, ◌≤◌, length};
+ghost use Rattle.std.specs.Prelude.{◌≡◌, ◌<◌, ◌≤◌, length, take};
 
 use grid_text_spec::TextState;
 use std::fs::File;
@@ -15,7 +15,8 @@ use std::rt::Files;
 
 // A part of what is read at the front of what is lent, and how many bytes; none at its end or where it cannot be read.
 fn bring(source: &mut impl Read, part: &mut [u8]) -> usize
-    ensures { result ≤ length part.new }
+    ensures bound { result ≤ length part.new }
+    ensures prefix { result ≡ length (take result part.new) }
 {
     match source.read(part) {
         Ok(n) => n,
@@ -25,7 +26,8 @@ fn bring(source: &mut impl Read, part: &mut [u8]) -> usize
 
 // What is read until the bytes that are lent are full, and how many.
 fn read_full(source: &mut impl Read, bytes: &mut [u8]) -> usize
-    ensures { result ≤ length bytes.new }
+    ensures bound { result ≤ length bytes.new }
+    ensures prefix { result ≡ length (take result bytes.new) }
 {
     let mut done = 0;
     while done < bytes.len() {
@@ -40,7 +42,8 @@ fn read_full(source: &mut impl Read, bytes: &mut [u8]) -> usize
 
 // The first bytes of the file at the front of what is lent, and how many; none where it cannot be opened or read.
 fn read_file<R: Files>(rt: &R, file: &mut [u8]) -> usize
-    ensures { result ≤ length file.new }
+    ensures bound { result ≤ length file.new }
+    ensures prefix { result ≡ length (take result file.new) }
 {
     match File::open(rt, "look.lks") {
         Ok(mut source) => read_full(&mut source, file),
