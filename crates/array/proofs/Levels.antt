@@ -7,7 +7,7 @@ use mathlib.Core.List.{List, [], ◌∷◌}
 use lib.ListN.{length}
 use Rattle.numbers.specs.Lists.{any_of}
 use Rattle.numbers.specs.Refusal.{Judged, refusal_of}
-use Rattle.numbers.proofs.Refusal.{judged_yes, judged_no, chain_stops, chain_goes}
+use Rattle.numbers.proofs.Chain.{judged_yes, judged_no, chain_stops, chain_goes}
 use Rattle.array_spec.specs.Conditions.{bad_shape, bad_length, grid_judged_by}
 
 abbrev lengths_judged : List ℕ → List ℕ → Judged

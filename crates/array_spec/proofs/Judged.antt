@@ -11,7 +11,10 @@ use lib.ListN.{length}
 use Rattle.numbers.specs.Lists.{any_of, Every}
 use Rattle.numbers.specs.Refusal.{Judged, refusal_of}
 use Rattle.numbers.proofs.Any.{any_none}
-use Rattle.numbers.proofs.Refusal.{judged-all, chain_stops, chain_goes, chain_ends}
+use Rattle.numbers.specs.Number.{refusal_number}
+use Rattle.numbers.specs.declared.Refusal.{Refusal}
+use Rattle.numbers.proofs.Chain.{judged-all, chain_ends}
+use Rattle.numbers.proofs.Number.{refused, goes_on}
 use Rattle.numbers.proofs.Size.{Sized, tested_sized}
 use Rattle.array_spec.specs.Conditions.{bad_shape, bad_length, bad_level, grid_judged_by}
 use Rattle.array_spec.specs.Grid.{cell_count}
@@ -52,20 +55,19 @@ module _ {A : Type 0} (bad : A → Bool) (ns : List ℕ) (cells : List A) (lent 
       (record { shape = J.0; count = l.0; lengths = l.1; levels = J.1.1.0 }, J.1.1.1)
 
   -- the call's number, from the grid's own
-  module _ {g : ℕ} (e : g ≡ refusal_of (grid_judged_by bad ns cells lent)) where
-    pub grid_refused : (g ≡ 0 → ⊥) → g ≡ refusal_of (grid_judged_by bad ns cells lent ++ ks)
-    grid_refused h = chain_stops (grid_judged_by bad ns cells lent) ks (tt, (tt, (tt, tt))) e h
+  pub grid_refused : (r : Refusal) → refusal_number r ≡ refusal_of (grid_judged_by bad ns cells lent) → refusal_number r ≡ refusal_of (grid_judged_by bad ns cells lent ++ ks)
+  grid_refused = refused (grid_judged_by bad ns cells lent) ks (tt, (tt, (tt, tt)))
 
-    pub grid_accepted : {r : ℕ} → g ≡ 0 → r ≡ refusal_of ks → r ≡ refusal_of (grid_judged_by bad ns cells lent ++ ks)
-    grid_accepted z h = chain_goes (grid_judged_by bad ns cells lent) ks (tt, (tt, (tt, tt))) e z h
+  pub grid_accepted : {r : ℕ} → 0 ≡ refusal_of (grid_judged_by bad ns cells lent) → r ≡ refusal_of ks → r ≡ refusal_of (grid_judged_by bad ns cells lent ++ ks)
+  grid_accepted e h = goes_on (grid_judged_by bad ns cells lent) ks (tt, (tt, (tt, tt))) e h
 
 -- the same of a call that does not ask about its last condition t, since it never holds where the grid has passed and none of the conditions js holds
 module _ {A : Type 0} (bad : A → Bool) (ns : List ℕ) (cells : List A) (lent : List ℕ) (js : Judged) (t : Bool) (n : ℕ) (p : Every (λ j. T (ltb 0 j.1)) js) where
-  pub grid_ends : {g r : ℕ} → g ≡ refusal_of (grid_judged_by bad ns cells lent) → g ≡ 0 → r ≡ refusal_of js
+  pub grid_ends : {r : ℕ} → 0 ≡ refusal_of (grid_judged_by bad ns cells lent) → r ≡ refusal_of js
       → (PassedGrid bad ns cells lent → Every (λ j. j.0 ≡ false) js → t ≡ false) → r ≡ refusal_of (grid_judged_by bad ns cells lent ++ js ++ ((t, n) ∷ []))
-  grid_ends e z q h =
-      grid_accepted bad ns cells lent (js ++ ((t, n) ∷ [])) e z
-      (chain_ends js t n p q (λ y. h (grid_passed bad ns cells lent [] tt (sym e ∙ z)).0 (judged-all js p (sym q ∙ y))))
+  grid_ends e q h =
+      grid_accepted bad ns cells lent (js ++ ((t, n) ∷ [])) e
+      (chain_ends js t n p q (λ y. h (grid_passed bad ns cells lent [] tt (sym e)).0 (judged-all js p (sym q ∙ y))))
 
 -- the size of a level that condition 3 accepts
 pub levels_sized : (cells : List ℤ) → any_of bad_level cells ≡ false → Sized 2147483647 cells

@@ -10,7 +10,7 @@ use borrow.Author.Tests.{lt-ltb, le-ltb, eqb-false}
 use lib.Dec.{T, eqb, ltb}
 use Rattle.numbers.specs.Lists.{Every}
 use Rattle.numbers.specs.Refusal.{Judged, refusal_of, Answers, ScratchAnswers}
-use Rattle.numbers.proofs.Refusal.{judged-append, answers_refused, scratch_refused}
+use Rattle.numbers.proofs.Chain.{judged-append, answers_refused, scratch_refused}
 use Rattle.numbers.proofs.Tests.{cond_yes, cond_no}
 use Rattle.codes.specs.Codes.{coded}
 

@@ -3,6 +3,7 @@
 #![tactic(auto)]
 
 ghost use Rattle.std.specs.Prelude.{◌≡◌, true, false, length};
+ghost use Rattle.numbers.specs.Number.{answer_number};
 ghost use Rattle.numbers.specs.Refusal.{refusal_of, Answers};
 ghost use Rattle.border.specs.Modes.{border_of};
 ghost use Rattle.window_spec.specs.Origin.{bad_origin};
@@ -12,6 +13,7 @@ ghost use Rattle.correlate_spec.specs.Kernel.{sides_of, side_of_lem, kernel_answ
 ghost use Rattle.correlate_grid.specs.Kernel.{KernelCallNeeds};
 ghost use Rattle.correlate_judge_spec.specs.KernelJudge.{kernel_judged};
 
+use numbers::Refusal;
 use border::BorderMode;
 use window_spec::Origin;
 
@@ -85,13 +87,13 @@ pub fn correlate(
     mode: BorderMode,
     origin: isize,
     out: &mut [i64],
-) -> u8
+) -> Result<(), Refusal>
     ensures { Answers (kernel_judged false (border_of mode) origin sides.now weights.now
         shape.now «data».now (length out.old))
         (correlate_z (border_of mode) origin sides.now weights.now shape.now
-        «data».now) out.old result out.new }
+        «data».now) out.old (answer_number result) out.new }
 {
-    let refusal = correlate_judge::judge_kernel(
+    correlate_judge::judge_kernel(
         data,
         shape,
         weights,
@@ -100,12 +102,9 @@ pub fn correlate(
         origin,
         false,
         out.len(),
-    );
-    if refusal != 0 {
-        return refusal;
-    }
+    )?;
     correlate_cells(data, shape, weights, sides, mode, origin, false, out);
-    numbers::ACCEPTED
+    Ok(())
 }
 
 // The sums of each window times the weights of a grid kernel that is reversed along every axis: on each axis coordinate
@@ -130,13 +129,13 @@ pub fn convolve(
     mode: BorderMode,
     origin: isize,
     out: &mut [i64],
-) -> u8
+) -> Result<(), Refusal>
     ensures { Answers (kernel_judged true (border_of mode) origin sides.now weights.now
         shape.now «data».now (length out.old))
         (convolve_z (border_of mode) origin sides.now weights.now shape.now
-        «data».now) out.old result out.new }
+        «data».now) out.old (answer_number result) out.new }
 {
-    let refusal = correlate_judge::judge_kernel(
+    correlate_judge::judge_kernel(
         data,
         shape,
         weights,
@@ -145,10 +144,7 @@ pub fn convolve(
         origin,
         true,
         out.len(),
-    );
-    if refusal != 0 {
-        return refusal;
-    }
+    )?;
     correlate_cells(data, shape, weights, sides, mode, origin, true, out);
-    numbers::ACCEPTED
+    Ok(())
 }

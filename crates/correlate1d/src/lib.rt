@@ -3,6 +3,7 @@
 #![tactic(auto)]
 
 ghost use Rattle.std.specs.Prelude.{◌≡◌, true, false, map, ◌*ℤ◌, length};
+ghost use Rattle.numbers.specs.Number.{answer_number};
 ghost use Rattle.numbers.specs.Refusal.{refusal_of, Answers};
 ghost use Rattle.border.specs.Modes.{border_of};
 ghost use Rattle.window_spec.specs.Window.{applied_origin};
@@ -13,6 +14,7 @@ ghost use Rattle.correlate_judge_spec.specs.Judge.{correlate_judged};
 ghost use Rattle.correlate1d.specs.Rows.{Correlate1dRows};
 ghost use Rattle.correlate1d.specs.WeighNeeds.{ScaleNeeds, WeighNeeds};
 
+use numbers::Refusal;
 use border::BorderMode;
 use window_spec::Origin;
 
@@ -100,13 +102,13 @@ pub fn correlate1d(
     mode: BorderMode,
     origin: isize,
     out: &mut [i64],
-) -> u8
+) -> Result<(), Refusal>
     ensures { Answers (correlate_judged false (border_of mode) origin weights.now shape.now
         axis «data».now (length out.old))
         (correlate1d_z (border_of mode) origin weights.now shape.now axis «data».now)
-        out.old result out.new }
+        out.old (answer_number result) out.new }
 {
-    let refusal = correlate_judge::judge_correlate(
+    correlate_judge::judge_correlate(
         data,
         shape,
         weights,
@@ -115,12 +117,9 @@ pub fn correlate1d(
         origin,
         false,
         out.len(),
-    );
-    if refusal != 0 {
-        return refusal;
-    }
+    )?;
     correlate_cells(data, shape, weights, axis, mode, origin, false, out);
-    numbers::ACCEPTED
+    Ok(())
 }
 
 // The sums of each window times the weights from the last to the first, along an axis: weight j of len meets the cell
@@ -144,13 +143,13 @@ pub fn convolve1d(
     mode: BorderMode,
     origin: isize,
     out: &mut [i64],
-) -> u8
+) -> Result<(), Refusal>
     ensures { Answers (correlate_judged true (border_of mode) origin weights.now shape.now
         axis «data».now (length out.old))
         (convolve1d_z (border_of mode) origin weights.now shape.now axis «data».now)
-        out.old result out.new }
+        out.old (answer_number result) out.new }
 {
-    let refusal = correlate_judge::judge_correlate(
+    correlate_judge::judge_correlate(
         data,
         shape,
         weights,
@@ -159,12 +158,9 @@ pub fn convolve1d(
         origin,
         true,
         out.len(),
-    );
-    if refusal != 0 {
-        return refusal;
-    }
+    )?;
     correlate_cells(data, shape, weights, axis, mode, origin, true, out);
-    numbers::ACCEPTED
+    Ok(())
 }
 
 // Worked rows of this crate's definitions.

@@ -5,6 +5,7 @@
 ghost use Rattle.std.specs.Prelude.{◌≡◌, true, false, map, length};
 ghost use Rattle.std.specs.Float.{binary64};
 ghost use Rattle.std.specs.Float.Ieee.{mul};
+ghost use Rattle.numbers.specs.Number.{answer_number};
 ghost use Rattle.numbers.specs.Refusal.{refusal_of, Answers};
 ghost use Rattle.border.specs.Modes.{border_of_f64};
 ghost use Rattle.window_spec.specs.Window.{applied_origin};
@@ -14,6 +15,7 @@ ghost use Rattle.correlate_spec.specs.Convolved.{convolve1d_f};
 ghost use Rattle.correlate_judge_spec.specs.Judge.{correlate_judged_f};
 ghost use Rattle.correlate1d.specs.WeighNeeds.{PlaceNeeds};
 
+use numbers::Refusal;
 use border::BorderModeF64;
 use window_spec::Origin;
 
@@ -113,13 +115,13 @@ pub fn correlate1d_f64(
     mode: BorderModeF64,
     origin: isize,
     out: &mut [f64],
-) -> u8
+) -> Result<(), Refusal>
     ensures { Answers (correlate_judged_f false (border_of_f64 mode) origin weights.now
         shape.now axis «data».now (length out.old))
         (correlate1d_f (border_of_f64 mode) origin weights.now shape.now axis «data».now)
-        out.old result out.new }
+        out.old (answer_number result) out.new }
 {
-    let refusal = correlate_judge::judge_correlate_f64(
+    correlate_judge::judge_correlate_f64(
         data,
         shape,
         weights,
@@ -128,12 +130,9 @@ pub fn correlate1d_f64(
         origin,
         false,
         out.len(),
-    );
-    if refusal != 0 {
-        return refusal;
-    }
+    )?;
     correlate_cells(data, shape, weights, axis, mode, origin, false, out);
-    numbers::ACCEPTED
+    Ok(())
 }
 
 // The sums of each window times the weights from the last to the first, along an axis: weight j of len meets the cell
@@ -161,13 +160,13 @@ pub fn convolve1d_f64(
     mode: BorderModeF64,
     origin: isize,
     out: &mut [f64],
-) -> u8
+) -> Result<(), Refusal>
     ensures { Answers (correlate_judged_f true (border_of_f64 mode) origin weights.now
         shape.now axis «data».now (length out.old))
         (convolve1d_f (border_of_f64 mode) origin weights.now shape.now axis «data».now)
-        out.old result out.new }
+        out.old (answer_number result) out.new }
 {
-    let refusal = correlate_judge::judge_correlate_f64(
+    correlate_judge::judge_correlate_f64(
         data,
         shape,
         weights,
@@ -176,10 +175,7 @@ pub fn convolve1d_f64(
         origin,
         true,
         out.len(),
-    );
-    if refusal != 0 {
-        return refusal;
-    }
+    )?;
     correlate_cells(data, shape, weights, axis, mode, origin, true, out);
-    numbers::ACCEPTED
+    Ok(())
 }

@@ -1,10 +1,12 @@
 // The judge of `correlate` and `convolve` with grid kernels: the conditions in rising order, before anything is stored.
 ghost use Rattle.std.specs.Prelude.{◌≡◌, false};
+ghost use Rattle.numbers.specs.Number.{answer_number};
 ghost use Rattle.numbers.specs.Refusal.{refusal_of};
 ghost use Rattle.array_spec.specs.Conditions.{bad_shape};
 ghost use Rattle.border.specs.Modes.{border_of};
 ghost use Rattle.correlate_judge_spec.specs.KernelJudge.{kernel_placed, kernel_judged};
 
+use numbers::Refusal;
 use border::BorderMode;
 
 // Conditions 5, 6, 7, 9 and 11 in rising order, of a kernel on a grid whose shape condition 1 accepts.
@@ -15,28 +17,28 @@ fn judge_placed(
     mode: BorderMode,
     origin: isize,
     convolution: bool,
-) -> u8
+) -> Result<(), Refusal>
     requires { bad_shape shape.now ≡ false }
-    ensures { result ≡ refusal_of (kernel_placed convolution (border_of mode) origin sides.now
+    ensures { answer_number result ≡ refusal_of (kernel_placed convolution (border_of mode) origin sides.now
         weights.now shape.now) }
 {
     if correlate_conditions::bad_kernel(shape, sides, weights.len()) {
-        return numbers::KERNEL;
+        return Err(Refusal::Kernel);
     }
     if correlate_conditions::bad_weights(weights) {
-        return numbers::WEIGHT;
+        return Err(Refusal::Weight);
     }
     let side = array::len_of(sides, 0);
     if window::bad_origin(side, origin) {
-        return numbers::ORIGIN;
+        return Err(Refusal::Origin);
     }
     if border::bad_constant(mode) {
-        return numbers::CONSTANT;
+        return Err(Refusal::Constant);
     }
     if window::bad_kernel_reach(mode, shape, side, origin, convolution) {
-        return numbers::REACH;
+        return Err(Refusal::Reach);
     }
-    numbers::ACCEPTED
+    Ok(())
 }
 
 // The number of a call with a grid kernel, which fills its output where that is 0.
@@ -61,13 +63,10 @@ pub fn judge_kernel(
     origin: isize,
     convolution: bool,
     out: usize,
-) -> u8
-    ensures { result ≡ refusal_of (kernel_judged convolution (border_of mode) origin sides.now
+) -> Result<(), Refusal>
+    ensures { answer_number result ≡ refusal_of (kernel_judged convolution (border_of mode) origin sides.now
         weights.now shape.now «data».now out) }
 {
-    let refusal = array::judge_grid(data, shape, &[out]);
-    if refusal != 0 {
-        return refusal;
-    }
+    array::judge_grid(data, shape, &[out])?;
     judge_placed(shape, weights, sides, mode, origin, convolution)
 }

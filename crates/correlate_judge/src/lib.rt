@@ -3,6 +3,7 @@
 #![tactic(auto)]
 
 ghost use Rattle.std.specs.Prelude.{◌≡◌, not, ◌&&◌, [], ◌∷◌, eqb};
+ghost use Rattle.numbers.specs.Number.{answer_number};
 ghost use Rattle.numbers.specs.Refusal.{refusal_of};
 ghost use Rattle.array_spec.specs.Conditions.{bad_axis};
 ghost use Rattle.array_spec.specs.Grid.{length_of};
@@ -10,6 +11,7 @@ ghost use Rattle.border.specs.Modes.{border_of, border_of_f64};
 ghost use Rattle.window_spec.specs.Window.{bad_size, bad_window_origin, bad_reach, applied_origin};
 ghost use Rattle.correlate_judge_spec.specs.Judge.{correlate_judged, correlate_judged_f};
 
+use numbers::Refusal;
 use border::{BorderMode, BorderModeF64};
 
 mod kernel;
@@ -27,32 +29,32 @@ fn judge_weighing(
     constant_bad: bool,
     origin: isize,
     convolution: bool,
-) -> u8
-    ensures { result ≡ refusal_of ((bad_size len, 5) ∷ (weights_bad, 6) ∷ (bad_window_origin len origin, 7) ∷
+) -> Result<(), Refusal>
+    ensures { answer_number result ≡ refusal_of ((bad_size len, 5) ∷ (weights_bad, 6) ∷ (bad_window_origin len origin, 7) ∷
         (bad_axis shape.now axis, 8) ∷ (constant_bad, 9) ∷
         (bad_reach (border_of mode) len (applied_origin convolution len origin) (length_of shape.now axis), 11) ∷
         []) }
 {
     if window::bad_size(len) {
-        return numbers::KERNEL;
+        return Err(Refusal::Kernel);
     }
     if weights_bad {
-        return numbers::WEIGHT;
+        return Err(Refusal::Weight);
     }
     if window::bad_window_origin(len, origin) {
-        return numbers::ORIGIN;
+        return Err(Refusal::Origin);
     }
     if array::bad_axis(shape, axis) {
-        return numbers::AXIS;
+        return Err(Refusal::Axis);
     }
     if constant_bad {
-        return numbers::CONSTANT;
+        return Err(Refusal::Constant);
     }
     let n = array::len_of(shape, axis);
     if window::bad_applied_reach(mode, n, len, origin, convolution) {
-        return numbers::REACH;
+        return Err(Refusal::Reach);
     }
-    numbers::ACCEPTED
+    Ok(())
 }
 
 // The number of a call on whole levels, which fills its output where that is 0.
@@ -77,14 +79,11 @@ pub fn judge_correlate(
     origin: isize,
     convolution: bool,
     out: usize,
-) -> u8
-    ensures { result ≡ refusal_of (correlate_judged convolution (border_of mode) origin weights.now
+) -> Result<(), Refusal>
+    ensures { answer_number result ≡ refusal_of (correlate_judged convolution (border_of mode) origin weights.now
         shape.now axis «data».now out) }
 {
-    let refusal = array::judge_grid(data, shape, &[out]);
-    if refusal != 0 {
-        return refusal;
-    }
+    array::judge_grid(data, shape, &[out])?;
     let weights_bad = bad_weights(weights);
     let constant_bad = border::bad_constant(mode);
     judge_weighing(
@@ -110,14 +109,11 @@ pub fn judge_correlate_f64(
     origin: isize,
     convolution: bool,
     out: usize,
-) -> u8
-    ensures { result ≡ refusal_of (correlate_judged_f convolution (border_of_f64 mode) origin weights.now
+) -> Result<(), Refusal>
+    ensures { answer_number result ≡ refusal_of (correlate_judged_f convolution (border_of_f64 mode) origin weights.now
         shape.now axis «data».now out) }
 {
-    let refusal = array::judge_grid_f64(data, shape, &[out]);
-    if refusal != 0 {
-        return refusal;
-    }
+    array::judge_grid_f64(data, shape, &[out])?;
     let weights_bad = array::bad_levels_f64(weights);
     let constant_bad = border::bad_constant_f64(mode);
     judge_weighing(

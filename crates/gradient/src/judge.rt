@@ -1,25 +1,27 @@
 // The judge of `prewitt` and `sobel`: the conditions in rising order, before anything is stored.
 ghost use Rattle.std.specs.Prelude.{◌≡◌};
+ghost use Rattle.numbers.specs.Number.{answer_number};
 ghost use Rattle.numbers.specs.Refusal.{refusal_of};
 ghost use Rattle.border.specs.Axes.{borders_of};
 ghost use Rattle.gradient_spec.specs.Judge.{passes_judged, GradientNumber};
 
+use numbers::Refusal;
 use border::BorderMode;
 
 // Conditions 8, 9 and 11 of the passes, in rising order.
-fn judge_passes(shape: &[usize], axis: usize, modes: [BorderMode; 3]) -> u8
-    ensures { result ≡ refusal_of (passes_judged (borders_of modes) shape.now axis) }
+fn judge_passes(shape: &[usize], axis: usize, modes: [BorderMode; 3]) -> Result<(), Refusal>
+    ensures { answer_number result ≡ refusal_of (passes_judged (borders_of modes) shape.now axis) }
 {
     if array::bad_axis(shape, axis) {
-        return numbers::AXIS;
+        return Err(Refusal::Axis);
     }
     if border::bad_constant_any(modes, shape) {
-        return numbers::CONSTANT;
+        return Err(Refusal::Constant);
     }
     if window::bad_reach_any(modes, shape, 3, 0) {
-        return numbers::REACH;
+        return Err(Refusal::Reach);
     }
-    numbers::ACCEPTED
+    Ok(())
 }
 
 // The number of a `prewitt` or `sobel` call, which fills its output where that is 0.
@@ -39,12 +41,9 @@ pub fn judge_gradient(
     modes: [BorderMode; 3],
     out: usize,
     second: usize,
-) -> u8
-    ensures { GradientNumber (borders_of modes) shape.now axis «data».now out second result }
+) -> Result<(), Refusal>
+    ensures { GradientNumber (borders_of modes) shape.now axis «data».now out second (answer_number result) }
 {
-    let refusal = array::judge_grid(data, shape, &[out, second]);
-    if refusal != 0 {
-        return refusal;
-    }
+    array::judge_grid(data, shape, &[out, second])?;
     judge_passes(shape, axis, modes)
 }

@@ -3,11 +3,13 @@
 #![tactic(auto)]
 
 ghost use Rattle.std.specs.Prelude.{[], ◌∷◌, pos, length};
+ghost use Rattle.numbers.specs.Number.{answer_number};
 ghost use Rattle.numbers.specs.Refusal.{ScratchAnswers};
 ghost use Rattle.border.specs.Axes.{borders_of};
 ghost use Rattle.gradient_spec.specs.Gradient.{prewitt_weights, sobel_weights, gradient};
 ghost use Rattle.gradient_spec.specs.Judge.{ThreeSmall, gradient_judged};
 
+use numbers::Refusal;
 use border::BorderMode;
 
 mod judge;
@@ -25,20 +27,17 @@ fn filter(
     modes: [BorderMode; 3],
     second: &mut [i64],
     out: &mut [i64],
-) -> u8
+) -> Result<(), Refusal>
     requires { ThreeSmall smooth.now }
     ensures { ScratchAnswers (pos 0) (gradient_judged smooth.now (borders_of modes) shape.now
         axis «data».now (length out.old) (length second.old))
         (gradient smooth.now (borders_of modes) shape.now axis «data».now)
-        out.old (second.old ∷ []) result out.new (second.new ∷ []) }
+        out.old (second.old ∷ []) (answer_number result) out.new (second.new ∷ []) }
 {
-    let refusal = judge::judge_gradient(data, shape, axis, modes, out.len(), second.len());
-    if refusal != 0 {
-        return refusal;
-    }
+    judge::judge_gradient(data, shape, axis, modes, out.len(), second.len())?;
     passes::passes(smooth, data, shape, axis, modes, second, out);
     array::fill(second, 0);
-    numbers::ACCEPTED
+    Ok(())
 }
 
 // The differences of the neighbours along an axis, by the weights -1 0 1, smoothed along every other axis by 1 1 1, in
@@ -61,11 +60,11 @@ pub fn prewitt(
     modes: [BorderMode; 3],
     second: &mut [i64],
     out: &mut [i64],
-) -> u8
+) -> Result<(), Refusal>
     ensures { ScratchAnswers (pos 0) (gradient_judged prewitt_weights (borders_of modes) shape.now axis
         «data».now (length out.old) (length second.old))
         (gradient prewitt_weights (borders_of modes) shape.now axis «data».now) out.old
-        (second.old ∷ []) result out.new (second.new ∷ []) }
+        (second.old ∷ []) (answer_number result) out.new (second.new ∷ []) }
 {
     filter(&[1, 1, 1], data, shape, axis, modes, second, out)
 }
@@ -79,11 +78,11 @@ pub fn sobel(
     modes: [BorderMode; 3],
     second: &mut [i64],
     out: &mut [i64],
-) -> u8
+) -> Result<(), Refusal>
     ensures { ScratchAnswers (pos 0) (gradient_judged sobel_weights (borders_of modes) shape.now axis
         «data».now (length out.old) (length second.old))
         (gradient sobel_weights (borders_of modes) shape.now axis «data».now) out.old
-        (second.old ∷ []) result out.new (second.new ∷ []) }
+        (second.old ∷ []) (answer_number result) out.new (second.new ∷ []) }
 {
     filter(&[1, 2, 1], data, shape, axis, modes, second, out)
 }

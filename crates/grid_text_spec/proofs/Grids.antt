@@ -15,7 +15,7 @@ use Rattle.numbers.specs.Limits.{longest_axis, most_cells}
 use Rattle.numbers.specs.Lists.{any_of, Every}
 use Rattle.numbers.specs.Refusal.{refusal_of}
 use Rattle.numbers.proofs.Any.{any_none, every_take, every_drop}
-use Rattle.numbers.proofs.Refusal.{judged-all}
+use Rattle.numbers.proofs.Chain.{judged-all}
 use Rattle.numbers.proofs.Tests.{or_false}
 use Rattle.text_spec.specs.Reading.{digit_of, no_digit, value_of}
 use Rattle.array_spec.specs.Grid.{cell_count}

@@ -12,7 +12,7 @@ use Rattle.numbers.specs.Limits.{longest_axis, most_cells}
 use Rattle.numbers.specs.Lists.{any_of}
 use Rattle.numbers.specs.Ranges.{outside}
 use Rattle.numbers.specs.Refusal.{refusal_of}
-use Rattle.numbers.proofs.Refusal.{judged-all}
+use Rattle.numbers.proofs.Chain.{judged-all}
 use Rattle.numbers.proofs.Tests.{or_false, or_no}
 use Rattle.array_spec.specs.Conditions.{bad_shape}
 use Rattle.array_spec.specs.Grid.{cell_count}

@@ -12,7 +12,7 @@ use lib.ListN.{length}
 use Rattle.numbers.specs.Lists.{Every}
 use Rattle.numbers.specs.Refusal.{refusal_of}
 use Rattle.numbers.proofs.Any.{any_none}
-use Rattle.numbers.proofs.Refusal.{judged-all}
+use Rattle.numbers.proofs.Chain.{judged-all}
 use Rattle.numbers.proofs.Tests.{or_false}
 use Rattle.array_spec.specs.Conditions.{bad_shape}
 use Rattle.array_spec.specs.Grid.{cell_count, length_of}

@@ -2,9 +2,12 @@
 #![tactic(auto)]
 
 ghost use Rattle.std.specs.Prelude.{◌≡◌, length};
+ghost use Rattle.numbers.specs.Number.{answer_number};
 ghost use Rattle.numbers.specs.Refusal.{refusal_of, Answers};
 ghost use Rattle.median_spec.specs.Around.{median_answer};
 ghost use Rattle.median_spec.specs.Judge.{bad_axes, bad_single, median_judged};
+
+use numbers::Refusal;
 
 // Condition 1: what condition 1 refuses of every grid, or not three axes. 2 2 2 passes, 2 2 does not.
 pub fn bad_axes(shape: &[usize]) -> bool
@@ -34,19 +37,19 @@ pub fn bad_single(shape: &[usize]) -> bool
 // first that holds, or 0.
 //
 // Refuses: 1 (shape), 2 (length), 4 (single cell). Of 2 1 2 a mask of 5 cells gives 2, of 4 cells 4.
-pub fn judge_median(shape: &[usize], len: usize, out: usize) -> u8
-    ensures { result ≡ refusal_of (median_judged shape.now len out) }
+pub fn judge_median(shape: &[usize], len: usize, out: usize) -> Result<(), Refusal>
+    ensures { answer_number result ≡ refusal_of (median_judged shape.now len out) }
 {
     if bad_axes(shape) {
-        return numbers::SHAPE;
+        return Err(Refusal::Shape);
     }
     if array::bad_lengths(shape, &[len, out]) {
-        return numbers::LENGTH;
+        return Err(Refusal::Length);
     }
     if bad_single(shape) {
-        return numbers::SINGLE_CELL;
+        return Err(Refusal::SingleCell);
     }
-    numbers::ACCEPTED
+    Ok(())
 }
 
 // Fills out with the answer of an accepted call.
@@ -69,15 +72,12 @@ fn median_cells(mask: &[bool], shape: &[usize], out: &mut [bool])
 //
 // Refuses: 1 (shape), 2 (length), 4 (single cell). Of 2 by 2 by 2 cells of which four are true every cell is true, and
 // where three are, none.
-pub fn median_filter(mask: &[bool], shape: &[usize], out: &mut [bool]) -> u8
+pub fn median_filter(mask: &[bool], shape: &[usize], out: &mut [bool]) -> Result<(), Refusal>
     ensures { Answers (median_judged shape.now (length mask.now)
-        (length out.old)) (median_answer shape.now mask.now) out.old result
+        (length out.old)) (median_answer shape.now mask.now) out.old (answer_number result)
         out.new }
 {
-    let refusal = judge_median(shape, mask.len(), out.len());
-    if refusal != 0 {
-        return refusal;
-    }
+    judge_median(shape, mask.len(), out.len())?;
     median_cells(mask, shape, out);
-    numbers::ACCEPTED
+    Ok(())
 }

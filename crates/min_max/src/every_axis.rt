@@ -3,11 +3,13 @@
 ghost use Rattle.std.specs.Prelude.{◌≡◌, [], ◌∷◌, pos, length};
 ghost use Rattle.std.specs.Int.Signed.{le_z};
 ghost use Rattle.numbers.specs.Order.{at_least};
+ghost use Rattle.numbers.specs.Number.{answer_number};
 ghost use Rattle.numbers.specs.Refusal.{refusal_of, ScratchAnswers};
 ghost use Rattle.min_max_judge.specs.Judge.{grid_call_of, filter_judged};
 ghost use Rattle.min_max_axis.specs.Lane.{order_of};
 ghost use Rattle.min_max_spec.specs.Filters.{filter_answer};
 
+use numbers::Refusal;
 use border::BorderMode;
 use min_max_axis::Extreme;
 
@@ -54,20 +56,17 @@ fn filter(
     origin: isize,
     second: &mut [i64],
     out: &mut [i64],
-) -> u8
+) -> Result<(), Refusal>
     ensures { ScratchAnswers (pos 0) (filter_judged «data».now
         (grid_call_of shape.now size modes origin out.old) (length second.old))
         (filter_answer (order_of extreme) (grid_call_of shape.now size modes origin out.old)
-        «data».now) out.old (second.old ∷ []) result out.new
+        «data».now) out.old (second.old ∷ []) (answer_number result) out.new
         (second.new ∷ []) }
 {
-    let refusal = min_max_judge::judge_filter(data, shape, size, modes, origin, out, second.len());
-    if refusal != 0 {
-        return refusal;
-    }
+    min_max_judge::judge_filter(data, shape, size, modes, origin, out, second.len())?;
     passes(extreme, data, shape, size, modes, origin, second, out);
     array::fill(second, 0);
-    numbers::ACCEPTED
+    Ok(())
 }
 
 // Fills each cell of out with the least level of its box: the minimum along every axis, in rising order; SciPy's
@@ -92,11 +91,11 @@ pub fn minimum_filter(
     origin: isize,
     second: &mut [i64],
     out: &mut [i64],
-) -> u8
+) -> Result<(), Refusal>
     ensures { ScratchAnswers (pos 0) (filter_judged «data».now
         (grid_call_of shape.now size modes origin out.old) (length second.old))
         (filter_answer le_z (grid_call_of shape.now size modes origin out.old) «data».now)
-        out.old (second.old ∷ []) result out.new (second.new ∷ []) }
+        out.old (second.old ∷ []) (answer_number result) out.new (second.new ∷ []) }
 {
     filter(
         Extreme::Least,
@@ -121,11 +120,11 @@ pub fn maximum_filter(
     origin: isize,
     second: &mut [i64],
     out: &mut [i64],
-) -> u8
+) -> Result<(), Refusal>
     ensures { ScratchAnswers (pos 0) (filter_judged «data».now
         (grid_call_of shape.now size modes origin out.old) (length second.old))
         (filter_answer at_least (grid_call_of shape.now size modes origin out.old)
-        «data».now) out.old (second.old ∷ []) result out.new
+        «data».now) out.old (second.old ∷ []) (answer_number result) out.new
         (second.new ∷ []) }
 {
     filter(

@@ -1,12 +1,14 @@
 // The one-axis forms: the call is judged, and every lane of its axis is swept.
 ghost use Rattle.std.specs.Int.Signed.{le_z};
 ghost use Rattle.numbers.specs.Order.{at_least};
+ghost use Rattle.numbers.specs.Number.{answer_number};
 ghost use Rattle.numbers.specs.Refusal.{Answers};
 ghost use Rattle.min_max_spec.specs.Call.{call_judged};
 ghost use Rattle.min_max_spec.specs.Run.{answer_of};
 ghost use Rattle.min_max_judge.specs.Judge.{call_of};
 ghost use Rattle.min_max_axis.specs.Lane.{order_of};
 
+use numbers::Refusal;
 use border::BorderMode;
 use min_max_axis::Extreme;
 
@@ -20,19 +22,16 @@ fn filter1d(
     mode: BorderMode,
     origin: isize,
     out: &mut [i64],
-) -> u8
+) -> Result<(), Refusal>
     ensures { Answers (call_judged «data».now
         (call_of shape.now size axis mode origin out.old))
         (answer_of (order_of extreme) «data».now
-        (call_of shape.now size axis mode origin out.old)) out.old result
+        (call_of shape.now size axis mode origin out.old)) out.old (answer_number result)
         out.new }
 {
-    let refusal = min_max_judge::judge_call(data, shape, size, axis, mode, origin, out);
-    if refusal != 0 {
-        return refusal;
-    }
+    min_max_judge::judge_call(data, shape, size, axis, mode, origin, out)?;
     min_max_axis::pass(extreme, data, shape, size, axis, mode, origin, out);
-    numbers::ACCEPTED
+    Ok(())
 }
 
 // Fills each cell of out with the least level of its window along one axis; SciPy's minimum_filter1d.
@@ -55,11 +54,11 @@ pub fn minimum_filter1d(
     mode: BorderMode,
     origin: isize,
     out: &mut [i64],
-) -> u8
+) -> Result<(), Refusal>
     ensures { Answers (call_judged «data».now
         (call_of shape.now size axis mode origin out.old))
         (answer_of le_z «data».now (call_of shape.now size axis mode origin out.old))
-        out.old result out.new }
+        out.old (answer_number result) out.new }
 {
     filter1d(Extreme::Least, data, shape, size, axis, mode, origin, out)
 }
@@ -74,11 +73,11 @@ pub fn maximum_filter1d(
     mode: BorderMode,
     origin: isize,
     out: &mut [i64],
-) -> u8
+) -> Result<(), Refusal>
     ensures { Answers (call_judged «data».now
         (call_of shape.now size axis mode origin out.old))
         (answer_of at_least «data».now (call_of shape.now size axis mode origin out.old))
-        out.old result out.new }
+        out.old (answer_number result) out.new }
 {
     filter1d(
         Extreme::Greatest,

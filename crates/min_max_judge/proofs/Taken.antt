@@ -11,7 +11,7 @@ use lib.IntN.{ℤ, pos, nat_abs, ◌+ℤ◌, ◌-ℤ◌}
 use lib.ListN.{drop}
 use Rattle.numbers.specs.Ranges.{outside}
 use Rattle.numbers.specs.Refusal.{Judged, refusal_of}
-use Rattle.numbers.proofs.Refusal.{judged-all, chain_stops}
+use Rattle.numbers.proofs.Chain.{judged-all, chain_stops}
 use Rattle.numbers.proofs.Tests.{condition_is}
 use Rattle.border.specs.Border.{Border}
 use Rattle.window_spec.specs.Origin.{bad_origin, origin_pads}

@@ -2,24 +2,26 @@
 #![tactic(auto)]
 
 ghost use Rattle.std.specs.Prelude.{◌≡◌, []};
+ghost use Rattle.numbers.specs.Number.{answer_number};
 ghost use Rattle.numbers.specs.Refusal.{refusal_of};
 ghost use Rattle.min_max_spec.specs.Call.{window_judged, call_judged};
 ghost use Rattle.min_max_judge.specs.Judge.{call_of, grid_call_of, size_judged, filter_axes_judged, filter_judged};
 ghost use Rattle.min_max_judge.specs.Rows.{MinMaxJudgeRows};
 
+use numbers::Refusal;
 use border::BorderMode;
 
 // Conditions 5 and 7, which every window has.
-fn judge_size(size: usize, origin: isize) -> u8
-    ensures { result ≡ refusal_of (size_judged size origin) }
+fn judge_size(size: usize, origin: isize) -> Result<(), Refusal>
+    ensures { answer_number result ≡ refusal_of (size_judged size origin) }
 {
     if window::bad_size(size) {
-        return numbers::KERNEL;
+        return Err(Refusal::Kernel);
     }
     if window::bad_window_origin(size, origin) {
-        return numbers::ORIGIN;
+        return Err(Refusal::Origin);
     }
-    numbers::ACCEPTED
+    Ok(())
 }
 
 // Conditions 5, 7, 8, 9 and 11 of a window along one axis, in rising order: the number of the first that holds, or 0.
@@ -35,24 +37,21 @@ pub fn judge_window(
     axis: usize,
     mode: BorderMode,
     origin: isize,
-) -> u8
-    ensures { result ≡ refusal_of (window_judged (call_of shape.now size axis mode origin [])) }
+) -> Result<(), Refusal>
+    ensures { answer_number result ≡ refusal_of (window_judged (call_of shape.now size axis mode origin [])) }
 {
-    let refusal = judge_size(size, origin);
-    if refusal != 0 {
-        return refusal;
-    }
+    judge_size(size, origin)?;
     if array::bad_axis(shape, axis) {
-        return numbers::AXIS;
+        return Err(Refusal::Axis);
     }
     if border::bad_constant(mode) {
-        return numbers::CONSTANT;
+        return Err(Refusal::Constant);
     }
     let n = array::len_of(shape, axis);
     if window::bad_reach(mode, n, size, origin) {
-        return numbers::REACH;
+        return Err(Refusal::Reach);
     }
-    numbers::ACCEPTED
+    Ok(())
 }
 
 // The number of a one-axis call, which fills out where that is 0.
@@ -75,32 +74,26 @@ pub fn judge_call(
     mode: BorderMode,
     origin: isize,
     out: &[i64],
-) -> u8
-    ensures { result ≡ refusal_of (call_judged «data».now
+) -> Result<(), Refusal>
+    ensures { answer_number result ≡ refusal_of (call_judged «data».now
         (call_of shape.now size axis mode origin out.now)) }
 {
-    let refusal = array::judge_grid(data, shape, &[out.len()]);
-    if refusal != 0 {
-        return refusal;
-    }
+    array::judge_grid(data, shape, &[out.len()])?;
     judge_window(shape, size, axis, mode, origin)
 }
 
 // Conditions 5, 7, 9 and 11 of a window along every axis, each with its own border.
-fn judge_axes(shape: &[usize], size: usize, modes: [BorderMode; 3], origin: isize) -> u8
-    ensures { result ≡ refusal_of (filter_axes_judged (grid_call_of shape.now size modes origin [])) }
+fn judge_axes(shape: &[usize], size: usize, modes: [BorderMode; 3], origin: isize) -> Result<(), Refusal>
+    ensures { answer_number result ≡ refusal_of (filter_axes_judged (grid_call_of shape.now size modes origin [])) }
 {
-    let refusal = judge_size(size, origin);
-    if refusal != 0 {
-        return refusal;
-    }
+    judge_size(size, origin)?;
     if border::bad_constant_any(modes, shape) {
-        return numbers::CONSTANT;
+        return Err(Refusal::Constant);
     }
     if window::bad_reach_any(modes, shape, size, origin) {
-        return numbers::REACH;
+        return Err(Refusal::Reach);
     }
-    numbers::ACCEPTED
+    Ok(())
 }
 
 // The number of a grid call, which sweeps every axis and fills out where that is 0.
@@ -122,14 +115,11 @@ pub fn judge_filter(
     origin: isize,
     out: &[i64],
     second: usize,
-) -> u8
-    ensures { result ≡ refusal_of (filter_judged «data».now
+) -> Result<(), Refusal>
+    ensures { answer_number result ≡ refusal_of (filter_judged «data».now
         (grid_call_of shape.now size modes origin out.now) second) }
 {
-    let refusal = array::judge_grid(data, shape, &[out.len(), second]);
-    if refusal != 0 {
-        return refusal;
-    }
+    array::judge_grid(data, shape, &[out.len(), second])?;
     judge_axes(shape, size, modes, origin)
 }
 

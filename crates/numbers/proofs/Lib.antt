@@ -1,6 +1,7 @@
 -- Laws that belong to no one function, leaves first.
 pub mod Tests
-pub mod Refusal
+pub mod Chain
+pub mod Number
 pub mod Any
 pub mod IntOrder
 pub mod IntSum

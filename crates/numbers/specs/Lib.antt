@@ -7,3 +7,4 @@ pub mod Refusal
 pub mod Sums
 pub mod Windows
 pub mod Rows
+pub mod Number

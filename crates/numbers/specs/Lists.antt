@@ -3,7 +3,8 @@
 --   up_from z n       z, z + 1, .., n of them, whole numbers of either sign
 --   Every P l        P of every member of l
 --   any_of t l        whether a member of l passes the test t
-use Rattle.std.specs.Prelude.{ℕ, zero, suc, Bool, false, ◌||◌, List, [], ◌∷◌, ℤ}
+use Rattle.std.specs.Prelude.{ℕ, zero, suc, Bool, List, [], ◌∷◌, ℤ}
+use Rattle.std.specs.List.{list_any}
 use Rattle.std.proofs.Math.IntN.{suc_ℤ}
 
 unfoldable pub tabulate : {A : Type 0} → (ℕ → A) → ℕ → ℕ → List A
@@ -19,5 +20,4 @@ Every P [] = Unit {0}
 Every P (x ∷ xs) = P x × Every P xs
 
 abbrev pub any_of : {A : Type 0} → (A → Bool) → List A → Bool
-any_of t [] = false
-any_of t (x ∷ xs) = t x || any_of t xs
+any_of = list_any

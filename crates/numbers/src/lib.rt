@@ -3,50 +3,66 @@
 #![tactic(auto)]
 
 ghost use Rattle.std.specs.Prelude.{◌≡◌, nat_abs};
+ghost use Rattle.numbers.specs.Number.{answer_number};
 ghost use Rattle.numbers.specs.Rows.{NumbersRows};
 
-// No refusal: the call filled its output.
-pub const ACCEPTED: u8 = 0;
+// Why a call is refused. Its number is the papers'.
+#[derive(Clone, Copy, Debug, PartialEq, Eq, Drop)]
+pub enum Refusal {
+    // Caused by whoever owns the grid.
+    // Not 1 to 3 axes (median: not 3), a length outside 1..1,024, or over 8,192 cells.
+    Shape = 1,
+    // A lent grid whose length is not the cell count.
+    Length = 2,
+    // An input level outside -(2^31 - 1)..2^31 - 1, or a float one that is not finite.
+    Level = 3,
+    // Median: an axis of one cell.
+    SingleCell = 4,
 
-// Caused by whoever owns the grid.
-// Not 1 to 3 axes (median: not 3), a length outside 1..1,024, or over 8,192 cells.
-pub const SHAPE: u8 = 1;
-// A lent grid whose length is not the cell count.
-pub const LENGTH: u8 = 2;
-// An input level outside -(2^31 - 1)..2^31 - 1, or a float one that is not finite.
-pub const LEVEL: u8 = 3;
-// Median: an axis of one cell.
-pub const SINGLE_CELL: u8 = 4;
+    // Caused by the kernel's author.
+    // Weights or a window length outside 1..65; of a grid kernel its sides, axes or weight count.
+    Kernel = 5,
+    // A weight outside -65,535..65,535, or a float one that is not finite.
+    Weight = 6,
+    // An origin that the window does not allow.
+    Origin = 7,
 
-// Caused by the kernel's author.
-// Weights or a window length outside 1..65; of a grid kernel its sides, axes or weight count.
-pub const KERNEL: u8 = 5;
-// A weight outside -65,535..65,535, or a float one that is not finite.
-pub const WEIGHT: u8 = 6;
-// An origin that the window does not allow.
-pub const ORIGIN: u8 = 7;
+    // Caused by the operator.
+    // An axis number not below the axis count.
+    Axis = 8,
+    // A constant that Level would refuse.
+    Constant = 9,
+    // Pads: their count, a pad over 64, over 32,768 padded cells, or an output of another length.
+    Pads = 10,
+    // A pad that reaches past what the border can fill.
+    Reach = 11,
 
-// Caused by the operator.
-// An axis number not below the axis count.
-pub const AXIS: u8 = 8;
-// A constant that LEVEL would refuse.
-pub const CONSTANT: u8 = 9;
-// Pads: their count, a pad over 64, over 32,768 padded cells, or an output of another length.
-pub const PADS: u8 = 10;
-// A pad that reaches past what the border can fill.
-pub const REACH: u8 = 11;
+    // Caused by the arithmetic.
+    // A whole-number sum outside signed 64 bits.
+    Sum = 12,
 
-// Caused by the arithmetic.
-// A whole-number sum outside signed 64 bits.
-pub const SUM: u8 = 12;
+    // Caused by the file of a recipe.
+    // Under 6 bytes, or another mark or version.
+    Mark = 13,
+    // A count outside 1..16, or bytes of another length than the count asks for.
+    Count = 14,
+    // A kind, border, constant or origin that no step has.
+    Step = 15,
 
-// Caused by the file of a recipe.
-// Under 6 bytes, or another mark or version.
-pub const MARK: u8 = 13;
-// A count outside 1..16, or bytes of another length than the count asks for.
-pub const COUNT: u8 = 14;
-// A kind, border, constant or origin that no step has.
-pub const STEP: u8 = 15;
+    // Caused by the caller of an entry point, and judged last.
+    // A code that names nothing, or a number that its field cannot hold.
+    Unknown = 100,
+}
+
+// The number of what a call answers: 0 where it was accepted.
+pub fn answer_number(answer: Result<(), Refusal>) -> u8
+    ensures { result ≡ answer_number answer }
+{
+    match answer {
+        Ok(()) => 0,
+        Err(refusal) => refusal as u8,
+    }
+}
 
 // The limits of document 01.
 // Cells on an axis, and of a grid.

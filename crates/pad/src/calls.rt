@@ -1,6 +1,7 @@
 // The two calls: a judge that only returns a number, then the grid laid in the output.
 ghost use Rattle.std.specs.Prelude.{◌≡◌, false, cond, length};
 ghost use Rattle.numbers.specs.Lists.{any_of};
+ghost use Rattle.numbers.specs.Number.{answer_number};
 ghost use Rattle.numbers.specs.Refusal.{refusal_of, Answers};
 ghost use Rattle.array_spec.specs.Conditions.{bad_level};
 ghost use Rattle.array_spec.specs.Grid.{cell_count};
@@ -13,6 +14,7 @@ ghost use Rattle.pad_spec.specs.Frame.{Framed, Filling, middle_set};
 ghost use Rattle.pad_middle.specs.Around.{around_set};
 ghost use Rattle.pad.specs.Laid.{laid};
 
+use numbers::Refusal;
 use border::{CellBorder, PadMode};
 use pad_middle::copy_middle;
 use pad_spec::{Filler, Pair, Statistic};
@@ -180,18 +182,15 @@ pub fn pad_to(
     count: usize,
     mode: PadMode,
     out: &mut [i64],
-) -> u8
+) -> Result<(), Refusal>
     ensures { Answers (pad_judged mode shape.now pads count «data».now
         (length out.old)) (padded_over mode shape.now (lefts_of shape.now pads count)
-        (rights_of shape.now pads count) «data».now out.old) out.old result
+        (rights_of shape.now pads count) «data».now out.old) out.old (answer_number result)
         out.new }
 {
-    let refusal = pad_judge::judge(data, shape, pads, count, mode, out.len());
-    if refusal != 0 {
-        return refusal;
-    }
+    pad_judge::judge(data, shape, pads, count, mode, out.len())?;
     lay(data, shape, pads, count, mode, false, out);
-    numbers::ACCEPTED
+    Ok(())
 }
 
 // Pads a grid into a lent output as `pad_to` does, and under Constant fills the rim with the constant: nothing lent
@@ -212,15 +211,12 @@ pub fn pad(
     count: usize,
     mode: PadMode,
     out: &mut [i64],
-) -> u8
+) -> Result<(), Refusal>
     ensures { Answers (pad_judged mode shape.now pads count «data».now
         (length out.old)) (padded_grid mode shape.now (lefts_of shape.now pads count)
-        (rights_of shape.now pads count) «data».now) out.old result out.new }
+        (rights_of shape.now pads count) «data».now) out.old (answer_number result) out.new }
 {
-    let refusal = pad_judge::judge(data, shape, pads, count, mode, out.len());
-    if refusal != 0 {
-        return refusal;
-    }
+    pad_judge::judge(data, shape, pads, count, mode, out.len())?;
     lay(data, shape, pads, count, mode, true, out);
-    numbers::ACCEPTED
+    Ok(())
 }

@@ -3,9 +3,11 @@
 #![tactic(auto)]
 
 ghost use Rattle.std.specs.Prelude.{◌≡◌};
+ghost use Rattle.numbers.specs.Number.{answer_number};
 ghost use Rattle.numbers.specs.Refusal.{refusal_of};
 ghost use Rattle.pad_spec.specs.Conditions.{bad_constant, bad_pad_reach_on, bad_pad_reach, pad_judged};
 
+use numbers::Refusal;
 use pad_spec::{Filler, Pair, pair_of};
 
 // Condition 9: whether mode carries a level that condition 3 would refuse.
@@ -69,21 +71,18 @@ pub fn judge(
     count: usize,
     mode: border::PadMode,
     out: usize,
-) -> u8
-    ensures { result ≡ refusal_of (pad_judged mode shape.now pads count «data».now out) }
+) -> Result<(), Refusal>
+    ensures { answer_number result ≡ refusal_of (pad_judged mode shape.now pads count «data».now out) }
 {
-    let refusal = array::judge_grid(data, shape, &[]);
-    if refusal != 0 {
-        return refusal;
-    }
+    array::judge_grid(data, shape, &[])?;
     if bad_constant(mode) {
-        return numbers::CONSTANT;
+        return Err(Refusal::Constant);
     }
     if pad_count::bad_pads(shape, pads, count, out) {
-        return numbers::PADS;
+        return Err(Refusal::Pads);
     }
     if bad_reach(mode, shape, pads, count) {
-        return numbers::REACH;
+        return Err(Refusal::Reach);
     }
-    numbers::ACCEPTED
+    Ok(())
 }

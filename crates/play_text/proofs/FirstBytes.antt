@@ -10,7 +10,7 @@ use lib.Dec.{eqb, ltb}
 use lib.ListN.{length, get_or, take}
 use lib.Seq.{take_all, get_or-take, length-take-le}
 use Rattle.numbers.specs.Refusal.{refusal_of}
-use Rattle.numbers.proofs.Refusal.{judged-append}
+use Rattle.numbers.proofs.Chain.{judged-append}
 use Rattle.recipe_spec.specs.declared.Recipe.{Recipe}
 use Rattle.recipe_spec.specs.Recipes.{bad_mark, bad_step_count, file_judged, read_of}
 use Rattle.recipe_spec.specs.Player.{played, recipe_steps}

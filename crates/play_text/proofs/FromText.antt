@@ -11,7 +11,7 @@ use lib.ListN.{length, get_or, take, drop, replicate, take-append-drop, length-r
 use Rattle.numbers.specs.Limits.{most_cells}
 use Rattle.numbers.specs.Lists.{any_of}
 use Rattle.numbers.specs.Refusal.{Judged, refusal_of, left_in, ScratchAnswers}
-use Rattle.numbers.proofs.Refusal.{chain_stops, chain_goes, answers_refused}
+use Rattle.numbers.proofs.Chain.{chain_stops, chain_goes, answers_refused}
 use Rattle.array_spec.specs.Conditions.{bad_shape, grid_count, bad_length, bad_level, grid_judged}
 use Rattle.array_spec.specs.Grid.{cell_count}
 use Rattle.array_spec.proofs.Shapes.{count_accepted}

@@ -13,7 +13,7 @@ use lib.Seq.{take_at}
 use Rattle.numbers.specs.Limits.{most_cells}
 use Rattle.numbers.specs.Lists.{Every}
 use Rattle.numbers.specs.Refusal.{Judged, refusal_of}
-use Rattle.numbers.proofs.Refusal.{judged-append}
+use Rattle.numbers.proofs.Chain.{judged-append}
 use Rattle.numbers.proofs.Tests.{cond_yes, cond_no}
 use Rattle.recipe_spec.specs.Recipes.{file_judged}
 use Rattle.recipe_spec.specs.Player.{recipe_steps}

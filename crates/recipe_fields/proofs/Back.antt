@@ -18,7 +18,7 @@ use Rattle.numbers.specs.Lists.{Every}
 use Rattle.numbers.specs.Ranges.{outside_z}
 use Rattle.numbers.specs.Refusal.{refusal_of}
 use Rattle.numbers.proofs.Any.{any_never, every_at, every_get_d}
-use Rattle.numbers.proofs.Refusal.{chain_goes}
+use Rattle.numbers.proofs.Chain.{chain_goes}
 use Rattle.numbers.proofs.Tabulate.{tabulate_unique, every_table, length-tabulate}
 use Rattle.numbers.proofs.Tests.{cond_ind, cond_no, or_no}
 use Rattle.codes.specs.Codes.{coded}

@@ -12,7 +12,7 @@ use lib.ListN.{length, get_or, drop}
 use Rattle.numbers.specs.Lists.{tabulate, any_of, Every}
 use Rattle.numbers.specs.Refusal.{Judged, refusal_of, Answers}
 use Rattle.numbers.proofs.Any.{any_hit, any_miss, any_end}
-use Rattle.numbers.proofs.Refusal.{judged_yes, judged_no, chain_stops, chain_goes}
+use Rattle.numbers.proofs.Chain.{judged_yes, judged_no, chain_stops, chain_goes}
 use Rattle.numbers.proofs.Tabulate.{length-tabulate, get_d_tabulate}
 use Rattle.codes.specs.Codes.{coded}
 use Rattle.codes.proofs.Coded.{answers_known, answers_unknown}

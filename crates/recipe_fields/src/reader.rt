@@ -1,9 +1,11 @@
 // The numbers of a recipe file.
 ghost use Rattle.std.specs.Prelude.{◌≡◌, ◌<◌, pos, length, get_or};
+ghost use Rattle.numbers.specs.Number.{answer_number};
 ghost use Rattle.numbers.specs.Refusal.{Answers};
 ghost use Rattle.recipe_spec.specs.Recipes.{read_of};
 ghost use Rattle.recipe_fields.specs.Fields.{step_fields, recipe_fields, fields_judged};
 
+use numbers::Refusal;
 use recipe_spec::Step;
 
 // Number j of a step, 0 past the sixth.
@@ -65,9 +67,9 @@ fn fill_fields(count: u8, steps: [Step; 16], out: &mut [i64])
 //
 // Refuses: 13 (mark), 14 (count), 15 (step), 2 (length). Of the bytes 76 75 83 0 1 1 0 0 2 0 2 0 0 the numbers are 1,
 // then 0 0 2 0 2 0, then 90 zeros.
-pub fn read_fields(file: &[u8], out: &mut [i64]) -> u8
+pub fn read_fields(file: &[u8], out: &mut [i64]) -> Result<(), Refusal>
     ensures { Answers (fields_judged file.now (length out.old))
-        (recipe_fields (read_of file.now).count (read_of file.now).steps) out.old result
+        (recipe_fields (read_of file.now).count (read_of file.now).steps) out.old (answer_number result)
         out.new }
 {
     let recipe = recipe_file::read_recipe(file);
@@ -76,10 +78,10 @@ pub fn read_fields(file: &[u8], out: &mut [i64]) -> u8
         return number;
     }
     if out.len() != 97 {
-        return numbers::LENGTH;
+        return Err(Refusal::Length);
     }
     let count = recipe.count;
     let steps = recipe.steps;
     fill_fields(count, steps, out);
-    numbers::ACCEPTED
+    Ok(())
 }

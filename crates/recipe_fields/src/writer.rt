@@ -1,9 +1,11 @@
 // The recipe file of a list of numbers.
 ghost use Rattle.std.specs.Prelude.{◌≡◌, length};
+ghost use Rattle.numbers.specs.Number.{answer_number};
 ghost use Rattle.numbers.specs.Refusal.{Answers};
 ghost use Rattle.recipe_spec.specs.Recipes.{file_of};
 ghost use Rattle.recipe_fields.specs.Fields.{steps_from, bad_fields, numbers_judged};
 
+use numbers::Refusal;
 use crate::ranges::bad_field;
 use crate::steps::{number_at, steps_from};
 
@@ -31,14 +33,14 @@ fn bad_fields(fields: &[i64]) -> bool
 // Refuses: 14 (count), 15 (step), 100 (a number that its field cannot hold, of any of 16 steps: outside -128..127 of an
 // origin, -32,768..32,767 of a constant, 0..255 of any other). Of 0 0 2 0 2 0 with the count 1 it writes 76 75 83 0 1 1
 // 0 0 2 0 2 0 0.
-pub fn write_fields(count: u8, fields: &[i64], out: &mut [u8]) -> u8
+pub fn write_fields(count: u8, fields: &[i64], out: &mut [u8]) -> Result<(), Refusal>
     ensures { Answers (numbers_judged count fields.now (length out.old))
-        (file_of count (steps_from fields.now)) out.old result out.new }
+        (file_of count (steps_from fields.now)) out.old (answer_number result) out.new }
 {
     let steps = steps_from(fields);
     if bad_fields(fields) {
-        let refusal = recipe_file::judge_recipe(count, steps, out.len());
-        return codes::unknown_after(refusal);
+        let judged = recipe_file::judge_recipe(count, steps, out.len());
+        return codes::unknown_after(judged);
     }
     recipe_file::write_recipe(count, steps, out)
 }

@@ -1,10 +1,12 @@
 // Conditions 13, 14 and 15 of a refusal.
 ghost use Rattle.std.specs.Prelude.{◌≡◌, ◌≤◌, take};
 ghost use Rattle.numbers.specs.Lists.{any_of};
+ghost use Rattle.numbers.specs.Number.{answer_number};
 ghost use Rattle.numbers.specs.Refusal.{refusal_of};
 ghost use Rattle.recipe_spec.specs.Recipes.{bad_mark, bad_step_count, bad_step_constant, bad_step_origin, bad_step};
 ghost use Rattle.recipe_spec.specs.Recipes.{recipe_judged};
 
+use numbers::Refusal;
 use recipe_spec::Step;
 
 // Condition 13: under 6 bytes, or another mark or version than LKS and 1.
@@ -102,14 +104,14 @@ pub(crate) fn bad_steps(count: u8, steps: [Step; 16]) -> bool
 // * `len` - how many bytes are lent.
 //
 // Refuses: 14 (count), 15 (step). Of one step 0 0 2 0 2 0 it is 0 where 13 bytes are lent, 14 where 12 are.
-pub fn judge_recipe(count: u8, steps: [Step; 16], len: usize) -> u8
-    ensures { result ≡ refusal_of (recipe_judged count steps len) }
+pub fn judge_recipe(count: u8, steps: [Step; 16], len: usize) -> Result<(), Refusal>
+    ensures { answer_number result ≡ refusal_of (recipe_judged count steps len) }
 {
     if bad_step_count(count, len) {
-        return numbers::COUNT;
+        return Err(Refusal::Count);
     }
     if bad_steps(count, steps) {
-        return numbers::STEP;
+        return Err(Refusal::Step);
     }
-    numbers::ACCEPTED
+    Ok(())
 }

@@ -1,8 +1,10 @@
 // The writer of recipe files.
 ghost use Rattle.std.specs.Prelude.{◌≡◌, ◌≤◌, ◌<◌, ◌+◌, ◌*◌, length, get_or};
+ghost use Rattle.numbers.specs.Number.{answer_number};
 ghost use Rattle.numbers.specs.Refusal.{Answers};
 ghost use Rattle.recipe_spec.specs.Recipes.{step_bytes, file_of, recipe_judged};
 
+use numbers::Refusal;
 use crate::bits::{bits16, byte8};
 use crate::conditions::judge_recipe;
 use recipe_spec::Step;
@@ -57,19 +59,16 @@ fn file_byte(count: u8, steps: [Step; 16], i: usize) -> u8
 // * `out` - 6 + 7 * count bytes.
 //
 // Refuses: 14 (count), 15 (step). Of one step 0 0 2 0 2 0 it writes 76 75 83 0 1 1 0 0 2 0 2 0 0.
-pub fn write_recipe(count: u8, steps: [Step; 16], out: &mut [u8]) -> u8
+pub fn write_recipe(count: u8, steps: [Step; 16], out: &mut [u8]) -> Result<(), Refusal>
     ensures { Answers (recipe_judged count steps (length out.old)) (file_of count steps)
-        out.old result out.new }
+        out.old (answer_number result) out.new }
 {
-    let refusal = judge_recipe(count, steps, out.len());
-    if refusal != 0 {
-        return refusal;
-    }
+    judge_recipe(count, steps, out.len())?;
     let mut i = 0;
     while i < out.len() {
         let b = file_byte(count, steps, i);
         out[i] = b;
         i += 1;
     }
-    numbers::ACCEPTED
+    Ok(())
 }

@@ -8,7 +8,7 @@ use lib.IntN.{ℤ}
 use lib.ListN.{length, get_or, take}
 use Rattle.numbers.specs.Lists.{any_of, Every}
 use Rattle.numbers.specs.Refusal.{refusal_of}
-use Rattle.numbers.proofs.Refusal.{judged-all, chain_stops, chain_goes}
+use Rattle.numbers.proofs.Chain.{judged-all, chain_stops, chain_goes}
 use Rattle.numbers.proofs.Tests.{or_false, or_no}
 use Rattle.array_spec.specs.Conditions.{bad_shape, bad_length, bad_level, grid_judged}
 use Rattle.array_spec.specs.Grid.{cell_count}

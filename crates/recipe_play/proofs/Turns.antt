@@ -7,7 +7,7 @@ use mathlib.Core.List.{List, [], ◌∷◌, ◌++◌}
 use lib.ListN.{length, get_or, drop}
 use lib.Seq.{drop-cons}
 use Rattle.numbers.specs.Refusal.{refusal_of}
-use Rattle.numbers.proofs.Refusal.{chain_stops, chain_goes}
+use Rattle.numbers.proofs.Chain.{chain_stops, chain_goes}
 use Rattle.recipe_spec.specs.declared.Step.{Step}
 use Rattle.recipe_spec.specs.Recipes.{no_step}
 use Rattle.recipe_spec.specs.Before.{window_of_step, windows_judged}

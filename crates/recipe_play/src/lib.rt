@@ -2,8 +2,11 @@
 #![tactic(auto)]
 
 ghost use Rattle.std.specs.Prelude.{[], ◌∷◌, pos, length};
+ghost use Rattle.numbers.specs.Number.{answer_number};
 ghost use Rattle.numbers.specs.Refusal.{ScratchAnswers};
 ghost use Rattle.recipe_spec.specs.Player.{played, recipe_steps, play_judged};
+
+use numbers::Refusal;
 
 mod step;
 mod steps;
@@ -21,28 +24,22 @@ mod steps;
 // Refuses: 13 (mark), 14 (count), 15 (step), then 1 (shape), 2 (length), 3 (level), then the number of the first step
 // that its call refuses: 5 (kernel), 7 (origin), 8 (axis), 11 (reach). 4 2 7 under the one step 0 0 2 0 2 0 0 gives
 // 4 2 2.
-pub fn play(file: &[u8], data: &[i64], shape: &[usize], out: &mut [i64], second: &mut [i64]) -> u8
+pub fn play(file: &[u8], data: &[i64], shape: &[usize], out: &mut [i64], second: &mut [i64]) -> Result<(), Refusal>
     ensures { ScratchAnswers (pos 0) (play_judged file.now shape.now «data».now
         (length out.old) (length second.old))
         (played shape.now (recipe_steps file.now) «data».now) out.old
-        (second.old ∷ []) result out.new (second.new ∷ []) }
+        (second.old ∷ []) (answer_number result) out.new (second.new ∷ []) }
 {
     let recipe = recipe_file::read_recipe(file);
     let number = recipe.number;
     if number != 0 {
         return number;
     }
-    let refusal = array::judge_grid(data, shape, &[out.len(), second.len()]);
-    if refusal != 0 {
-        return refusal;
-    }
+    array::judge_grid(data, shape, &[out.len(), second.len()])?;
     let count = recipe.count;
     let steps = recipe.steps;
-    let refused = steps::judge_steps(count, steps, shape);
-    if refused != 0 {
-        return refused;
-    }
+    steps::judge_steps(count, steps, shape)?;
     steps::play_steps(count, steps, data, shape, second, out);
     array::fill(second, 0);
-    numbers::ACCEPTED
+    Ok(())
 }

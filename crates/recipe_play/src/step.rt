@@ -1,10 +1,12 @@
 // One step: its judge and its pass.
 ghost use Rattle.std.specs.Prelude.{◌≡◌, length};
+ghost use Rattle.numbers.specs.Number.{answer_number};
 ghost use Rattle.numbers.specs.Refusal.{refusal_of};
 ghost use Rattle.min_max_axis.specs.Lane.{order_of};
 ghost use Rattle.recipe_spec.specs.Player.{step_mode, step_order, step_judged, step_answer};
 ghost use Rattle.recipe_spec.specs.Before.{window_of_step};
 
+use numbers::Refusal;
 use border::BorderMode;
 use min_max::Extreme;
 use recipe_spec::Step;
@@ -31,8 +33,8 @@ fn mode_of(s: Step) -> BorderMode
 }
 
 // What the step's window refuses, in rising order: the number of the first condition that holds, or 0.
-pub(crate) fn judge_step(s: Step, shape: &[usize]) -> u8
-    ensures { result ≡ refusal_of (window_of_step shape.now s) }
+pub(crate) fn judge_step(s: Step, shape: &[usize]) -> Result<(), Refusal>
+    ensures { answer_number result ≡ refusal_of (window_of_step shape.now s) }
 {
     let size = s.length as usize;
     let axis = s.axis as usize;

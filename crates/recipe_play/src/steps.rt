@@ -1,29 +1,28 @@
 // The steps of a recipe: all judged, then all played.
 ghost use Rattle.std.specs.Prelude.{◌≡◌, ◌≤◌, ◌-◌, ◌%◌, length, take};
+ghost use Rattle.numbers.specs.Number.{answer_number};
 ghost use Rattle.numbers.specs.Refusal.{refusal_of};
 ghost use Rattle.min_max_spec.specs.Call.{grid_number};
 ghost use Rattle.recipe_spec.specs.Player.{played};
 ghost use Rattle.recipe_spec.specs.Before.{windows_judged};
 
+use numbers::Refusal;
 use crate::step::{judge_step, step_pass};
 use recipe_spec::Step;
 
 // The number of the first step that is refused, or 0; no level is read.
-pub(crate) fn judge_steps(count: u8, steps: [Step; 16], shape: &[usize]) -> u8
+pub(crate) fn judge_steps(count: u8, steps: [Step; 16], shape: &[usize]) -> Result<(), Refusal>
     requires { count ≤ 16 }
-    ensures { result ≡ refusal_of (windows_judged shape.now (take count steps)) }
+    ensures { answer_number result ≡ refusal_of (windows_judged shape.now (take count steps)) }
 {
     let n = count as usize;
     let mut k: usize = 0;
     while k < n {
         let s = steps[k];
-        let refusal = judge_step(s, shape);
-        if refusal != 0 {
-            return refusal;
-        }
+        judge_step(s, shape)?;
         k += 1;
     }
-    numbers::ACCEPTED
+    Ok(())
 }
 
 // Plays the first step, and the second where the count is even, so that an even number is left; out has the levels.

@@ -12,7 +12,7 @@ use lib.IntN.{ℤ, pos}
 use lib.ListN.{length, get_or, take}
 use Rattle.numbers.specs.Lists.{any_of, Every}
 use Rattle.numbers.specs.Refusal.{Judged, refusal_of}
-use Rattle.numbers.proofs.Refusal.{judged-all, judged-append}
+use Rattle.numbers.proofs.Chain.{judged-all, judged-append}
 use Rattle.array_spec.specs.Conditions.{bad_shape, bad_length, bad_level, grid_judged}
 use Rattle.array_spec.proofs.Judged.{PassedGrid, grid_passed, grid_accepted, grid_ends}
 use Rattle.lanes.proofs.AlongAxis.{length_along}

@@ -15,7 +15,7 @@ use mir.Val.{Fits}
 use mir.Facts.{of_z-to_z}
 use Rattle.numbers.specs.Lists.{any_of}
 use Rattle.numbers.specs.Refusal.{refusal_of}
-use Rattle.numbers.proofs.Refusal.{judged-all}
+use Rattle.numbers.proofs.Chain.{judged-all}
 use Rattle.numbers.proofs.Tabulate.{length-tabulate, get_d_tabulate}
 use Rattle.numbers.proofs.Tests.{cond_yes}
 use Rattle.recipe_spec.specs.declared.Recipe.{Recipe}

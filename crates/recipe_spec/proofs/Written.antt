@@ -16,7 +16,7 @@ use mir.Facts.{to_z-of_z}
 use Rattle.numbers.specs.Lists.{tabulate, any_of, Every}
 use Rattle.numbers.specs.Refusal.{refusal_of}
 use Rattle.numbers.proofs.Any.{every_at, every_get_d}
-use Rattle.numbers.proofs.Refusal.{judged-all}
+use Rattle.numbers.proofs.Chain.{judged-all}
 use Rattle.numbers.proofs.Stored.{Stored, front-all}
 use Rattle.numbers.proofs.Tabulate.{tabulate_agree, tabulate_members, tabulate_unique, take-tabulate}
 use Rattle.numbers.proofs.Tests.{cond_yes}

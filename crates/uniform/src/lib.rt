@@ -4,6 +4,7 @@
 
 ghost use Rattle.uniform.specs.Rows.{UniformRows};
 ghost use Rattle.std.specs.Prelude.{◌≡◌, [], ◌∷◌, pos, length};
+ghost use Rattle.numbers.specs.Number.{answer_number};
 ghost use Rattle.numbers.specs.Refusal.{refusal_of, Answers, ScratchAnswers};
 ghost use Rattle.border.specs.Axes.{borders_of};
 ghost use Rattle.border.specs.Modes.{border_of};
@@ -11,6 +12,7 @@ ghost use Rattle.uniform_spec.specs.Uniform.{uniform1d, uniform as uniformOf};
 ghost use Rattle.uniform_spec.specs.Judge.{uniform1d_judged, uniform_judged};
 ghost use Rattle.uniform.specs.PassNeeds.{PassNeeds};
 
+use numbers::Refusal;
 use border::BorderMode;
 pub use uniform_judge::{judge_along, judge_uniform, judge_uniform1d};
 
@@ -83,17 +85,14 @@ pub fn uniform_filter1d(
     axis: usize,
     mode: BorderMode,
     out: &mut [i64],
-) -> u8
+) -> Result<(), Refusal>
     ensures { Answers (uniform1d_judged (border_of mode) size shape.now axis «data».now
         (length out.old)) (uniform1d (border_of mode) size shape.now axis «data».now)
-        out.old result out.new }
+        out.old (answer_number result) out.new }
 {
-    let refusal = uniform_judge::judge_uniform1d(data, shape, size, axis, mode, out.len());
-    if refusal != 0 {
-        return refusal;
-    }
+    uniform_judge::judge_uniform1d(data, shape, size, axis, mode, out.len())?;
     pass(data, shape, size, axis, mode, out);
-    numbers::ACCEPTED
+    Ok(())
 }
 
 // Fills each cell of out with the means along every axis, in rising order, each pass cut toward zero; SciPy's
@@ -115,19 +114,16 @@ pub fn uniform_filter(
     modes: [BorderMode; 3],
     second: &mut [i64],
     out: &mut [i64],
-) -> u8
+) -> Result<(), Refusal>
     ensures { ScratchAnswers (pos 0) (uniform_judged (borders_of modes) size shape.now
         «data».now (length out.old) (length second.old))
         (uniformOf (borders_of modes) size shape.now «data».now) out.old
-        (second.old ∷ []) result out.new (second.new ∷ []) }
+        (second.old ∷ []) (answer_number result) out.new (second.new ∷ []) }
 {
-    let refusal = uniform_judge::judge_uniform(data, shape, size, modes, out.len(), second.len());
-    if refusal != 0 {
-        return refusal;
-    }
+    uniform_judge::judge_uniform(data, shape, size, modes, out.len(), second.len())?;
     passes(data, shape, size, modes, second, out);
     array::fill(second, 0);
-    numbers::ACCEPTED
+    Ok(())
 }
 
 // Worked rows of this crate's definitions: the lanes of an axis, the calls.

@@ -1,5 +1,6 @@
 // The judge of `uniform_filter1d` and `uniform_filter`: the conditions in rising order, before anything is stored.
 ghost use Rattle.std.specs.Prelude.{◌≡◌, false, pos};
+ghost use Rattle.numbers.specs.Number.{answer_number};
 ghost use Rattle.numbers.specs.Refusal.{refusal_of};
 ghost use Rattle.border.specs.Axes.{borders_of, any_axis};
 ghost use Rattle.border.specs.Modes.{border_of};
@@ -7,6 +8,7 @@ ghost use Rattle.window_spec.specs.Window.{bad_reach, bad_size};
 ghost use Rattle.uniform_spec.specs.Judge.{bad_grid_reach, uniform_along_judged, uniform_axes_judged};
 ghost use Rattle.uniform_spec.specs.Judge.{uniform1d_judged, uniform_judged};
 
+use numbers::Refusal;
 use border::BorderMode;
 
 // Condition 11 of a lane of n cells: the border cannot fill one of the pads of a centred window.
@@ -51,39 +53,39 @@ fn bad_grid(modes: [BorderMode; 3], shape: &[usize], size: usize) -> bool
 // * `size`, `axis`, `mode` - as in `uniform_filter1d`.
 //
 // Refuses: 5 (kernel), 8 (axis), 9 (constant), 11 (reach). Of 3 cells size 7 under Mirror gives 11.
-pub fn judge_along(shape: &[usize], size: usize, axis: usize, mode: BorderMode) -> u8
-    ensures { result ≡ refusal_of (uniform_along_judged (border_of mode) size shape.now axis) }
+pub fn judge_along(shape: &[usize], size: usize, axis: usize, mode: BorderMode) -> Result<(), Refusal>
+    ensures { answer_number result ≡ refusal_of (uniform_along_judged (border_of mode) size shape.now axis) }
 {
     if window::bad_size(size) {
-        return numbers::KERNEL;
+        return Err(Refusal::Kernel);
     }
     if array::bad_axis(shape, axis) {
-        return numbers::AXIS;
+        return Err(Refusal::Axis);
     }
     if border::bad_constant(mode) {
-        return numbers::CONSTANT;
+        return Err(Refusal::Constant);
     }
     let n = array::len_of(shape, axis);
     if bad_window(mode, n, size) {
-        return numbers::REACH;
+        return Err(Refusal::Reach);
     }
-    numbers::ACCEPTED
+    Ok(())
 }
 
 // Conditions 5, 9 and 11 of a window along every axis, each axis with its own border.
-fn judge_axes(shape: &[usize], size: usize, modes: [BorderMode; 3]) -> u8
-    ensures { result ≡ refusal_of (uniform_axes_judged (borders_of modes) size shape.now) }
+fn judge_axes(shape: &[usize], size: usize, modes: [BorderMode; 3]) -> Result<(), Refusal>
+    ensures { answer_number result ≡ refusal_of (uniform_axes_judged (borders_of modes) size shape.now) }
 {
     if window::bad_size(size) {
-        return numbers::KERNEL;
+        return Err(Refusal::Kernel);
     }
     if border::bad_constant_any(modes, shape) {
-        return numbers::CONSTANT;
+        return Err(Refusal::Constant);
     }
     if bad_grid(modes, shape, size) {
-        return numbers::REACH;
+        return Err(Refusal::Reach);
     }
-    numbers::ACCEPTED
+    Ok(())
 }
 
 // The number of a call of uniform_filter1d, which fills its output where that is 0.
@@ -104,14 +106,11 @@ pub fn judge_uniform1d(
     axis: usize,
     mode: BorderMode,
     out: usize,
-) -> u8
-    ensures { result ≡ refusal_of (uniform1d_judged (border_of mode) size shape.now axis «data».now
+) -> Result<(), Refusal>
+    ensures { answer_number result ≡ refusal_of (uniform1d_judged (border_of mode) size shape.now axis «data».now
         out) }
 {
-    let refusal = array::judge_grid(data, shape, &[out]);
-    if refusal != 0 {
-        return refusal;
-    }
+    array::judge_grid(data, shape, &[out])?;
     judge_along(shape, size, axis, mode)
 }
 
@@ -131,13 +130,10 @@ pub fn judge_uniform(
     modes: [BorderMode; 3],
     out: usize,
     second: usize,
-) -> u8
-    ensures { result ≡ refusal_of (uniform_judged (borders_of modes) size shape.now «data».now out
+) -> Result<(), Refusal>
+    ensures { answer_number result ≡ refusal_of (uniform_judged (borders_of modes) size shape.now «data».now out
         second) }
 {
-    let refusal = array::judge_grid(data, shape, &[out, second]);
-    if refusal != 0 {
-        return refusal;
-    }
+    array::judge_grid(data, shape, &[out, second])?;
     judge_axes(shape, size, modes)
 }

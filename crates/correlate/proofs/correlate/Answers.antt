@@ -6,7 +6,7 @@ use lib.ListN.{length}
 use mir.Syntax.{w64}
 use mir.Val.{to_z, of_z}
 use Rattle.numbers.specs.Refusal.{refusal_of}
-use Rattle.numbers.proofs.Refusal.{answers_refused, answers_accepted}
+use Rattle.numbers.proofs.Chain.{answers_refused, answers_accepted}
 use Rattle.border.specs.Modes.{border_of}
 use Rattle.correlate_spec.specs.Kernel.{correlate_z}
 use Rattle.correlate_judge_spec.specs.KernelJudge.{kernel_judged}

@@ -5,7 +5,7 @@ use mathlib.Core.List.{List, [], ◌∷◌}
 use lib.IntN.{ℤ, pos}
 use lib.ListN.{length, replicate}
 use Rattle.numbers.specs.Refusal.{refusal_of}
-use Rattle.numbers.proofs.Refusal.{scratch_refused, scratch_accepted}
+use Rattle.numbers.proofs.Chain.{scratch_refused, scratch_accepted}
 use Rattle.border.specs.Axes.{borders_of}
 use Rattle.gradient_spec.specs.Judge.{gradient_judged}
 use Rattle.gradient.proofs.filter.Goals as goal

@@ -1,6 +1,6 @@
 -- `median_filter` meets its contract: refused by the judge's number, or the answer of an accepted call.
 use mathlib.Core.Path.{sym, ◌∙◌}
-use Rattle.numbers.proofs.Refusal.{answers_refused, answers_accepted}
+use Rattle.numbers.proofs.Chain.{answers_refused, answers_accepted}
 use Rattle.median.proofs.median_filter.Goals as goal
 
 pub returns-then-refusal-ne0 : goal.returns-then-refusal-ne0

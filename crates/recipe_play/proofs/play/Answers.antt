@@ -4,7 +4,7 @@ use mathlib.Core.Path.{sym, ap, ◌∙◌}
 use mathlib.Core.List.{List, [], ◌∷◌}
 use lib.IntN.{ℤ, pos}
 use lib.ListN.{length, replicate}
-use Rattle.numbers.proofs.Refusal.{scratch_refused, scratch_accepted}
+use Rattle.numbers.proofs.Chain.{scratch_refused, scratch_accepted}
 use Rattle.recipe_spec.specs.Player.{played}
 use Rattle.recipe_play.proofs.Called.{file_stops, steps_read, count_read, grid_stops, lent_passed, grid_number_lem, steps_number}
 use Rattle.recipe_play.proofs.play.Goals as goal

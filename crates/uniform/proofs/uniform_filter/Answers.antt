@@ -4,7 +4,7 @@ use Prim.Native.Nat.{ℕ}
 use mathlib.Core.List.{List, [], ◌∷◌}
 use lib.IntN.{ℤ, pos}
 use lib.ListN.{replicate}
-use Rattle.numbers.proofs.Refusal.{scratch_refused, scratch_accepted}
+use Rattle.numbers.proofs.Chain.{scratch_refused, scratch_accepted}
 use Rattle.uniform.proofs.uniform_filter.Goals as goal
 
 pub returns-then-refusal-ne0 : goal.returns-then-refusal-ne0

@@ -1,6 +1,6 @@
 -- `uniform_filter1d` meets its contract: refused by the judge's number, or the pass.
 use mathlib.Core.Path.{sym, ◌∙◌}
-use Rattle.numbers.proofs.Refusal.{answers_refused, answers_accepted}
+use Rattle.numbers.proofs.Chain.{answers_refused, answers_accepted}
 use Rattle.uniform.proofs.Accepted.{along_accepted}
 use Rattle.uniform.proofs.uniform_filter1d.Goals as goal
 

@@ -1,5 +1,5 @@
 -- `pad::calls::pad` meets its contract: refused by the judge's number, or the whole padded grid.
-use Rattle.numbers.proofs.Refusal.{answers_refused, answers_accepted}
+use Rattle.numbers.proofs.Chain.{answers_refused, answers_accepted}
 use Rattle.pad.proofs.calls.pad.Goals as goal
 
 pub returns-then-refusal-ne0 : goal.returns-then-refusal-ne0

@@ -1,7 +1,7 @@
 -- `read_fields` meets its contract: the file's number, then that of the lent length, or the numbers.
 use mathlib.Core.Path.{refl, ◌∙◌}
 use lib.ListN.{length}
-use Rattle.numbers.proofs.Refusal.{answers_refused, answers_accepted}
+use Rattle.numbers.proofs.Chain.{answers_refused, answers_accepted}
 use Rattle.recipe_spec.proofs.Judge.{never}
 use Rattle.recipe_fields.proofs.Judge.{file_stops, length_stops, length_passes, fields_read}
 use Rattle.recipe_fields.proofs.reader.read_fields.Goals as goal

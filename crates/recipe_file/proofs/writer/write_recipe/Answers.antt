@@ -8,7 +8,7 @@ use Rattle.recipe_spec.proofs.Written.{file_stored}
 use Rattle.recipe_spec.proofs.Judge.{count_is}
 use Rattle.recipe_spec.specs.Recipes.{file_of, recipe_judged}
 use Rattle.numbers.proofs.Stored.{front-none, front-more}
-use Rattle.numbers.proofs.Refusal.{judged-all, answers_refused, answers_accepted}
+use Rattle.numbers.proofs.Chain.{judged-all, answers_refused, answers_accepted}
 use Rattle.recipe_file.proofs.writer.write_recipe.Goals as goal
 
 pub returns-then-refusal-ne0 : goal.returns-then-refusal-ne0
