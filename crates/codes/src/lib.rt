@@ -3,6 +3,7 @@
 #![tactic(auto)]
 
 ghost use Rattle.std.specs.Prelude.{◌≡◌, cond, eqb};
+ghost use Rattle.numbers.specs.Number.{answer_number};
 ghost use Rattle.codes.specs.Codes.{mode_of, mode_of_f64, padding_of, kernel_of, code_of};
 ghost use Rattle.codes.specs.Words.{border_words, pad_words, kernel_words, class_words};
 ghost use Rattle.codes.specs.Rows.{CodesRows};
@@ -10,11 +11,9 @@ ghost use Rattle.words.specs.Words.{words_of, place_in};
 
 use border::{BorderMode, BorderModeF64, PadMode};
 use kernel3d::Kernel3d;
+use numbers::Refusal;
 use symmetry_spec::SymmetryState;
 use words::Found;
-
-// A code that names no border, padding mode or kernel.
-pub const UNKNOWN: u8 = 100;
 
 // The border of a code. 1 is Mirror; 9, which names none, is Nearest.
 pub fn mode_of(code: u8, constant: i64) -> BorderMode
@@ -140,14 +139,13 @@ pub fn class_words() -> [u8; 37]
     *b"NonSymmetric Symmetric AntiSymmetric "
 }
 
-// The number of a call with an unknown code, which is judged last. Of 11 it is 11, of 0 it is 100.
-pub fn unknown_after(refusal: u8) -> u8
-    ensures { result ≡ cond (eqb refusal 0) 100 refusal }
+// The answer of a call with an unknown code, which is judged last: what the call refuses, else Unknown. Of Reach it is
+// Reach, of an accepted call Unknown.
+pub fn unknown_after(judged: Result<(), Refusal>) -> Result<(), Refusal>
+    ensures { answer_number result ≡ cond (eqb (answer_number judged) 0) 100 (answer_number judged) }
 {
-    if refusal != 0 {
-        return refusal;
-    }
-    UNKNOWN
+    judged?;
+    Err(Refusal::Unknown)
 }
 
 // Worked rows of codes and words: what each names, and the number of a code that names nothing.
