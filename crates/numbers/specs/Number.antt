@@ -1,7 +1,10 @@
--- The number of what a call answers.
+-- What a call answers, as the number of the papers.
+--   refusal_number r   the number of a refusal
+--   answer_number a    0, accepted, or the number of the refusal
 use Rattle.std.specs.Prelude.{ℕ, Result, Ok, Err}
 use Rattle.numbers.specs.declared.Refusal.{Refusal}
-use Rattle.numbers.specs.declared.Refusal.TheVariants.{Shape, Length, Level, SingleCell, Kernel, Weight, Origin, Axis, Constant, Pads, Reach, Sum, Mark, Count, Step, Unknown}
+use Rattle.numbers.specs.declared.Refusal.TheVariants.{Shape, Length, Level, SingleCell, Kernel, Weight, Origin, Axis}
+use Rattle.numbers.specs.declared.Refusal.TheVariants.{Constant, Pads, Reach, Sum, Mark, Count, Step, Unknown}
 
 abbrev pub refusal_number : Refusal → ℕ
 refusal_number Shape = 1

@@ -2,10 +2,13 @@
 --   minus n       −n
 --   wholes ns     the natural numbers ns as whole numbers
 --   NumbersRows   the rows
-use Rattle.std.specs.Prelude.{ℕ, ◌+◌, ◌-◌, ◌*◌, ◌^◌, ◌≡◌, true, false, List, [], ◌∷◌, map, eqb, ℤ, pos, negsuc, neg_ℤ}
+use Rattle.std.specs.Prelude.{Ok, Err, ℕ, ◌+◌, ◌-◌, ◌*◌, ◌^◌, ◌≡◌, true, false, List, [], ◌∷◌, map, eqb, ℤ, pos, negsuc, neg_ℤ}
 use Rattle.std.specs.Int.Signed.{le_z, quot_z}
 use Rattle.numbers.specs.Limits.{longest_axis, most_cells, largest_level, largest_between, longest_window, longest_side, largest_weight, longest_pad, longest_line, longest_padded_axis, most_padded_cells}
 use Rattle.numbers.specs.Lists.{tabulate, up_from, any_of}
+use Rattle.numbers.specs.Number.{refusal_number, answer_number}
+use Rattle.numbers.specs.declared.Refusal.TheVariants.{Shape, Length, Level, SingleCell, Kernel, Weight, Origin, Axis}
+use Rattle.numbers.specs.declared.Refusal.TheVariants.{Constant, Pads, Reach, Sum, Mark, Count, Step, Unknown}
 use Rattle.numbers.specs.Order.{at_least, extreme}
 use Rattle.numbers.specs.Ranges.{outside, outside_z, over, beyond}
 use Rattle.numbers.specs.Refusal.{refusal_of, left_in, ScratchAnswers}
@@ -22,6 +25,12 @@ pub record NumbersRows : Type 0 where
   -- of several conditions that hold the lowest number counts; 0 where none does
   pub lowest : refusal_of ((false, 1) ∷ (true, 3) ∷ (true, 9) ∷ []) ≡ 3
   pub accepted : refusal_of ((false, 1) ∷ (false, 3) ∷ []) ≡ 0
+  -- the numbers of refusals, and of an accepted call
+  pub owner_numbers : map refusal_number (Shape ∷ Length ∷ Level ∷ SingleCell ∷ []) ≡ 1 ∷ 2 ∷ 3 ∷ 4 ∷ []
+  pub author_numbers : map refusal_number (Kernel ∷ Weight ∷ Origin ∷ []) ≡ 5 ∷ 6 ∷ 7 ∷ []
+  pub operator_numbers : map refusal_number (Axis ∷ Constant ∷ Pads ∷ Reach ∷ []) ≡ 8 ∷ 9 ∷ 10 ∷ 11 ∷ []
+  pub other_numbers : map refusal_number (Sum ∷ Mark ∷ Count ∷ Step ∷ Unknown ∷ []) ≡ 12 ∷ 13 ∷ 14 ∷ 15 ∷ 100 ∷ []
+  pub answers : map answer_number (Ok tt ∷ Err Reach ∷ []) ≡ 0 ∷ 11 ∷ []
   -- a refusal leaves what was held, an accepted call the levels
   pub refused_keeps : left_in 3 (wholes (1 ∷ 2 ∷ [])) (wholes (8 ∷ 9 ∷ [])) ≡ wholes (8 ∷ 9 ∷ [])
   pub accepted_fills : left_in 0 (wholes (1 ∷ 2 ∷ [])) (wholes (8 ∷ 9 ∷ [])) ≡ wholes (1 ∷ 2 ∷ [])

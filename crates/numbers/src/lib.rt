@@ -6,6 +6,9 @@ ghost use Rattle.std.specs.Prelude.{◌≡◌, nat_abs};
 ghost use Rattle.numbers.specs.Number.{answer_number};
 ghost use Rattle.numbers.specs.Rows.{NumbersRows};
 
+use std::error::Error;
+use std::fmt;
+
 // Why a call is refused. Its number is the papers'.
 #[derive(Clone, Copy, Debug, PartialEq, Eq, Drop)]
 pub enum Refusal {
@@ -54,6 +57,32 @@ pub enum Refusal {
     Unknown = 100,
 }
 
+// What was refused, in a word or two.
+impl fmt::Display for Refusal {
+    fn fmt<W: fmt::Write>(&self, f: &mut fmt::Formatter<W>) -> fmt::Result {
+        f.write_str(match self {
+            Refusal::Shape => "shape",
+            Refusal::Length => "length",
+            Refusal::Level => "level",
+            Refusal::SingleCell => "axis of one cell",
+            Refusal::Kernel => "kernel",
+            Refusal::Weight => "weight",
+            Refusal::Origin => "origin",
+            Refusal::Axis => "axis",
+            Refusal::Constant => "constant",
+            Refusal::Pads => "pads",
+            Refusal::Reach => "reach",
+            Refusal::Sum => "sum",
+            Refusal::Mark => "mark",
+            Refusal::Count => "count",
+            Refusal::Step => "step",
+            Refusal::Unknown => "unknown code",
+        })
+    }
+}
+
+impl Error for Refusal {}
+
 // The number of what a call answers: 0 where it was accepted.
 pub fn answer_number(answer: Result<(), Refusal>) -> u8
     ensures { result ≡ answer_number answer }
@@ -94,10 +123,7 @@ pub const MOST_PADDED_CELLS: usize = 32768;
 pub fn magnitude(z: i64) -> u64
     ensures { result ≡ nat_abs z }
 {
-    if z < 0 {
-        return (-(z + 1)) as u64 + 1;
-    }
-    z as u64
+    z.unsigned_abs()
 }
 
 // Worked rows of this crate's definitions.

@@ -10,6 +10,11 @@ unfolding tabulate window_of
 returns c = record {
   lowest = refl;
   accepted = refl;
+  owner_numbers = refl;
+  author_numbers = refl;
+  operator_numbers = refl;
+  other_numbers = refl;
+  answers = refl;
   refused_keeps = refl;
   accepted_fills = refl;
   scratch_zero = record { filled = record { number = refl; cells = refl }; cleared = refl };
