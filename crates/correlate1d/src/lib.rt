@@ -14,8 +14,8 @@ ghost use Rattle.correlate_judge_spec.specs.Judge.{correlate_judged};
 ghost use Rattle.correlate1d.specs.Rows.{Correlate1dRows};
 ghost use Rattle.correlate1d.specs.WeighNeeds.{ScaleNeeds, WeighNeeds};
 
-use numbers::Refusal;
 use border::BorderMode;
+use numbers::Refusal;
 use window_spec::Origin;
 
 // Every cell times one weight.
@@ -23,11 +23,8 @@ fn scale(data: &[i64], weight: i64, out: &mut [i64])
     requires { ScaleNeeds «data».now weight out.old }
     ensures { out.new ≡ map (λ x. x *ℤ weight) «data».now }
 {
-    let n = out.len();
-    let mut i = 0;
-    while i < n {
+    for i in 0..out.len() {
         out[i] = data[i] * weight;
-        i += 1;
     }
 }
 
@@ -108,16 +105,7 @@ pub fn correlate1d(
         (correlate1d_z (border_of mode) origin weights.now shape.now axis «data».now)
         out.old (answer_number result) out.new }
 {
-    correlate_judge::judge_correlate(
-        data,
-        shape,
-        weights,
-        axis,
-        mode,
-        origin,
-        false,
-        out.len(),
-    )?;
+    correlate_judge::judge_correlate(data, shape, weights, axis, mode, origin, false, out.len())?;
     correlate_cells(data, shape, weights, axis, mode, origin, false, out);
     Ok(())
 }
@@ -149,16 +137,7 @@ pub fn convolve1d(
         (convolve1d_z (border_of mode) origin weights.now shape.now axis «data».now)
         out.old (answer_number result) out.new }
 {
-    correlate_judge::judge_correlate(
-        data,
-        shape,
-        weights,
-        axis,
-        mode,
-        origin,
-        true,
-        out.len(),
-    )?;
+    correlate_judge::judge_correlate(data, shape, weights, axis, mode, origin, true, out.len())?;
     correlate_cells(data, shape, weights, axis, mode, origin, true, out);
     Ok(())
 }
