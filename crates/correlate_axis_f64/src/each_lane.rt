@@ -67,8 +67,7 @@ fn correlate_rows(
     let n = along.len;
     let count = along.count;
     let mut base = 0;
-    let mut lane = 0;
-    while lane < count {
+    for lane in 0..count {
         let e = base + n;
         correlate_lane(
             weights,
@@ -84,7 +83,6 @@ fn correlate_rows(
             &mut out[base..e],
         );
         base = e;
-        lane += 1;
     }
 }
 
@@ -119,8 +117,7 @@ fn correlate_lanes(
         place: 0,
         offset: 0,
     };
-    let mut lane = 0;
-    while lane < count {
+    for lane in 0..count {
         correlate_lane(
             weights,
             backward,
@@ -136,7 +133,6 @@ fn correlate_lanes(
         );
         lane_cells::write_from_f64(swept, stride, lane, start.place, out);
         start = lanes::next_start(n, stride, lane, start);
-        lane += 1;
     }
 }
 

@@ -53,7 +53,6 @@ abbrev pub sum_at : Border ℤ → Axis → Axis → Axis → List ℤ → List 
 sum_at b x y z w cells k = rows_to b x y z w cells (k / z.len) (x.side * y.side) (k % z.len)
 
 pub record Storing (b : Border ℤ) (x y z : Axis) (w cells : List ℤ) (r : ℕ) (line out : List ℤ) : Type 0 where
-  pub below : r ≤ x.len * y.len
   pub line_long : length line ≡ z.left + z.len + z.right
   pub kept : length out ≡ length cells
   pub sums : (k : ℕ) → k < r * z.len → get_or out k (pos 0) ≡ sum_at b x y z w cells k
@@ -61,7 +60,7 @@ pub record Storing (b : Border ℤ) (x y z : Axis) (w cells : List ℤ) (r : ℕ
 -- v are the weights as the caller has them
 module _ {b : Border ℤ} {x y z : Axis} {v w cells : List ℤ} (L : KernelNeeds b x y z v cells) where
   pub storing_none : {line out : List ℤ} → length line ≡ z.left + z.len + z.right → length out ≡ length cells → Storing b x y z w cells 0 line out
-  storing_none l o = record { below = omega arith; line_long = l; kept = o; sums = λ k h. absurd (omega arith) }
+  storing_none l o = record { line_long = l; kept = o; sums = λ k h. absurd (omega arith) }
 
   module _ {r : ℕ} {line out : List ℤ} (S : Storing b x y z w cells r line out) where
     abbrev a : ℕ
@@ -78,7 +77,6 @@ module _ {b : Border ℤ} {x y z : Axis} {v w cells : List ℤ} (L : KernelNeeds
         → part ≡ tabulate (rows_to b x y z w cells (r / y.len * y.len + r % y.len) (x.side * y.side)) 0 z.len → out' ≡ put_mid (r * z.len) (r * z.len + z.len - r * z.len) out part
         → Storing b x y z w cells (r + 1) line' out'
     storing_more {line'} {part} {out'} h l f e = record {
-      below = omega arith;
       line_long = l ∙ S.line_long;
       kept = ap length e ∙ put.kept ∙ S.kept;
       sums = λ k c. ap (λ (o : List ℤ). get_or o k (pos 0)) e ∙ at k c (ltb k a) refl;
@@ -108,8 +106,5 @@ module _ {b : Border ℤ} {x y z : Axis} {v w cells : List ℤ} (L : KernelNeeds
             let g : a + (k - a) ≡ k = omega arith in
             put.cells k (omega (arith, row_room h)) ∙ cond_yes (on_row a z.len k) _ _ (row_yes a z.len k d (omega arith)) ∙ own (k - a) i ∙ ap (sum_at b x y z w cells) g
 
-    pub storing_all : x.len * y.len ≤ r → out ≡ tabulate (sum_at b x y z w cells) 0 (length cells)
-    storing_all h = tabulate_unique (pos 0) (sum_at b x y z w cells) out (length cells) S.kept (λ k c. S.sums k (subst (λ (m : ℕ). k < m) (L.count ∙ ap (λ (m : ℕ). m * z.len) last) c))
-      where
-        last : x.len * y.len ≡ r
-        last = omega (arith, S.below)
+    pub storing_all : x.len * y.len ≡ r → out ≡ tabulate (sum_at b x y z w cells) 0 (length cells)
+    storing_all last = tabulate_unique (pos 0) (sum_at b x y z w cells) out (length cells) S.kept (λ k c. S.sums k (subst (λ (m : ℕ). k < m) (L.count ∙ ap (λ (m : ℕ). m * z.len) last) c))

@@ -2,7 +2,7 @@
 --   KernelCallNeeds b ns side left right w cells out    an accepted grid, a kernel of side 1 to 7 with its weights, pads that
 --                                                 the border fills, levels and weights
 --                                                 within their limits
-use Rattle.std.specs.Prelude.{ℕ, ◌+◌, ◌≤◌, ◌<◌, ◌≡◌, false, List, ℤ, pos, length}
+use Rattle.std.specs.Prelude.{ℕ, ◌+◌, ◌≤◌, ◌<◌, ◌≡◌, false, List, ℤ, length}
 use Rattle.numbers.specs.Limits.{largest_weight}
 use Rattle.numbers.specs.Lists.{any_of}
 use Rattle.numbers.specs.Ranges.{over}

@@ -40,11 +40,9 @@ fn add_kernel_plane(
     let none = axes.planes.len * per;
     let side = axes.rows.side;
     let q = i * side;
-    let mut j = 0;
-    while j < side {
+    for j in 0..side {
         let row = row_for(plane, second[s + j], per, none);
         add_kernel_row(data, weights, backward, mode, axes, row, q + j, line, out);
-        j += 1;
     }
 }
 
@@ -72,12 +70,10 @@ fn correlate_row(
 {
     array::fill(out, 0);
     let count = axes.planes.side;
-    let mut i = 0;
-    while i < count {
+    for i in 0..count {
         add_kernel_plane(
             data, weights, backward, mode, axes, first, second, p, s, i, line, out,
         );
-        i += 1;
     }
 }
 
@@ -103,8 +99,7 @@ fn correlate_rows(
     let per = axes.rows.len;
     let count = axes.planes.len * per;
     let n = axes.cells.len;
-    let mut r = 0;
-    while r < count {
+    for r in 0..count {
         let a = r * n;
         let e = a + n;
         correlate_row(
@@ -120,7 +115,6 @@ fn correlate_rows(
             line,
             &mut out[a..e],
         );
-        r += 1;
     }
 }
 

@@ -79,12 +79,8 @@ fn count_up(out: &mut [i64])
     requires { length out.old ≤ longest_axis }
     ensures { out.new ≡ tabulate pos 0 (length out.old) }
 {
-    let n = out.len();
-    let mut i = 0;
-    while i < n {
-        let v = i as i64;
-        out[i] = v;
-        i += 1;
+    for (i, cell) in out.iter_mut().enumerate() {
+        *cell = i as i64;
     }
 }
 

@@ -1,6 +1,6 @@
 -- `correlate_grid::cells::add_kernel_plane` meets its contract: each turn adds the sums of the kernel plane's next row.
 use mathlib.Core.Path.{sym, ◌∙◌}
-use Prim.Native.Nat.{◌+◌, ◌-◌, ◌*◌, ◌<◌}
+use Prim.Native.Nat.{◌+◌, ◌*◌, ◌<◌}
 use native.Mathlib.Nat.{add-mul}
 use native.Mathlib.Omega.{arith}
 use Rattle.lanes.proofs.Cells.{step_le}
@@ -25,7 +25,7 @@ pub overflow_mul-q : goal.overflow_mul-q
 overflow_mul-q c = let s = c in omega (arith, step_le s.args.axes.rows.side s.requires.3, kernel_few s.requires.0.laid)
 
 pub loop-j-init : goal.loop-j-init
-loop-j-init c = (search rules, summing_start c.requires.4)
+loop-j-init c = summing_start c.requires.4
 
 pub overflow_add-s : goal.overflow_add-s
 overflow_add-s c = let s = c in
@@ -52,24 +52,22 @@ add_kernel_row-requires c = let s = c in
     let h : c.loop-j.j < s.args.axes.rows.side = search rules in (
       s.requires.0.laid,
       reading (mapped_directed s.args.backward s.requires.0) s.requires.1 s.requires.2 s.requires.3 h c.row_for-row.ensures
-          c.loop-j.invariant.1,
+          c.loop-j.invariant,
     )
 
 pub loop-j-preserved : goal.loop-j-preserved
 loop-j-preserved c = let s = c in
     let h : c.loop-j.j < s.args.axes.rows.side = search rules in
-    let k = c.add_kernel_row in (
-      search rules,
-      summing_more (mapped_directed s.args.backward s.requires.0) s.requires.1 s.requires.2 s.requires.3 h c.row_for-row.ensures
-          c.loop-j.invariant.1 k.auto.line k.ensures,
-    )
+    let k = c.add_kernel_row in
+    summing_more (mapped_directed s.args.backward s.requires.0) s.requires.1 s.requires.2 s.requires.3 h c.row_for-row.ensures
+    c.loop-j.invariant k.auto.line k.ensures
 
 pub shape_of-line : goal.shape_of-line
-shape_of-line c = c.loop-j.invariant.1.line_long ∙ sym c.requires.4.line_long
+shape_of-line c = c.loop-j.invariant.line_long ∙ sym c.requires.4.line_long
 
 pub shape_of-out : goal.shape_of-out
-shape_of-out c = summing_length c.loop-j.invariant.1 ∙ sym (summing_length c.requires.4)
+shape_of-out c = summing_length c.loop-j.invariant ∙ sym (summing_length c.requires.4)
 
 pub returns : goal.returns
 returns c = let a = c.args in
-    summing_to c.loop-j.invariant.1 ((a.i + 1) * a.axes.rows.side) (omega (arith, add-mul a.i 1 a.axes.rows.side))
+    summing_to c.loop-j.invariant ((a.i + 1) * a.axes.rows.side) (omega (arith, add-mul a.i 1 a.axes.rows.side))

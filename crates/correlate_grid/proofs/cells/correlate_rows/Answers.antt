@@ -1,6 +1,6 @@
 -- `correlate_grid::cells::correlate_rows` meets its contract: each turn stores the sums of one row.
 use mathlib.Core.Path.{refl, sym, ◌∙◌}
-use Prim.Native.Nat.{◌-◌, ◌*◌, ◌<◌}
+use Prim.Native.Nat.{◌*◌, ◌<◌}
 use native.Mathlib.Nat.{mod-lt, div-lt_iff_lt-mul}
 use native.Mathlib.Omega.{arith}
 use Rattle.correlate_grid.proofs.EveryRow.{storing_none, row_room, part_long, storing_more, storing_all}
@@ -40,9 +40,6 @@ correlate_row-requires c = let s = c in
     let h : l.r < s.args.axes.planes.len * s.args.axes.rows.len = search rules in
     (s.requires.0, (div-lt_iff_lt-mul y).1 h, mod-lt l.r y, l.invariant.line_long, part_long s.requires.0.laid l.invariant h)
 
-pub overflow_add-r : goal.overflow_add-r
-overflow_add-r c = omega (arith, rows_few c.requires.0.laid, c.loop-r.invariant.below)
-
 pub loop-r-preserved : goal.loop-r-preserved
 loop-r-preserved c = let s = c in
     let k = c.correlate_row in
@@ -55,4 +52,4 @@ pub shape_of-out : goal.shape_of-out
 shape_of-out c = c.loop-r.invariant.kept ∙ sym c.requires.2
 
 pub returns : goal.returns
-returns c = storing_all c.requires.0.laid c.loop-r.invariant (search rules)
+returns c = storing_all c.requires.0.laid c.loop-r.invariant (omega arith)

@@ -1,5 +1,4 @@
 -- `correlate_grid::cells::correlate_rows` meets its contract: each turn stores the sums of one row.
-use Prim.Native.Nat.{◌-◌, ◌*◌}
 use Rattle.border.specs.Modes.{border_of}
 use Rattle.direction.specs.Direction.{directed}
 use Rattle.correlate_grid.proofs.EveryRow.{Storing}
@@ -8,7 +7,3 @@ use Rattle.correlate_grid.proofs.cells.correlate_rows.Given as goal
 abbrev pub invariant-loop-r : goal.invariant-loop-r
 invariant-loop-r l =
     Storing (border_of l.mode) l.axes.planes l.axes.rows l.axes.cells (directed l.backward l.weights) l.data l.r l.line l.out
-
-abbrev pub decreases-loop-r : goal.decreases-loop-r
-decreases-loop-r l =
-    l.axes.planes.len * l.axes.rows.len - l.r
