@@ -41,7 +41,7 @@ fn judge_placed(
     Ok(())
 }
 
-// The number of a call with a grid kernel, which fills its output where that is 0.
+// Judges a call with a grid kernel; only an accepted one fills its output.
 //
 // * `data` - the cells of the grid, in row-major order.
 // * `shape` - the length of each axis.
@@ -53,7 +53,7 @@ fn judge_placed(
 // * `out` - how many cells the lent output has.
 //
 // Refuses: 1 (shape), 2 (length), 3 (level), 5 (kernel), 6 (weight), 7 (origin), 9 (constant), 11 (reach). One cell
-// under Wrap with a kernel of 2 cells and origin 0 gives 0, and with convolution 11.
+// under Wrap with a kernel of 2 cells and origin 0 passes, and gives 11 with convolution.
 pub fn judge_kernel(
     data: &[i64],
     shape: &[usize],

@@ -57,7 +57,7 @@ fn judge_weighing(
     Ok(())
 }
 
-// The number of a call on whole levels, which fills its output where that is 0.
+// Judges a call on whole levels; only an accepted one fills its output.
 //
 // * `data` - the cells of the grid, in row-major order.
 // * `shape` - the length of each axis.
@@ -69,7 +69,7 @@ fn judge_weighing(
 // * `out` - how many cells the lent output has.
 //
 // Refuses: 1 (shape), 2 (length), 3 (level), 5 (kernel), 6 (weight), 7 (origin), 8 (axis), 9 (constant), 11 (reach).
-// Three cells under Mirror with 5 weights give 0, with 7 weights 11.
+// Three cells under Mirror pass with 5 weights, and give 11 with 7 weights.
 pub fn judge_correlate(
     data: &[i64],
     shape: &[usize],
@@ -99,7 +99,7 @@ pub fn judge_correlate(
 }
 
 // The same of a call on floats: 3, 6 and 9 refuse what is not finite, and no sum is refused.
-// An infinite weight gives 6, a level -0.0 gives 0.
+// An infinite weight gives 6, a level -0.0 passes.
 pub fn judge_correlate_f64(
     data: &[f64],
     shape: &[usize],

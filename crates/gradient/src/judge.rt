@@ -24,7 +24,7 @@ fn judge_passes(shape: &[usize], axis: usize, modes: [BorderMode; 3]) -> Result<
     Ok(())
 }
 
-// The number of a `prewitt` or `sobel` call, which fills its output where that is 0.
+// Judges a `prewitt` or `sobel` call; only an accepted one fills its output.
 //
 // * `data` - the cells of the grid, in row-major order.
 // * `shape` - the length of each axis.

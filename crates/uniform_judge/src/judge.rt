@@ -40,7 +40,7 @@ fn bad_grid(modes: [BorderMode; 3], shape: &[usize], size: usize) -> bool
     false
 }
 
-// Conditions 5, 8, 9 and 11 of a window along one axis, in rising order: the number of the first that holds, or 0.
+// Conditions 5, 8, 9 and 11 of a window along one axis, in rising order: the first that holds refuses.
 //
 // * `shape` - the length of each axis.
 // * `size`, `axis`, `mode` - as in `uniform_filter1d`.
@@ -86,7 +86,7 @@ fn judge_axes(shape: &[usize], size: usize, modes: [BorderMode; 3]) -> Result<()
     Ok(())
 }
 
-// The number of a call of uniform_filter1d, which fills its output where that is 0.
+// Judges a call of uniform_filter1d; only an accepted one fills its output.
 //
 // * `data` - the cells of the grid, in row-major order.
 // * `shape` - the length of each axis.
@@ -96,7 +96,7 @@ fn judge_axes(shape: &[usize], size: usize, modes: [BorderMode; 3]) -> Result<()
 // * `out` - how many cells the lent output has.
 //
 // Refuses: 1 (shape), 2 (length), 3 (level), 5 (kernel), 8 (axis), 9 (constant), 11 (reach). Three cells under Mirror
-// with size 5 give 0, with size 7 11.
+// pass with size 5, and give 11 with size 7.
 pub fn judge_uniform1d(
     data: &[i64],
     shape: &[usize],
@@ -112,15 +112,16 @@ pub fn judge_uniform1d(
     judge_along(shape, size, axis, mode)
 }
 
-// The number of a call of uniform_filter, which sweeps every axis and fills its output where that is 0.
+// Judges a call of uniform_filter, which sweeps every axis; only an accepted one fills its output.
 //
 // * `data`, `shape`, `out` - as in `judge_uniform1d`.
 // * `size` - the length of the window on every axis.
 // * `modes` - the border of each axis; those past the axis count are not read.
 // * `second` - how many cells the second lent grid has.
 //
-// Refuses: 1 (shape), 2 (length), 3 (level), 5 (kernel), 9 (constant), 11 (reach). One cell under Nearest with size 3
-// gives 0, with size 5 11; 9 by 2 cells with size 5 under Nearest and Mirror 11, under Mirror and Nearest 0.
+// Refuses: 1 (shape), 2 (length), 3 (level), 5 (kernel), 9 (constant), 11 (reach). One cell under Nearest passes with
+// size 3, and gives 11 with size 5; 9 by 2 cells with size 5 give 11 under Nearest and Mirror, and pass under Mirror
+// and Nearest.
 pub fn judge_uniform(
     data: &[i64],
     shape: &[usize],
