@@ -24,10 +24,8 @@ fn vote_inside(counts: &[u8], m: u8, a: usize, out: &mut [bool])
     let inner = counts.len() - 2;
     let half_of_three = (m * 3 - 1) / 2;
     let b = a + 1;
-    let mut i = 0;
-    while i < inner {
+    for i in 0..inner {
         out[b + i] = half_of_three < counts[i] + counts[i + 1] + counts[i + 2];
-        i += 1;
     }
 }
 

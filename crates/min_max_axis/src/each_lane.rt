@@ -70,8 +70,7 @@ fn filter_rows(
     let n = along.len;
     let count = along.count;
     let mut base = 0;
-    let mut lane = 0;
-    while lane < count {
+    for lane in 0..count {
         let e = base + n;
         filter_lane(
             extreme,
@@ -85,7 +84,6 @@ fn filter_rows(
             &mut out[base..e],
         );
         base = e;
-        lane += 1;
     }
 }
 
@@ -116,8 +114,7 @@ fn filter_lanes(
         place: 0,
         offset: 0,
     };
-    let mut lane = 0;
-    while lane < count {
+    for lane in 0..count {
         filter_lane(
             extreme,
             mode,
@@ -131,7 +128,6 @@ fn filter_lanes(
         );
         lane_cells::write_from(swept, stride, lane, start.place, out);
         start = lanes::next_start(n, stride, lane, start);
-        lane += 1;
     }
 }
 

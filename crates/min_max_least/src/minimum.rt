@@ -20,9 +20,8 @@ fn minimum_cells(line: &[i64], len: usize, out: &mut [i64])
     let mut death = len;
     pairs[0] = Pair { val: front, death };
     let mut count = 1usize;
-    let mut i = 1;
     // The first window fills: no pair dies, and nothing is written.
-    while i + 1 < len {
+    for i in 1..len - 1 {
         let v = line[i];
         if v <= front {
             front = v;
@@ -32,7 +31,7 @@ fn minimum_cells(line: &[i64], len: usize, out: &mut [i64])
         } else {
             let mut last = line[i - 1];
             while v <= last {
-                count = count - 1;
+                count -= 1;
                 let b = count - 1;
                 let p = pairs[b];
                 last = p.val;
@@ -41,17 +40,16 @@ fn minimum_cells(line: &[i64], len: usize, out: &mut [i64])
                 val: v,
                 death: i + len,
             };
-            count = count + 1;
+            count += 1;
         }
-        i += 1;
     }
     // Every further cell ends a window.
     let mut start = 0usize;
-    while i < line.len() {
+    for i in len - 1..line.len() {
         let v = line[i];
         if death == i {
             start = place(start + 1);
-            count = count - 1;
+            count -= 1;
             let p = pairs[start];
             front = p.val;
             death = p.death;
@@ -64,7 +62,7 @@ fn minimum_cells(line: &[i64], len: usize, out: &mut [i64])
         } else {
             let mut last = line[i - 1];
             while v <= last {
-                count = count - 1;
+                count -= 1;
                 let b = place(start + count - 1);
                 let p = pairs[b];
                 last = p.val;
@@ -74,11 +72,10 @@ fn minimum_cells(line: &[i64], len: usize, out: &mut [i64])
                 val: v,
                 death: i + len,
             };
-            count = count + 1;
+            count += 1;
         }
         let at = i + 1 - len;
         out[at] = front;
-        i += 1;
     }
 }
 
@@ -89,9 +86,9 @@ pub fn minimum_windows(line: &[i64], len: usize, out: &mut [i64])
 {
     if len == 3 {
         three_cells(false, line, out);
-        return;
+    } else {
+        minimum_cells(line, len, out);
     }
-    minimum_cells(line, len, out);
 }
 
 // Writes the least of each window of a line.
@@ -104,8 +101,7 @@ pub fn minimum_windows(line: &[i64], len: usize, out: &mut [i64])
 pub fn minimum_line(line: &[i64], len: usize, out: &mut [i64])
     ensures { out.new ≡ swept_by le_z line.now len out.old }
 {
-    if !serves(line.len(), len, out.len()) {
-        return;
+    if serves(line.len(), len, out.len()) {
+        minimum_windows(line, len, out);
     }
-    minimum_windows(line, len, out);
 }

@@ -19,6 +19,7 @@ pub struct Pair {
 
 // The place of the ring that is k places from its array's start, at most once round the end: 64 is place 64, 65 is
 // place 0.
+#[tactic(auto, unfolding(crate::specs::Ring::ring_place))]
 pub fn place(k: usize) -> usize
     ensures { result ≡ ring_place k }
 {
@@ -38,19 +39,10 @@ pub fn place(k: usize) -> usize
 pub fn serves(n: usize, len: usize, m: usize) -> bool
     ensures { result ≡ serving n len m }
 {
-    if len < 2 {
-        return false;
-    }
-    if numbers::LONGEST_WINDOW < len {
-        return false;
-    }
-    if numbers::LONGEST_LINE < n {
-        return false;
-    }
-    if n + 1 < len {
-        return false;
-    }
-    m == n + 1 - len
+    (2..=numbers::LONGEST_WINDOW).contains(&len)
+        && n <= numbers::LONGEST_LINE
+        && len <= n + 1
+        && m == n + 1 - len
 }
 
 // Worked rows of this crate's definitions.

@@ -10,16 +10,7 @@ ghost use Rattle.min_max_ring.specs.Extremes.{extremes, order_by};
 fn first_of(greatest: bool, a: i64, b: i64) -> i64
     ensures { result ≡ extreme_from (order_by greatest) a (b ∷ []) }
 {
-    if greatest {
-        if a < b {
-            return b;
-        }
-        return a;
-    }
-    if b < a {
-        return b;
-    }
-    a
+    if greatest { a.max(b) } else { a.min(b) }
 }
 
 // Writes to each cell i of out the greatest of line[i .. i + 3] where greatest is true, else the least.
@@ -30,16 +21,13 @@ pub fn three_cells(greatest: bool, line: &[i64], out: &mut [i64])
     requires { length out.old + 3 ≡ length line.now + 1 }
     ensures { out.new ≡ extremes (order_by greatest) line.now 3 (length out.old) }
 {
-    let n = out.len();
     let mut x0 = line[0];
     let mut x1 = line[1];
-    let mut i = 0;
-    while i < n {
+    for i in 0..out.len() {
         let x2 = line[i + 2];
         let two = first_of(greatest, x0, x1);
         out[i] = first_of(greatest, two, x2);
         x0 = x1;
         x1 = x2;
-        i += 1;
     }
 }

@@ -4,12 +4,7 @@ use Prim.Native.Nat.{◌+◌, ◌-◌, ◌≤◌}
 use lib.ListN.{length}
 use Rattle.numbers.proofs.Stored.{Stored}
 use Rattle.median_spec.specs.ByRows.{voted_at, in_row}
-use Rattle.median_votes.proofs.votes.vote_inside.Reads as reads
-use Rattle.median_votes.proofs.votes.vote_inside.Lts as lts
 use Rattle.median_votes.proofs.votes.vote_inside.Given as goal
 
 abbrev pub invariant-loop-i : goal.invariant-loop-i
-invariant-loop-i l = (l.i ≤ l.inner) × (l.a + length l.counts ≤ length l.initial.out) × Stored false (in_row (l.a + 1) l.i) (λ k. voted_at l.counts l.m (k - l.a)) l.initial.out l.out
-
-abbrev pub decreases-loop-i : goal.decreases-loop-i
-decreases-loop-i l = l.inner - l.i
+invariant-loop-i l = (l.a + length l.counts ≤ length l.initial.out) × Stored false (in_row (l.a + 1) l.i) (λ k. voted_at l.counts l.m (k - l.a)) l.initial.out l.out

@@ -1,7 +1,5 @@
 -- `min_max_axis::each_lane::filter_lanes` meets its contract: the lanes below the one that the loop has reached are written.
-use Prim.Native.Nat.{◌-◌}
 use mathlib.Core.Path.{refl}
-use native.Mathlib.Omega.{arith}
 use Rattle.pad_line.proofs.ColumnLoop.{column_none, column_needs, column_write, column_step, column_more, column_all}
 use borrow.Author.Rules.{rules}
 use Rattle.min_max_axis.proofs.each_lane.filter_lanes.Goals as goal
@@ -18,9 +16,6 @@ write_from-requires c = let k = c in
 
 pub next_start-start-requires : goal.next_start-start-requires
 next_start-start-requires c = let k = c in column_step k.loop-lane.invariant k.loop-lane-test.true
-
-pub overflow_add-lane : goal.overflow_add-lane
-overflow_add-lane c = let k = c in omega (arith, k.loop-lane-test.true, k.lanes_of-along.type_inv)
 
 pub loop-lane-preserved : goal.loop-lane-preserved
 loop-lane-preserved c = let k = c in let f = c.filter_lane in

@@ -1,5 +1,4 @@
 -- `min_max_axis::each_lane::filter_rows` meets its contract: the lanes below the one that the loop has reached are written, each as a part of out.
-use Prim.Native.Nat.{◌-◌}
 use mathlib.Core.Path.{refl}
 use native.Mathlib.Omega.{arith}
 use Rattle.pad_line.proofs.RowLoop.{row_none, row_small, row_needs, row_more, row_all}

@@ -1,6 +1,5 @@
 -- `maximum_cells` meets its contract, from the ring's laws at the order ≥: the ring covers the cells of the window, so its front is the greatest.
 -- The answers stand in the order of the code; `search rules` closes the bounds of indexes and sums.
-use borrow.Author.Count.{falls_down}
 use mathlib.Core.Path.{refl}
 use mir.Syntax.{w64}
 use mir.Val.{to_z}
@@ -11,28 +10,16 @@ use lib.ListN.{replicate}
 use Rattle.numbers.proofs.IntOrder.{total_≥}
 use Rattle.numbers.proofs.Read.{read}
 use Rattle.min_max_ring.specs.Ring.{no_pair}
-use Rattle.min_max_ring.proofs.Ring.{Ring, ring_replaced, ring_popped, ring_kept, ring_pushed, trim_two, trim_more}
-use Rattle.min_max_ring.proofs.Steps.{slot_fits, next_in, back_sum, back_in, behind_sum, behind_in, fill_begun, fill_trim, fill_trim_more, fill_pushed, sweep_begun, sweep_trim, sweep_more, sweep_ended}
+use Rattle.min_max_ring.proofs.Ring.{Ring, ring_replaced, ring_popped, ring_kept, ring_pushed, trim_more}
+use Rattle.min_max_ring.proofs.Steps.{slot_fits, next_in, back_in, behind_in, fill_begun, fill_trim, fill_trim_more, fill_pushed, sweep_trim, sweep_more, sweep_ended}
 use Rattle.min_max_greatest.proofs.maximum.maximum_cells.Goals as goal
 use Rattle.min_max_greatest.proofs.maximum.maximum_cells.Goals.{then-front-v, else-front-v+else-loop-last-test, then-death-i, else-death-i, then-front-v-2, else-front-v-2+else-loop-last-else-front-v-2-test}
 
 pub loop-i-init : goal.loop-i-init
 loop-i-init c = fill_begun total_≥ (replicate 65 no_pair) c.requires.wide c.requires.narrow refl (read c.front-1.given refl)
 
-pub overflow_sub-last : goal.overflow_sub-last
-overflow_sub-last c = c.loop-i.invariant.ring.low
-
 pub loop-last-init : goal.loop-last-init
 loop-last-init c = fill_trim total_≥ c.loop-i.invariant (read c.last-1.given refl)
-
-pub overflow_sub-count : goal.overflow_sub-count
-overflow_sub-count c = c.loop-last.invariant.some
-
-pub overflow_sub-b : goal.overflow_sub-b
-overflow_sub-b c = omega (arith, trim_two total_≥ c.loop-last.invariant c.if-front-v.false c.loop-last-test.true)
-
-pub loop-last-smaller : goal.loop-last-smaller
-loop-last-smaller c = falls_down _ c.loop-last.invariant.some
 
 pub loop-last-preserved : goal.loop-last-preserved
 loop-last-preserved c = let m = c in
@@ -40,7 +27,7 @@ loop-last-preserved c = let m = c in
 
 pub loop-i-preserved : goal.loop-i-preserved
 loop-i-preserved c = let is = read c.v-1.given refl in record {
-  short = c.loop-i-test.true;
+  short = omega arith;
   ring =
       elim c.if-front-v.branch [
         | then-front-v w ↦ rw (w.pairs-is, w.front-is-bits, w.death-is, w.count-is) (ring_replaced total_≥ c.loop-i.invariant.ring is w.if-front-v.true)
@@ -48,15 +35,6 @@ loop-i-preserved c = let is = read c.v-1.given refl in record {
             rw (w.pairs-is, w.front-is-bits, w.death-is, w.count-is) (fill_pushed total_≥ w.loop-last.invariant is w.loop-last-test.false)
       ];
 }
-
-pub loop-i-2-init : goal.loop-i-2-init
-loop-i-2-init c = sweep_begun total_≥ _ c.loop-i.invariant c.loop-i-test.false c.requires
-
-pub place-start-requires : goal.place-start-requires
-place-start-requires c = tt
-
-pub overflow_sub-count-then-death-i : goal.overflow_sub-count-then-death-i
-overflow_sub-count-then-death-i c = c.loop-i-2.invariant.ring.some
 
 pub offset_bounds-pairs-start : goal.offset_bounds-pairs-start
 offset_bounds-pairs-start c = slot_fits (next_in c.loop-i-2.invariant.ring c.place-start.ensures)
@@ -97,36 +75,15 @@ loop-last-else-front-v-2-init c = let j = c in sweep_trim total_≥ j.loop-i-2.i
     ] in
     aged) (read c.last-else-front-v-2-1.given refl)
 
-pub overflow_sub-count-in-loop-last-else-front-v-2 : goal.overflow_sub-count-in-loop-last-else-front-v-2
-overflow_sub-count-in-loop-last-else-front-v-2 c = c.loop-last-else-front-v-2.invariant.some
-
-pub overflow_add-start-in-loop-last-else-front-v-2 : goal.overflow_add-start-in-loop-last-else-front-v-2
-overflow_add-start-in-loop-last-else-front-v-2 c = back_sum c.loop-last-else-front-v-2.invariant
-
-pub overflow_sub-start : goal.overflow_sub-start
-overflow_sub-start c = omega (arith, trim_two total_≥ c.loop-last-else-front-v-2.invariant c.if-front-v-2.false c.loop-last-else-front-v-2-test.true)
-
-pub place-b-requires : goal.place-b-requires
-place-b-requires c = tt
-
 pub offset_bounds-pairs-b-in-loop-last-else-front-v-2 : goal.offset_bounds-pairs-b-in-loop-last-else-front-v-2
 offset_bounds-pairs-b-in-loop-last-else-front-v-2 c = slot_fits (back_in c.loop-last-else-front-v-2.invariant c.place-b.ensures)
 
 pub bounds-pairs-b-in-loop-last-else-front-v-2 : goal.bounds-pairs-b-in-loop-last-else-front-v-2
 bounds-pairs-b-in-loop-last-else-front-v-2 c = back_in c.loop-last-else-front-v-2.invariant c.place-b.ensures
 
-pub loop-last-else-front-v-2-smaller : goal.loop-last-else-front-v-2-smaller
-loop-last-else-front-v-2-smaller c = falls_down _ c.loop-last-else-front-v-2.invariant.some
-
 pub loop-last-else-front-v-2-preserved : goal.loop-last-else-front-v-2-preserved
 loop-last-else-front-v-2-preserved c = let u = c in let m = u in
     trim_more total_≥ m.loop-last-else-front-v-2.invariant m.if-front-v-2.false u.loop-last-else-front-v-2-test.true u.place-b.ensures (read c.struct_told-in-loop-last-else-front-v-2-1.given.0.1 refl)
-
-pub overflow_add-start-else-front-v-2 : goal.overflow_add-start-else-front-v-2
-overflow_add-start-else-front-v-2 c = behind_sum c.loop-last-else-front-v-2.invariant
-
-pub place-b-requires-else-front-v-2 : goal.place-b-requires-else-front-v-2
-place-b-requires-else-front-v-2 c = tt
 
 pub offset_bounds-pairs-b-else-front-v-2 : goal.offset_bounds-pairs-b-else-front-v-2
 offset_bounds-pairs-b-else-front-v-2 c = slot_fits (behind_in c.loop-last-else-front-v-2.invariant c.place-b-else-front-v-2.ensures)

@@ -1,23 +1,16 @@
 -- `maximum_line` meets its contract: what the ring serves is filled by `maximum_windows`, all else stays.
-use mathlib.Core.Path.{◌≡◌, ◌∙◌}
-use mathlib.Core.Bool.{true}
-use lib.ListN.{length}
+use mathlib.Core.Path.{◌∙◌}
 use Rattle.numbers.specs.Order.{at_least}
 use Rattle.numbers.proofs.Tests.{condition_is}
-use Rattle.min_max_ring.specs.Extremes.{serving}
-use Rattle.min_max_ring.proofs.RingNeeds.{served, swept_served, swept_else}
+use Rattle.min_max_ring.proofs.RingNeeds.{swept_served, swept_else}
 use Rattle.min_max_greatest.proofs.maximum.maximum_line.Goals as goal
 
-pub returns-then-not-serves : goal.returns-then-not-serves
-returns-then-not-serves c =
+pub returns-then-serves : goal.returns-then-serves
+returns-then-serves c =
     let a = c.args in
-    swept_else at_least a.line.now a.len a.out.now (condition_is c.serves.ensures (c.if-not-serves.true))
+    c.maximum_windows.ensures ∙ swept_served at_least a.line.now a.len a.out.now (condition_is c.serves.ensures c.if-serves.true)
 
-pub maximum_windows-requires : goal.maximum_windows-requires
-maximum_windows-requires c = served _ _ _ ((let serves_it : let a = c.args in serving (length a.line.now) a.len (length a.out.now) ≡ true = condition_is c.serves.ensures (c.if-not-serves.false) in serves_it))
-
-pub returns : goal.returns
-returns c =
-    let e = c in
-    let a = e.args in
-    c.maximum_windows.ensures ∙ swept_served at_least a.line.now a.len a.out.now ((let serves_it : let a = e.args in serving (length a.line.now) a.len (length a.out.now) ≡ true = condition_is e.serves.ensures (e.if-not-serves.false) in serves_it))
+pub returns-else-serves : goal.returns-else-serves
+returns-else-serves c =
+    let a = c.args in
+    swept_else at_least a.line.now a.len a.out.now (condition_is c.serves.ensures c.if-serves.false)

@@ -1,10 +1,10 @@
 -- `three_cells` meets its contract: the cells are filled from the front, each with the first of its three. x0 and x1 are the first two cells of the
 -- window that is next. Assumes nothing.
 use mathlib.Core.Path.{◌≡◌}
-use Prim.Native.Nat.{◌+◌, ◌-◌, ◌≤◌}
+use Prim.Native.Nat.{◌+◌}
 use lib.Dec.{ltb}
 use lib.IntN.{pos}
-use lib.ListN.{length, get_or}
+use lib.ListN.{get_or}
 use Rattle.numbers.specs.Order.{extreme}
 use Rattle.numbers.specs.Windows.{window_of}
 use Rattle.numbers.proofs.Stored.{Stored}
@@ -13,8 +13,5 @@ use Rattle.min_max_three.proofs.windows.three_cells.Given as goal
 
 abbrev pub invariant-loop-i : goal.invariant-loop-i
 invariant-loop-i l =
-    (l.i ≤ l.n) × (l.n ≡ length l.initial.out) × (l.x0 ≡ get_or l.line l.i (pos 0)) × (l.x1 ≡ get_or l.line (l.i + 1) (pos 0))
+    (l.x0 ≡ get_or l.line l.i (pos 0)) × (l.x1 ≡ get_or l.line (l.i + 1) (pos 0))
     × Stored (pos 0) (λ k. ltb k l.i) (λ k. extreme (order_by l.greatest) (pos 0) (window_of l.line k 3)) l.initial.out l.out
-
-abbrev pub decreases-loop-i : goal.decreases-loop-i
-decreases-loop-i l = l.n - l.i
