@@ -127,7 +127,7 @@ fn number_of(text: &[u8]) -> u8 {
     let mut levels = [0; 1];
     let start = grid_text::start();
     let state = grid_text::feed(start, text, &mut lengths, &mut levels);
-    grid_text::finish(state)
+    numbers::answer_number(grid_text::finish(state))
 }
 
 // A text of three cells in two parts: the length and the levels that it stores, and its number; then the numbers of the
@@ -140,7 +140,10 @@ fn texts(rt: &impl Print) {
     let state = grid_text::feed(half, b"2 7\n", &mut lengths, &mut levels);
     examples_print::line(rt, lengths[0]);
     examples_print::levels(rt, &levels);
-    examples_print::line(rt, grid_text::finish(state) as usize);
+    examples_print::line(
+        rt,
+        numbers::answer_number(grid_text::finish(state)) as usize,
+    );
     examples_print::line(rt, number_of(b"") as usize);
     examples_print::line(rt, number_of(b"9 x") as usize);
     examples_print::line(rt, number_of(b"3 1024 1024") as usize);

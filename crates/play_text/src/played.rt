@@ -56,7 +56,7 @@ pub fn answer(
     if number != 0 {
         return number;
     }
-    let refusal = grid_text::finish(state);
+    let refusal = numbers::answer_number(grid_text::finish(state));
     if refusal != 0 {
         return refusal;
     }
