@@ -12,10 +12,7 @@ fn past_around(n: usize, i: usize) -> usize
     requires { (i < n) × (n ≤ most_cells) }
     ensures { result ≡ min (i + 2) n }
 {
-    if i + 1 == n {
-        return n;
-    }
-    i + 2
+    n.min(i + 2)
 }
 
 // The coordinates of cell i and its neighbours inside an axis of n cells.
@@ -23,11 +20,10 @@ fn around(n: usize, i: usize) -> Span
     requires { (i < n) × (n ≤ most_cells) }
     ensures { result ≡ span_of n i }
 {
-    let to = past_around(n, i);
-    if i == 0 {
-        return Span { from: 0, to };
+    Span {
+        from: i.saturating_sub(1),
+        to: past_around(n, i),
     }
-    Span { from: i - 1, to }
 }
 
 // Adds 1 to each count whose cell of the row is true.
@@ -35,11 +31,8 @@ fn add_row(row: &[bool], counts: &mut [u8])
     requires { (length row.now ≡ length counts.old) × Room (λ z. one (get_or row.now z false)) counts.old }
     ensures { counts.new ≡ added (λ z. one (get_or row.now z false)) counts.old }
 {
-    let n = counts.len();
-    let mut i = 0;
-    while i < n {
-        counts[i] = counts[i] + row[i] as u8;
-        i += 1;
+    for i in 0..counts.len() {
+        counts[i] += row[i] as u8;
     }
 }
 
@@ -51,13 +44,9 @@ fn add_plane(mask: &[bool], rows: usize, ys: Span, x: usize, counts: &mut [u8])
         x) counts.old }
 {
     let n = counts.len();
-    let end = ys.to;
-    let mut y = ys.from;
-    while y < end {
+    for y in ys.from..ys.to {
         let a = (x * rows + y) * n;
-        let e = a + n;
-        add_row(&mask[a..e], counts);
-        y += 1;
+        add_row(&mask[a..a + n], counts);
     }
 }
 
@@ -68,11 +57,8 @@ fn add_planes(mask: &[bool], rows: usize, xs: Span, ys: Span, counts: &mut [u8])
     ensures { counts.new ≡ added (column_count mask.now rows (length counts.old) xs
         ys) counts.old }
 {
-    let end = xs.to;
-    let mut x = xs.from;
-    while x < end {
+    for x in xs.from..xs.to {
         add_plane(mask, rows, ys, x, counts);
-        x += 1;
     }
 }
 
@@ -113,10 +99,7 @@ pub fn median_rows(mask: &[bool], planes: usize, rows: usize, n: usize, out: &mu
     requires { MaskNeeds planes rows n mask.now × (length out.old ≡ length mask.now) }
     ensures { out.new ≡ median_answer (planes ∷ rows ∷ n ∷ []) mask.now }
 {
-    let count = planes * rows;
-    let mut r = 0;
-    while r < count {
+    for r in 0..planes * rows {
         set_row(mask, planes, rows, n, r, out);
-        r += 1;
     }
 }

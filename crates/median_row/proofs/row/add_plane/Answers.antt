@@ -19,8 +19,8 @@ overflow_add-a c = let s = c in omega (arith, rows_few s.requires.0)
 pub overflow_mul-a-in-loop-y : goal.overflow_mul-a-in-loop-y
 overflow_mul-a-in-loop-y c = let s = c in omega (arith, row_small s.requires.0 _ ((let row_below : let s = c in s.args.x * s.args.rows + c.loop-y.y < s.args.x * s.args.rows + s.args.ys.to = search rules in row_below)))
 
-pub overflow_add-e : goal.overflow_add-e
-overflow_add-e c = let s = c in omega (arith, row_small s.requires.0 _ ((let row_below : let s = c in s.args.x * s.args.rows + c.loop-y.y < s.args.x * s.args.rows + s.args.ys.to = search rules in row_below)))
+pub overflow_add-a-in-loop-y : goal.overflow_add-add_row-end
+overflow_add-a-in-loop-y c = let s = c in omega (arith, row_small s.requires.0 _ ((let row_below : let s = c in s.args.x * s.args.rows + c.loop-y.y < s.args.x * s.args.rows + s.args.ys.to = search rules in row_below)))
 
 pub slice_bounds-add_row-end : goal.slice_bounds-add_row-end
 slice_bounds-add_row-end c = let s = c in row_in s.requires.0 _ ((let row_below : let s = c in s.args.x * s.args.rows + c.loop-y.y < s.args.x * s.args.rows + s.args.ys.to = search rules in row_below))
@@ -31,9 +31,6 @@ add_row-requires c =
     let l = c.loop-y in
     let h = (let row_below : let s = c in s.args.x * s.args.rows + c.loop-y.y < s.args.x * s.args.rows + s.args.ys.to = search rules in row_below) in
     (part_long s.requires.0 _ h ∙ sym l.invariant.kept, part_room s.requires.0 _ h l.counts l.invariant.kept (adding_room l.invariant (search rules) s.requires.1))
-
-pub overflow_add-y : goal.overflow_add-y
-overflow_add-y c = let s = c in omega (arith, rows_few s.requires.0)
 
 pub loop-y-preserved : goal.loop-y-preserved
 loop-y-preserved c =

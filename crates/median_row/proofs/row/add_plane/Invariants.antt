@@ -6,7 +6,4 @@ use Rattle.median_spec.proofs.Adding.{Adding}
 use Rattle.median_row.proofs.row.add_plane.Given as goal
 
 abbrev pub invariant-loop-y : goal.invariant-loop-y
-invariant-loop-y l = Adding (cell_of l.mask l.rows (length l.initial.counts) l.x) l.initial.y l.end l.initial.counts l.y l.counts
-
-abbrev pub decreases-loop-y : goal.decreases-loop-y
-decreases-loop-y l = l.end - l.y
+invariant-loop-y l = Adding (cell_of l.mask l.rows (length l.initial.counts) l.x) l.fn.ys.from l.fn.ys.to l.initial.counts l.y l.counts

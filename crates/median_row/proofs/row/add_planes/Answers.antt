@@ -19,9 +19,6 @@ add_plane-requires c =
     (sym l.invariant.kept)
     (plane_reaches s.requires.0 l.x s.args.ys.to (search rules) s.requires.2, adding_room l.invariant (search rules) s.requires.3)
 
-pub overflow_add-x : goal.overflow_add-x
-overflow_add-x c = let s = c in omega (arith, planes_few s.requires.0 s.requires.1)
-
 pub loop-x-preserved : goal.loop-x-preserved
 loop-x-preserved c =
     let s = c in

@@ -6,7 +6,4 @@ use Rattle.median_spec.proofs.Adding.{Adding}
 use Rattle.median_row.proofs.row.add_planes.Given as goal
 
 abbrev pub invariant-loop-x : goal.invariant-loop-x
-invariant-loop-x l = Adding (plane_count l.mask l.rows (length l.initial.counts) l.ys) l.initial.x l.end l.initial.counts l.x l.counts
-
-abbrev pub decreases-loop-x : goal.decreases-loop-x
-decreases-loop-x l = l.end - l.x
+invariant-loop-x l = Adding (plane_count l.mask l.rows (length l.initial.counts) l.ys) l.fn.xs.from l.fn.xs.to l.initial.counts l.x l.counts

@@ -8,7 +8,4 @@ use Rattle.median_spec.proofs.Adding.{plus}
 use Rattle.median_row.proofs.row.add_row.Given as goal
 
 abbrev pub invariant-loop-i : goal.invariant-loop-i
-invariant-loop-i l = (l.i ≤ l.n) × (l.n ≡ length l.initial.counts) × Stored 0 (λ k. ltb k l.i) (plus l.initial.counts l.row) l.initial.counts l.counts
-
-abbrev pub decreases-loop-i : goal.decreases-loop-i
-decreases-loop-i l = l.n - l.i
+invariant-loop-i l = Stored 0 (λ k. ltb k l.i) (plus l.initial.counts l.row) l.initial.counts l.counts

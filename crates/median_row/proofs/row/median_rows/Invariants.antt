@@ -7,7 +7,4 @@ use Rattle.median_spec.specs.ByRows.{median_of_place}
 use Rattle.median_row.proofs.row.median_rows.Given as goal
 
 abbrev pub invariant-loop-r : goal.invariant-loop-r
-invariant-loop-r l = (l.r ≤ l.count) × Stored false (λ k. ltb k (l.r * l.n)) (median_of_place l.planes l.rows l.n l.mask) l.initial.out l.out
-
-abbrev pub decreases-loop-r : goal.decreases-loop-r
-decreases-loop-r l = l.count - l.r
+invariant-loop-r l = Stored false (λ k. ltb k (l.r * l.n)) (median_of_place l.planes l.rows l.n l.mask) l.initial.out l.out
