@@ -10,59 +10,44 @@ ghost use Rattle.symmetry_spec.specs.Class.{exceeds, pair_differs, differ_z, dif
 use direction::weight_at_f64;
 use symmetry_spec::SymmetryState;
 
-// f64::EPSILON, which is 2^-52.
-const EPSILON: f64 = 2.220446049250313e-16;
-
-// i64::MIN, whose negative is no i64.
-const LEAST: i64 = -9223372036854775808;
-
-// Whether |x| > 2^-52.
+// Whether |x| > 2^-52, which is f64::EPSILON.
 fn above_epsilon(x: f64) -> bool
     ensures { result ≡ exceeds x }
 {
-    if x > EPSILON {
-        return true;
-    }
-    x < -EPSILON
+    x > f64::EPSILON || x < -f64::EPSILON
 }
 
-// Whether a pair differs, the left weight's sign turned where `turned` says so. No weight is the negative of LEAST.
+// Whether a pair differs, the left weight's sign turned where `turned` says so. No i64 is the negative of i64::MIN.
 fn differ_i64(right: i64, left: i64, turned: bool) -> bool
     ensures { result ≡ differ_z turned right left }
 {
     if turned {
-        if left == LEAST {
-            return true;
-        }
-        return right != -left;
+        left == i64::MIN || right != -left
+    } else {
+        right != left
     }
-    right != left
 }
 
 // The same of floats, by the rounded difference, or the rounded sum.
 fn differ_f64(right: f64, left: f64, turned: bool) -> bool
     ensures { result ≡ differ_f turned right left }
 {
-    if turned {
-        return above_epsilon(right + left);
-    }
-    above_epsilon(right - left)
+    let apart = if turned { right + left } else { right - left };
+    above_epsilon(apart)
 }
 
-// `state`, unless a mirrored pair differs: the loop is left at the first one that does.
+// `state`, unless a mirrored pair differs.
 fn check_pairs_i64(weights: &[i64], turned: bool, state: SymmetryState) -> SymmetryState
     requires { length weights.now % 2 ≡ 1 }
     ensures { result ≡ cond (pair_differs (differ_z turned) (pos 0) weights.now) NonSymmetric state }
 {
     let half = weights.len() / 2;
-    let mut found = state;
     for i in 1..=half {
         if differ_i64(weights[half + i], weights[half - i], turned) {
-            found = SymmetryState::NonSymmetric;
-            break;
+            return SymmetryState::NonSymmetric;
         }
     }
-    found
+    state
 }
 
 // The same of floats, of the weights as they are applied.
@@ -77,16 +62,14 @@ fn check_pairs_f64(
         NonSymmetric state }
 {
     let middle = weights.len() / 2;
-    let mut found = state;
     for i in 1..=middle {
         let right = weight_at_f64(weights, backward, middle + i);
         let left = weight_at_f64(weights, backward, middle - i);
         if differ_f64(right, left, turned) {
-            found = SymmetryState::NonSymmetric;
-            break;
+            return SymmetryState::NonSymmetric;
         }
     }
-    found
+    state
 }
 
 // The symmetry class of whole weights.

@@ -60,8 +60,7 @@ fn average_lanes(
         place: 0,
         offset: 0,
     };
-    let mut lane = 0;
-    while lane < count {
+    for lane in 0..count {
         average_lane(
             mode,
             data,
@@ -75,7 +74,6 @@ fn average_lanes(
             out,
         );
         start = lanes::next_start(n, stride, lane, start);
-        lane += 1;
     }
 }
 

@@ -1,18 +1,17 @@
 -- The quotient of a sum that fits 32 bits, by way of 32 bits: nothing is lost on the way there and back.
 -- Assumes nothing.
-use Prim.Native.Nat.{ℕ, ◌^◌, ◌≤◌, ◌<◌}
+use Prim.Native.Nat.{ℕ, ◌≤◌}
 use mathlib.Core.Path.{◌≡◌, sym, ap, subst, ◌∙◌}
 use mathlib.Core.Bool.{false}
 use native.Mathlib.Omega.{arith}
-use lib.IntN.{ℤ, pos, neg_ℤ, negsuc}
-use lib.Signed.{quot_z, mag, lt_z}
+use lib.IntN.{ℤ, pos, neg_ℤ}
+use lib.Signed.{quot_z}
 use mir.Syntax.{w32, w64}
 use mir.Val.{SFits, to_z, of_z}
 use mir.ValLaws.{to_z-of_z}
 use Rattle.numbers.specs.Ranges.{outside_z}
 use Rattle.numbers.proofs.Quotient.{quot_fits, quot_asked, quot_given}
-use Rattle.numbers.proofs.Read as stored
-use Rattle.numbers.proofs.Size.{Size, size_inside, inside_sized, size_tested, fits_at, fits_size}
+use Rattle.numbers.proofs.Size.{Size, size_inside, fits_at, fits_size}
 use Rattle.correlate_spec.proofs.Computed.{read}
 use Rattle.uniform_spec.specs.Mean.{cut}
 
@@ -37,11 +36,3 @@ module _ (z : ℤ) (n : ℕ) (few : n ≤ 65) (small : outside_z (neg_ℤ (pos 2
 
   pub narrow_read : read (to_z w32 (of_z w32 (quot_z (to_z w32 (of_z w32 (read z))) (to_z w32 n)))) ≡ cut z n
   narrow_read = to_z-of_z w64 _ wide_fits ∙ narrow_given
-
--- what two tests leave
-pub tested : (z : ℤ) → lt_z (pos 2147483647) z ≡ false → lt_z z (negsuc 2147483646) ≡ false → outside_z (neg_ℤ (pos 2147483647)) (pos 2147483647) z ≡ false
-tested z h l = inside_sized 2147483647 z (size_tested 2147483646 2147483647 2147483647 z l h (omega arith) (omega arith))
-
--- a quotient r of a sum z, as it was handed on and back
-pub cut-read : {r : ℤ} (z : ℤ) (n : ℕ) → SFits w64 z → mag r < 2 ^ 63 → r ≡ cut (read z) n → read r ≡ cut z n
-cut-read z n f b e = stored.read b (e ∙ ap (λ x. cut x n) (to_z-of_z w64 z f))

@@ -32,10 +32,7 @@ fn cut_mean(total: i64, size: usize) -> i64
     requires { (0 < size) × (size ≤ 65) }
     ensures { result ≡ cut total size }
 {
-    if total > 2147483647 {
-        return cut_wide(total, size);
-    }
-    if total < -2147483647 {
+    if total > 2147483647 || total < -2147483647 {
         return cut_wide(total, size);
     }
     cut_narrow(total, size)
@@ -59,13 +56,11 @@ pub fn uniform_lane(
 {
     let before = size - 1;
     let mut sum = sum_of(window(line, 0, before));
-    let mut i = 0;
-    while i < n {
+    for i in 0..n {
         let total = sum + line[i + before];
         let mean = cut_mean(total, size);
         let at = base + i * stride;
         out[at] = mean;
         sum = total - line[i];
-        i += 1;
     }
 }

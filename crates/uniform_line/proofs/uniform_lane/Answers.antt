@@ -1,5 +1,5 @@
 -- `uniform_lane` meets its contract. The loop's invariant: `sum` is the sum of the cells that the windows before and at `i` share, and the means
--- before `i` are written to the lane. The measure is what is left of the lane.
+-- before `i` are written to the lane.
 use mathlib.Core.Path.{sym, ap, subst, ◌∙◌}
 use Prim.Native.Nat.{◌+◌, ◌*◌, ◌-◌, ◌<◌}
 use native.Mathlib.Omega.{arith}
@@ -22,13 +22,13 @@ sum_of-sum-requires c =
     subst SumNeeds (sym c.window.ensures) (window_summable s.args.line.now (cells s.requires.0) _ _ (omega (arith, s.requires.0.few)))
 
 pub loop-i-init : goal.loop-i-init
-loop-i-init c = (search rules, read c.sum_of-sum.type_inv (c.sum_of-sum.ensures ∙ ap sum_of c.window.ensures), written_none (pos 0) _ _ _ _)
+loop-i-init c = (read c.sum_of-sum.type_inv (c.sum_of-sum.ensures ∙ ap sum_of c.window.ensures), written_none (pos 0) _ _ _ _)
 
 pub overflow_add-total-in-loop-i : goal.overflow_add-total-in-loop-i
 overflow_add-total-in-loop-i c =
     let s = c in
     let l = c.loop-i in
-    (sum_computed s.args.line.now (cells s.requires.0) (s.args.size - 1) l.i (omega (arith, s.requires.0.few)) l.invariant.1 _).fits
+    (sum_computed s.args.line.now (cells s.requires.0) (s.args.size - 1) l.i (omega (arith, s.requires.0.few)) l.invariant.0 _).fits
 
 pub overflow_mul-at : goal.overflow_mul-at
 overflow_mul-at c = omega (arith, (let at_in : let s = c in s.args.base + c.loop-i.i * s.args.stride < length s.args.out.now = let s = c in index_in s.args.base s.args.stride (length s.args.out.now) c.loop-i-test.true s.requires.4 in at_in))
@@ -40,26 +40,25 @@ pub offset_bounds-out-at : goal.offset_bounds-out-at
 offset_bounds-out-at c = omega (arith, (let at_in : let s = c in s.args.base + c.loop-i.i * s.args.stride < length s.args.out.now = let s = c in index_in s.args.base s.args.stride (length s.args.out.now) c.loop-i-test.true s.requires.4 in at_in))
 
 pub bounds-out-at : goal.bounds-out-at
-bounds-out-at c = omega (arith, (let at_in : let s = c in s.args.base + c.loop-i.i * s.args.stride < length s.args.out.now = let s = c in index_in s.args.base s.args.stride (length s.args.out.now) c.loop-i-test.true s.requires.4 in at_in), c.loop-i.invariant.2.stored.kept)
+bounds-out-at c = omega (arith, (let at_in : let s = c in s.args.base + c.loop-i.i * s.args.stride < length s.args.out.now = let s = c in index_in s.args.base s.args.stride (length s.args.out.now) c.loop-i-test.true s.requires.4 in at_in), c.loop-i.invariant.1.stored.kept)
 
 pub overflow_sub-sum : goal.overflow_sub-sum
 overflow_sub-sum c =
     let s = c in
     let l = c.loop-i in
-    (left_computed s.args.line.now (cells s.requires.0) (s.args.size - 1) l.i (omega (arith, s.requires.0.few)) l.invariant.1 _ _).fits
+    (left_computed s.args.line.now (cells s.requires.0) (s.args.size - 1) l.i (omega (arith, s.requires.0.few)) l.invariant.0 _ _).fits
 
 pub loop-i-preserved : goal.loop-i-preserved
 loop-i-preserved c =
     let s = c in
     let l = c.loop-i in (
-      search rules,
-      left-read s.args.line.now (cells s.requires.0) (s.args.size - 1) l.i (omega (arith, s.requires.0.few)) l.invariant.1 (omega (arith, s.requires.0.some, s.requires.0.long)),
+      left-read s.args.line.now (cells s.requires.0) (s.args.size - 1) l.i (omega (arith, s.requires.0.few)) l.invariant.0 (omega (arith, s.requires.0.some, s.requires.0.long)),
       means-more s.args.line.now s.args.size s.args.n _ s.requires.2 s.requires.3 (search rules) ((let at_in : let s = c in s.args.base + c.loop-i.i * s.args.stride < length s.args.out.now = let s = c in index_in s.args.base s.args.stride (length s.args.out.now) c.loop-i-test.true s.requires.4 in at_in))
-          (read c.cut_mean-mean.type_inv (c.cut_mean-mean.ensures ∙ mean_read s.requires.0 l.i (omega arith) l.invariant.1)) l.invariant.2,
+          (read c.cut_mean-mean.type_inv (c.cut_mean-mean.ensures ∙ mean_read s.requires.0 l.i (omega arith) l.invariant.0)) l.invariant.1,
     )
 
 pub shape_of-out : goal.shape_of-out
-shape_of-out c = c.loop-i.invariant.2.stored.kept
+shape_of-out c = c.loop-i.invariant.1.stored.kept
 
 pub returns : goal.returns
-returns c = let s = c in means-all s.args.line.now s.args.size s.args.n s.requires.1 (omega arith) c.loop-i.invariant.2
+returns c = let s = c in means-all s.args.line.now s.args.size s.args.n s.requires.1 (omega arith) c.loop-i.invariant.1

@@ -1,5 +1,4 @@
 -- `average_lanes` meets its contract: the lanes below the one that the loop has reached are written.
-use Prim.Native.Nat.{◌-◌}
 use mathlib.Core.Path.{refl}
 use native.Mathlib.Omega.{arith}
 use Rattle.pad_line.proofs.EveryLane.{axis_lanes, axis_starts, sweeping_none, lane_needs, write_needs, start_needs, sweeping_more, sweeping_all}
