@@ -46,6 +46,7 @@ fn copy_blocks(
     requires { Runs mode p s blocks left n (length out.old) × (0 < few) }
     ensures { out.new ≡ axis_set mode p s left n out.old }
 {
+    // A `while`, since the last turn takes fewer blocks than `few`.
     let mut first = 0;
     while first < blocks {
         let count = least(few, blocks - first);
@@ -99,9 +100,7 @@ pub fn copy_axes(
     ensures { Fills (mode_along mode) shape.now lefts.now padded.now 0
         (length shape.now) out.old out.new }
 {
-    let mut axis = 0;
-    while axis < shape.len() {
+    for axis in 0..shape.len() {
         copy_axis(mode, shape, lefts, padded, axis, out);
-        axis += 1;
     }
 }

@@ -11,41 +11,33 @@ fn copy_run(from: usize, at: usize, count: usize, out: &mut [i64])
         × ((from + count ≤ at) ⊎ (at + count ≤ from)) }
     ensures { out.new ≡ row_set_lem out.old from count at out.old }
 {
-    let mut j = 0;
-    while j < count {
-        let v = out[from + j];
-        let to = at + j;
-        out[to] = v;
-        j += 1;
+    for j in 0..count {
+        out[at + j] = out[from + j];
     }
 }
 
 // Copies coordinate `from` of an axis onto coordinate `at`, run by run in each of the blocks of p * s cells.
+#[tactic(auto, using(crate::proofs::RunByRun::block_in, crate::proofs::RunByRun::run_in))]
 fn copy_runs(from: usize, at: usize, p: usize, s: usize, blocks: usize, out: &mut [i64])
     requires { (from < p) × (at < p) × (from ≡ at → ⊥) × (0 < s) × (length out.old ≡ blocks * (p * s))
         × (length out.old ≤ most_padded_cells) }
     ensures { out.new ≡ coordinate_set p s from at out.old }
 {
-    let mut block = 0;
-    while block < blocks {
+    for block in 0..blocks {
         let first = block * (p * s);
         copy_run(first + from * s, first + at * s, s, out);
-        block += 1;
     }
 }
 
 // The same where the cells of the axis stand side by side: a run is one cell.
+#[tactic(auto, using(lanes::proofs::Cells::step_le))]
 fn copy_cells(from: usize, at: usize, p: usize, blocks: usize, out: &mut [i64])
     requires { (from < p) × (at < p) × (from ≡ at → ⊥) × (length out.old ≡ blocks * p)
         × (length out.old ≤ most_padded_cells) }
     ensures { out.new ≡ coordinate_set p 1 from at out.old }
 {
-    let mut block = 0;
-    while block < blocks {
-        let v = out[block * p + from];
-        let to = block * p + at;
-        out[to] = v;
-        block += 1;
+    for block in 0..blocks {
+        out[block * p + at] = out[block * p + from];
     }
 }
 

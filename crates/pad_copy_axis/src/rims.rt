@@ -14,13 +14,7 @@ const LONG_RIM: usize = 4;
 fn lane_by_lane(s: usize, blocks: usize, count: usize) -> bool
     ensures { result ≡ true → s ≡ 1 }
 {
-    if s != 1 {
-        return false;
-    }
-    if blocks == 1 {
-        return true;
-    }
-    LONG_RIM <= count
+    s == 1 && (blocks == 1 || LONG_RIM <= count)
 }
 
 // Fills `count` coordinates of the axis, those from `a` on, which are in one rim.
@@ -43,12 +37,10 @@ fn copy_rim(
         copy_side(mode, p, blocks, left, n, a, count, out);
         return;
     }
-    let mut j = 0;
-    while j < count {
+    for j in 0..count {
         let at = a + j;
         let from = read_from(mode, left, n, p, at);
         copy_coordinate(from, at, p, s, blocks, out);
-        j += 1;
     }
 }
 

@@ -45,11 +45,9 @@ fn copy_lanes(
         × (0 < count) × StepsOf mode left n a from up down }
     ensures { out.new ≡ rim_set mode p 1 left n a count out.old }
 {
-    let mut lane = 0;
-    while lane < blocks {
+    for lane in 0..blocks {
         let first = lane * p;
         copy_steps(up, down, first + from, first + a, count, out);
-        lane += 1;
     }
 }
 

@@ -14,42 +14,21 @@ use pad_spec::{Pair, pair_of};
 fn bad_count(shape: &[usize], count: usize) -> bool
     ensures { result ≡ bad_count shape.now count }
 {
-    if count == 1 {
-        return false;
-    }
-    count != shape.len()
+    count != 1 && count != shape.len()
 }
 
 // Condition 10 of one pair: a pad over 64.
 fn over_pad(p: Pair) -> bool
     ensures { result ≡ over_pad p }
 {
-    if numbers::LONGEST_PAD < p.left {
-        return true;
-    }
-    numbers::LONGEST_PAD < p.right
+    numbers::LONGEST_PAD < p.left || numbers::LONGEST_PAD < p.right
 }
 
 // Condition 10 of the pairs that count: a pad over 64.
 fn over_pads(pads: [Pair; 3], count: usize) -> bool
     ensures { result ≡ any_of over_pad (take count pads) }
 {
-    if count < 1 {
-        return false;
-    }
-    if over_pad(pads[0]) {
-        return true;
-    }
-    if count < 2 {
-        return false;
-    }
-    if over_pad(pads[1]) {
-        return true;
-    }
-    if count < 3 {
-        return false;
-    }
-    over_pad(pads[2])
+    pads.iter().take(count).any(|p| over_pad(*p))
 }
 
 // The padded length of an axis whose pads are at most 64; a missing axis has length 1.
@@ -94,19 +73,14 @@ fn padded_cells(shape: &[usize], pads: [Pair; 3], count: usize) -> usize
 // * `out` - the length of the lent output.
 //
 // Of two cells with a pad of 1 on both sides it is false where the output has 4 cells, else true.
+#[tactic(auto, unfolding(pad_spec::specs::Conditions::bad_pads))]
 pub fn bad_pads(shape: &[usize], pads: [Pair; 3], count: usize, out: usize) -> bool
     requires { bad_shape shape.now ≡ false }
     ensures { result ≡ bad_pads shape.now pads count out }
 {
-    if bad_count(shape, count) {
-        return true;
-    }
-    if over_pads(pads, count) {
+    if bad_count(shape, count) || over_pads(pads, count) {
         return true;
     }
     let cells = padded_cells(shape, pads, count);
-    if numbers::MOST_PADDED_CELLS < cells {
-        return true;
-    }
-    out != cells
+    numbers::MOST_PADDED_CELLS < cells || out != cells
 }

@@ -12,10 +12,8 @@ fn fill_gap(level: i64, from: usize, to: usize, out: &mut [i64])
     requires { to ≤ length out.old }
     ensures { out.new ≡ gap_set level from to out.old }
 {
-    let mut k = from;
-    while k < to {
+    for k in from..to {
         out[k] = level;
-        k += 1;
     }
 }
 
@@ -45,13 +43,11 @@ pub fn fill_around(
     let rows = cells / n;
     let mut start = first_row(shape, lefts, padded);
     let mut done = 0;
-    let mut row = 0;
-    while row < rows {
+    for row in 0..rows {
         let at = start.place;
         fill_gap(level, done, at, out);
         done = at + n;
         start = next_row(shape, lefts, padded, row, start);
-        row += 1;
     }
     let end = out.len();
     fill_gap(level, done, end, out);

@@ -11,12 +11,8 @@ fn copy_row(data: &[i64], from: usize, n: usize, at: usize, out: &mut [i64])
         × (length out.old ≤ most_padded_cells) }
     ensures { out.new ≡ row_set_lem «data».now from n at out.old }
 {
-    let mut j = 0;
-    while j < n {
-        let v = data[from + j];
-        let to = at + j;
-        out[to] = v;
-        j += 1;
+    for j in 0..n {
+        out[at + j] = data[from + j];
     }
 }
 
@@ -118,11 +114,9 @@ pub fn copy_middle(
     let n = shape[last];
     let rows = data.len() / n;
     let mut start = first_row(shape, lefts, padded);
-    let mut row = 0;
-    while row < rows {
+    for row in 0..rows {
         let at = start.place;
         copy_row(data, row * n, n, at, out);
         start = next_row(shape, lefts, padded, row, start);
-        row += 1;
     }
 }

@@ -5,14 +5,11 @@ use mathlib.Core.List.{List}
 use lib.IntN.{ℤ}
 use Rattle.border.specs.Border.{constant, along}
 use Rattle.border.specs.declared.CellBorder.{CellBorder}
-use Rattle.border.specs.declared.CellBorder.TheVariants as CellBorder
 use Rattle.border.specs.declared.PadMode.{PadMode}
 use Rattle.border.specs.declared.PadMode.TheVariants.{Constant, Edge, Maximum, Mean, Median, Minimum, Reflect, Symmetric, Wrap}
 use Rattle.pad_spec.specs.Fill.{filler_of, level_of, border_by, rim_of, mode_along, mode_taking}
 use Rattle.pad_spec.specs.declared.rim.Filler.{Filler}
-use Rattle.pad_spec.specs.declared.rim.Filler.TheVariants as Filler
 use Rattle.pad_spec.specs.declared.rim.Statistic.{Statistic}
-use Rattle.pad_spec.specs.declared.rim.Statistic.TheVariants as Statistic
 
 -- ---- from the filler to the mode and back
 pub filler_along : (m : CellBorder) → filler_of (mode_along m) ≡ Filler.Cells m

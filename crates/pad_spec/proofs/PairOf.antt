@@ -1,54 +1,25 @@
--- Three pairs and a count: the pairs that count, the pair of an axis, and condition 11 of an axis and of all.
+-- Three pairs and a count: the pairs that count, and the pair of an axis.
 -- Assumes nothing.
 use mathlib.Core.Path.{◌≡◌, refl, sym, ap, ◌∙◌}
 use mathlib.Core.Bool.{Bool, true, false, ◌||◌, not, cond, true≢false}
 use mathlib.Core.Logic.{◌⊎◌, inl, inr}
-use mathlib.Core.List.{List, [], ◌∷◌}
-use Prim.Native.Nat.{ℕ, zero, suc, ◌+◌, ◌*◌, ◌≤◌, ◌<◌}
+use mathlib.Core.List.{List}
+use Prim.Native.Nat.{ℕ, ◌+◌, ◌*◌, ◌≤◌, ◌<◌}
 use native.Mathlib.Omega.{arith}
-use borrow.Author.Tests.{le-ltb, eq-eqb, ne_eqb, eqb-true, eqb-false, ltb-true, ltb-false}
+use borrow.Author.Tests.{eq-eqb, ne_eqb, eqb-true, eqb-false, ltb-true, ltb-false}
 use lib.Dec.{ltb, eqb}
-use lib.ListN.{length, get_or, take, drop, get_or-eq_default}
+use lib.ListN.{length, get_or, take, get_or-eq_default}
 use lib.Seq.{get_or-take, length-take-le}
 use Rattle.numbers.specs.Lists.{tabulate, any_of}
-use Rattle.numbers.proofs.Any.{any_hit, any_miss, any_end, any_none, every_at}
+use Rattle.numbers.proofs.Any.{any_none, every_at}
 use Rattle.numbers.proofs.Tests.{or_false}
 use Rattle.numbers.proofs.Tabulate.{length-tabulate, get_d_tabulate}
 use Rattle.array_spec.specs.Conditions.{bad_shape}
 use Rattle.array_spec.specs.Grid.{length_of}
 use Rattle.array_spec.proofs.Shapes.{shape-accepted, count_three}
-use Rattle.border.specs.declared.PadMode.{PadMode}
-use Rattle.border.specs.Reach.{bad_pad}
-use Rattle.pad_spec.specs.Fill.{rim_of}
-use Rattle.pad_spec.specs.Conditions.{bad_count, over_pad, padded_count, bad_pad_reach_on}
+use Rattle.pad_spec.specs.Conditions.{bad_count, over_pad, padded_count}
 use Rattle.pad_spec.specs.Pads.{pair_of, lefts_of, rights_of, padded_shape}
 use Rattle.pad_spec.specs.declared.pairs.Pair.{Pair}
-
-last : (x : Bool) → x ≡ x || false
-last true = refl
-last false = refl
-
-wide : (n : ℕ) → 3 ≤ suc (suc (suc n))
-wide n = omega arith
-
-take_none : {A : Type 0} (n : ℕ) → take {A = A} n [] ≡ []
-take_none zero = refl
-take_none (suc n) = refl
-
--- whether a pair that counts passes a test
-pub any_three : {A : Type 0} (t : A → Bool) (l : List A) (d : A) → length l ≡ 3 → (count : ℕ)
-    → any_of t (take count l) ≡ cond (ltb count 1) false (t (get_or l 0 d) || cond (ltb count 2) false (t (get_or l 1 d) || cond (ltb count 3) false (t (get_or l 2 d))))
-any_three t [] d e count = absurd (omega arith)
-any_three t (a ∷ []) d e count = absurd (omega arith)
-any_three t (a ∷ b ∷ []) d e count = absurd (omega arith)
-any_three t (a ∷ b ∷ c ∷ x ∷ xs) d e count = absurd (omega arith)
-any_three t (a ∷ b ∷ c ∷ []) d e zero = refl
-any_three t (a ∷ b ∷ c ∷ []) d e (suc zero) = refl
-any_three t (a ∷ b ∷ c ∷ []) d e (suc (suc zero)) = refl
-any_three t (a ∷ b ∷ c ∷ []) d e (suc (suc (suc n))) =
-    let w = wide n in
-    rw (le-ltb (suc (suc (suc n))) 1 (omega arith), le-ltb (suc (suc (suc n))) 2 (omega arith), le-ltb (suc (suc (suc n))) 3 w)
-    (ap (λ (s : List _). t a || (t b || (t c || any_of t s))) (take_none n) ∙ ap (λ y. t a || (t b || y)) (sym (last (t c))))
 
 -- the pair of an axis: the only one, or its own
 pub pair_only : (pads : List Pair) (count a : ℕ) → count ≡ 1 → get_or pads 0 (record { left = 0; right = 0 }) ≡ pair_of pads count a
@@ -58,40 +29,9 @@ pub pair_own : (pads : List Pair) (count a k : ℕ) → (count ≡ 1 → ⊥) �
 pair_own pads count a k h e =
     sym (ap (λ t. get_or pads (cond t 0 a) (record { left = 0; right = 0 })) (ne_eqb count 1 h) ∙ ap (λ (j : ℕ). get_or pads j (record { left = 0; right = 0 })) e)
 
-pub pair-none : (pads : List Pair) (count a : ℕ) → length pads ≡ 3 → (count ≡ 1 → ⊥) → 3 ≤ a → record { left = 0; right = 0 } ≡ pair_of pads count a
-pair-none pads count a n h b =
-    sym (get_or-eq_default pads (record { left = 0; right = 0 }) (omega arith)) ∙ pair_own pads count a a h refl
-
--- ---- condition 11 of an axis, by its length and its pair as they were read
-module _ (mode : PadMode) (ns : List ℕ) (pads : List Pair) (count a : ℕ) {n : ℕ} {p : Pair} {r : Bool} (e : n ≡ length_of ns a) (f : p ≡ pair_of pads count a)
-    (g : r ≡ bad_pad (rim_of mode []) n p.left) where
-  left-read : bad_pad (rim_of mode []) (length_of ns a) (pair_of pads count a).left ≡ r
-  left-read = (λ j. bad_pad (rim_of mode []) (sym e j) (sym f j).left) ∙ sym g
-
-  pub reach-left : r ≡ true → true ≡ bad_pad_reach_on mode ns pads count a
-  reach-left h = sym (ap (λ t. t || bad_pad (rim_of mode []) (length_of ns a) (pair_of pads count a).right) (left-read ∙ h))
-
-  pub reach-right : {q : Bool} → r ≡ false → q ≡ bad_pad (rim_of mode []) n p.right → q ≡ bad_pad_reach_on mode ns pads count a
-  reach-right h k =
-      k ∙ (λ j. bad_pad (rim_of mode []) (e j) (f j).right)
-      ∙ sym (ap (λ t. t || bad_pad (rim_of mode []) (length_of ns a) (pair_of pads count a).right) (left-read ∙ h))
-
--- ---- a search over the axes: their numbers are 0, 1, ..
+-- ---- the numbers of the axes are 0, 1, ..
 pub axis-at : (n a : ℕ) → a < n → get_or (tabulate (λ k. k) 0 n) a 0 ≡ a
 axis-at n a h = get_d_tabulate (λ k. k) n a 0 h
-
-module _ (t : ℕ → Bool) (n a : ℕ) (h : a < n) (e : any_of t (tabulate (λ k. k) 0 n) ≡ any_of t (drop a (tabulate (λ k. k) 0 n))) where
-  in_axes : a < length (tabulate (λ k. k) 0 n)
-  in_axes = omega (arith, length-tabulate (λ k. k) 0 n)
-
-  pub axis_hit : t a ≡ true → true ≡ any_of t (tabulate (λ k. k) 0 n)
-  axis_hit q = sym (any_hit t 0 a (tabulate (λ k. k) 0 n) in_axes e (ap t (axis-at n a h) ∙ q))
-
-  pub axis_miss : t a ≡ false → any_of t (tabulate (λ k. k) 0 n) ≡ any_of t (drop (a + 1) (tabulate (λ k. k) 0 n))
-  axis_miss q = any_miss t 0 a (tabulate (λ k. k) 0 n) in_axes e (ap t (axis-at n a h) ∙ q)
-
-pub axis_end : (t : ℕ → Bool) (n a : ℕ) → n ≤ a → any_of t (tabulate (λ k. k) 0 n) ≡ any_of t (drop a (tabulate (λ k. k) 0 n)) → false ≡ any_of t (tabulate (λ k. k) 0 n)
-axis_end t n a h e = sym (any_end t a (tabulate (λ k. k) 0 n) (omega (arith, length-tabulate (λ k. k) 0 n)) e)
 
 -- ---- a pair that serves an axis is among those that count
 module _ (ns : List ℕ) (pads : List Pair) (count : ℕ) (three : length pads ≡ 3) (few : length ns ≤ 3) (c : bad_count ns count ≡ false) (o : any_of over_pad (take count pads) ≡ false) where

@@ -26,9 +26,7 @@ use Rattle.statistics_spec.specs.Statistics.{ranked}
 use Rattle.statistics_spec.proofs.Sizes.{size_minimum, size_maximum, size_mean, size_ranked, size_median}
 use Rattle.pad_spec.specs.Fill.{filler_of, level_of, border_by, rim_of, carries}
 use Rattle.pad_spec.specs.declared.rim.Filler.{Filler}
-use Rattle.pad_spec.specs.declared.rim.Filler.TheVariants as Filler
 use Rattle.pad_spec.specs.declared.rim.Statistic.{Statistic}
-use Rattle.pad_spec.specs.declared.rim.Statistic.TheVariants as Statistic
 use Rattle.pad_spec.specs.Conditions.{bad_constant, bad_sum, bad_pad_sums}
 use Rattle.pad_spec.specs.Levels.{level_to, own_cells}
 use Rattle.pad_spec.specs.Pads.{lefts_of, rights_of, padded_shape, middle_from}

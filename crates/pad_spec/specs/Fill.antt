@@ -20,15 +20,12 @@ use Rattle.numbers.specs.Limits.{longest_padded_axis}
 use Rattle.lanes.specs.Lanes.{lane, with_lane, lane_inside}
 use Rattle.border.specs.Border.{Border, constant, along}
 use Rattle.border.specs.declared.CellBorder.{CellBorder}
-use Rattle.border.specs.declared.CellBorder.TheVariants as CellBorder
 use Rattle.border.specs.declared.PadMode.{PadMode}
 use Rattle.border.specs.declared.PadMode.TheVariants.{Constant, Edge, Maximum, Mean, Median, Minimum, Reflect, Symmetric, Wrap}
 use Rattle.pad_line.specs.Line.{padded_line}
 use Rattle.statistics_spec.specs.Statistics.{minimum_of, maximum_of, mean_of, median_of, answered}
 use Rattle.pad_spec.specs.declared.rim.Filler.{Filler}
-use Rattle.pad_spec.specs.declared.rim.Filler.TheVariants as Filler
 use Rattle.pad_spec.specs.declared.rim.Statistic.{Statistic}
-use Rattle.pad_spec.specs.declared.rim.Statistic.TheVariants as Statistic
 
 abbrev pub filler_of : PadMode → Filler
 filler_of (Constant c) = Filler.Level c

@@ -13,7 +13,6 @@ use Rattle.border.specs.declared.PadMode.TheVariants.{Constant, Edge, Maximum, M
 use Rattle.pad_spec.specs.Fill.{filler_of, rim_of, carries, mode_along, mode_taking, statistic_of, filled_lane}
 use Rattle.pad_spec.specs.declared.rim.Filler.TheVariants as Filler
 use Rattle.pad_spec.specs.declared.rim.Statistic.{Statistic}
-use Rattle.pad_spec.specs.declared.rim.Statistic.TheVariants as Statistic
 
 abbrev pub down : Statistic → ℕ → ℕ → List ℤ
 down which left n = filled_lane which 4 2 1 left n (wholes (1 ∷ 2 ∷ 3 ∷ 4 ∷ 5 ∷ 6 ∷ 7 ∷ 8 ∷ []))

@@ -28,11 +28,9 @@ pub fn set_frame(
         × (padded.new ≡ padded_shape shape.now (lefts_of shape.now pads count)
         (rights_of shape.now pads count)) }
 {
-    let mut a = 0;
-    while a < shape.len() {
+    for a in 0..shape.len() {
         let p = crate::pairs::pair_of(pads, count, a);
         lefts[a] = p.left;
         padded[a] = p.left + array::len_of(shape, a) + p.right;
-        a += 1;
     }
 }

@@ -18,17 +18,10 @@ pub struct Pair {
 pub fn pair_of(pads: [Pair; 3], count: usize, axis: usize) -> Pair
     ensures { result ≡ pair_of pads count axis }
 {
-    if count == 1 {
-        return pads[0];
+    let place = if count == 1 { 0 } else { axis };
+    if place < pads.len() {
+        pads[place]
+    } else {
+        Pair { left: 0, right: 0 }
     }
-    if axis == 0 {
-        return pads[0];
-    }
-    if axis == 1 {
-        return pads[1];
-    }
-    if axis == 2 {
-        return pads[2];
-    }
-    Pair { left: 0, right: 0 }
 }

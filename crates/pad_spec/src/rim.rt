@@ -58,10 +58,8 @@ pub fn filler_of(mode: PadMode) -> Filler
 pub fn bad_pad(mode: PadMode, n: usize, pad: usize) -> bool
     ensures { result ≡ bad_pad (rim_of mode []) n pad }
 {
-    let filler = filler_of(mode);
-    match filler {
-        Filler::Level(_) => false,
+    match filler_of(mode) {
         Filler::Cells(along) => border::bad_along(along, n, pad),
-        Filler::Statistic(_) => false,
+        Filler::Level(_) | Filler::Statistic(_) => false,
     }
 }

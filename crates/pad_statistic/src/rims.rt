@@ -23,10 +23,8 @@ fn fill_in(
     ensures { Fills (mode_taking statistic) shape.now lefts.now padded.now 0
         (length shape.now) out.old out.new }
 {
-    let mut axis = 0;
-    while axis < shape.len() {
+    for axis in 0..shape.len() {
         fill_axis(statistic, shape, lefts, padded, axis, line, out);
-        axis += 1;
     }
 }
 

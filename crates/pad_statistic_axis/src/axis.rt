@@ -83,9 +83,7 @@ pub fn fill_axis(
     }
     let s = lanes::stride_of(padded, axis);
     let count = out.len() / p;
-    let mut lane = 0;
-    while lane < count {
+    for lane in 0..count {
         fill_lane(statistic, shape, lefts, padded, axis, p, s, lane, line, out);
-        lane += 1;
     }
 }

@@ -14,10 +14,7 @@ fn on_middle(shape: &[usize], lefts: &[usize], padded: &[usize], axis: usize, pl
 {
     let q = place / lanes::stride_of(padded, axis) % array::len_of(padded, axis);
     let left = lefts[axis];
-    if q < left {
-        return false;
-    }
-    q < left + array::len_of(shape, axis)
+    left <= q && q < left + array::len_of(shape, axis)
 }
 
 // Whether a place of the padded grid is in the middle on every axis from `from` on.
@@ -40,12 +37,10 @@ pub(crate) fn middle_from(
     ensures { result ≡ middle_from shape.now lefts.now from
         (coordinate padded.now place) }
 {
-    let mut a = from;
-    while a < shape.len() {
+    for a in from..shape.len() {
         if !on_middle(shape, lefts, padded, a, place) {
             return false;
         }
-        a += 1;
     }
     true
 }

@@ -28,41 +28,23 @@ fn fill_level(
         (padded_line (pos 0) (constant c) left (p - (left + n))
         (take n (drop left (lane (pos 0) p s l out.old)))) out.old }
 {
-    let mut k = 0;
-    while k < left {
+    for k in 0..left {
         let at = base + k * s;
         out[at] = c;
-        k += 1;
     }
-    let mut j = left + n;
-    while j < p {
+    for j in left + n..p {
         let at = base + j * s;
         out[at] = c;
-        j += 1;
     }
 }
 
 // Whether the lane is inside the grid, and its own cells are some and lie in it.
+#[tactic(auto, using(lanes::proofs::FirstPlace::place_none, lanes::proofs::FirstPlace::place_some), unfolding(pad_spec::specs::Fill::lane_serves))]
 fn serves(base: usize, p: usize, s: usize, l: usize, count: usize, left: usize, n: usize) -> bool
     requires { base ≡ cond (lane_inside p s l count) (lane_base p s l) count }
     ensures { result ≡ lane_serves p s l count left n }
 {
-    if base == count {
-        return false;
-    }
-    if MOST_CELLS < p {
-        return false;
-    }
-    if n < 1 {
-        return false;
-    }
-    if p < n {
-        return false;
-    }
-    if p - n < left {
-        return false;
-    }
-    true
+    base != count && p <= MOST_CELLS && 1 <= n && n <= p && left <= p - n
 }
 
 // Pads a lane of a grid in place: its own cells are extended to both ends of the lane by a level of them.

@@ -7,12 +7,12 @@ use borrow.Author.Rules.{rules}
 use Rattle.pad_copy.proofs.runs.copy_axes.Goals as goal
 
 pub loop-axis-init : goal.loop-axis-init
-loop-axis-init c = (λ cells A. A, search rules, c.requires.1)
+loop-axis-init c = (λ cells A. A, c.requires.1)
 
 pub loop-axis-preserved : goal.loop-axis-preserved
 loop-axis-preserved c =
     let L = c.loop-axis in
-    (fills_then L.invariant.0 c.copy_axis.ensures, omega arith, c.copy_axis.auto.out ∙ L.invariant.2)
+    (fills_then L.invariant.0 c.copy_axis.ensures, c.copy_axis.auto.out ∙ L.invariant.1)
 
 pub returns : goal.returns
-returns c = let L = c.loop-axis in fills_last (omega (arith, L.invariant.1)) L.invariant.0
+returns c = fills_last (omega arith) c.loop-axis.invariant.0

@@ -8,7 +8,4 @@ use Rattle.pad_spec.specs.Filled.{Fills}
 use Rattle.pad_copy.proofs.runs.copy_axes.Given as goal
 
 abbrev pub invariant-loop-axis : goal.invariant-loop-axis
-invariant-loop-axis l = Fills (mode_along l.mode) l.shape l.lefts l.padded 0 l.axis l.initial.out l.out × (l.axis ≤ length l.shape) × (length l.out ≡ cell_count l.padded)
-
-abbrev pub decreases-loop-axis : goal.decreases-loop-axis
-decreases-loop-axis l = length l.shape - l.axis
+invariant-loop-axis l = Fills (mode_along l.mode) l.shape l.lefts l.padded 0 l.axis l.initial.out l.out × (length l.out ≡ cell_count l.padded)

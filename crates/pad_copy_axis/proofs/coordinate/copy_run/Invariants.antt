@@ -4,7 +4,4 @@ use Rattle.pad_spec.proofs.OneRow.{RowStored}
 use Rattle.pad_copy_axis.proofs.coordinate.copy_run.Given as goal
 
 abbrev pub invariant-loop-j : goal.invariant-loop-j
-invariant-loop-j l = (l.j ≤ l.count) × RowStored l.initial.out l.from l.at l.initial.out l.out l.j
-
-abbrev pub decreases-loop-j : goal.decreases-loop-j
-decreases-loop-j l = l.count - l.j
+invariant-loop-j l = RowStored l.initial.out l.from l.at l.initial.out l.out l.j

@@ -4,7 +4,4 @@ use Rattle.pad_copy_axis.proofs.RunByRun.{BlocksStored}
 use Rattle.pad_copy_axis.proofs.coordinate.copy_runs.Given as goal
 
 abbrev pub invariant-loop-block : goal.invariant-loop-block
-invariant-loop-block l = (l.block ≤ l.blocks) × BlocksStored l.p l.s l.from l.at l.initial.out l.out l.block
-
-abbrev pub decreases-loop-block : goal.decreases-loop-block
-decreases-loop-block l = l.blocks - l.block
+invariant-loop-block l = BlocksStored l.p l.s l.from l.at l.initial.out l.out l.block

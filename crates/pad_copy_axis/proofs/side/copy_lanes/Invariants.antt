@@ -13,6 +13,3 @@ abbrev pub invariant-loop-lane : goal.invariant-loop-lane
 invariant-loop-lane l =
     ((m : CellBorder) → Runs m l.p 1 l.blocks l.left l.n (length l.initial.out) → ((k : ℕ) → l.a ≤ k → k < l.a + l.count → InRim l.left l.n l.p k) → StepsOf m l.left l.n l.a l.from l.up l.down → LanesStored m l.p l.left l.n l.a l.count l.initial.out l.out l.lane)
     × (length l.out ≡ length l.initial.out)
-
-abbrev pub decreases-loop-lane : goal.decreases-loop-lane
-decreases-loop-lane l = l.blocks - l.lane

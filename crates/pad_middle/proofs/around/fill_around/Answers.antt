@@ -22,30 +22,26 @@ pub nonzero_div-rows : goal.nonzero_div-rows
 nonzero_div-rows c = last_some c.requires.0
 
 pub loop-row-init : goal.loop-row-init
-loop-row-init c = let s = c in (walk_none s.requires.0 s.requires.1 c.first_row-start.ensures, around-none _ _ _ _ s.requires.2)
+loop-row-init c = (walk_none c.requires.0 c.requires.1 c.first_row-start.ensures, around-none _ _ _ _ c.requires.2)
 
 pub fill_gap-requires : goal.fill_gap-requires
-fill_gap-requires c = let k = c in let v = k.loop-row.invariant in
-    omega (arith, walk_in k.requires.0 v.0 k.loop-row-test.true, v.1.count, v.1.stored.kept)
+fill_gap-requires c = let v = c.loop-row.invariant in
+    omega (arith, walk_in c.requires.0 v.0 c.loop-row-test.true, v.1.count, v.1.stored.kept)
 
 pub overflow_add-done : goal.overflow_add-done
-overflow_add-done c = let k = c in let F = k.requires.0 in
-    omega (arith, walk_in F k.loop-row.invariant.0 k.loop-row-test.true, F.small)
+overflow_add-done c = let F = c.requires.0 in
+    omega (arith, walk_in F c.loop-row.invariant.0 c.loop-row-test.true, F.small)
 
 pub next_row-start-requires : goal.next_row-start-requires
-next_row-start-requires c = let k = c in let F = k.requires.0 in
-    let W = k.loop-row.invariant.0 in (F, W.starts, walk_there F W k.loop-row-test.true)
-
-pub overflow_add-row : goal.overflow_add-row
-overflow_add-row c = let k = c in omega (arith, walk_few k.requires.0 k.loop-row.invariant.0 k.loop-row-test.true)
+next_row-start-requires c = let F = c.requires.0 in
+    let W = c.loop-row.invariant.0 in (F, W.starts, walk_there F W c.loop-row-test.true)
 
 pub loop-row-preserved : goal.loop-row-preserved
-loop-row-preserved c = let k = c in let F = k.requires.0 in let W = k.loop-row.invariant.0 in let b = k.loop-row-test.true in (
+loop-row-preserved c = let F = c.requires.0 in let W = c.loop-row.invariant.0 in let b = c.loop-row-test.true in (
   walk_more F W b c.next_row-start.ensures,
-  around-more _ _ _ _ k.loop-row.invariant.1 _ c.fill_gap.ensures F (walk_row F W b) (walk_target F W b) W.width,
+  around-more _ _ _ _ c.loop-row.invariant.1 _ c.fill_gap.ensures F (walk_row F W b) (walk_target F W b) W.width,
 )
 
 pub returns : goal.returns
-returns c = let k = c in let s = k in
-    around_end _ _ _ _ k.loop-row.invariant.1 _ c.fill_gap-2.ensures s.requires.0
-    (walk_all s.requires.0 k.loop-row.invariant.0 c.loop-row-test.false) refl (to_z-of_z {w = w64} s.ranges.level)
+returns c = around_end _ _ _ _ c.loop-row.invariant.1 _ c.fill_gap-2.ensures c.requires.0
+    (walk_all c.requires.0 c.loop-row.invariant.0 c.loop-row-test.false) refl (to_z-of_z {w = w64} c.ranges.level)

@@ -8,6 +8,3 @@ use Rattle.pad_middle.proofs.around.fill_around.Given as goal
 abbrev pub invariant-loop-row : goal.invariant-loop-row
 invariant-loop-row l =
     RowWalk l.shape l.lefts l.padded l.n l.rows l.row l.start × AroundTo l.level l.shape l.lefts l.padded l.row l.done l.initial.out l.out
-
-abbrev pub decreases-loop-row : goal.decreases-loop-row
-decreases-loop-row l = l.rows - l.row

@@ -4,7 +4,4 @@ use Rattle.pad_middle.proofs.Gaps.{GapStored}
 use Rattle.pad_middle.proofs.around.fill_gap.Given as goal
 
 abbrev pub invariant-loop-k : goal.invariant-loop-k
-invariant-loop-k l = (l.from ≤ l.k) × (l.from < l.k → l.k ≤ l.to) × GapStored l.level l.from l.initial.out l.out l.k
-
-abbrev pub decreases-loop-k : goal.decreases-loop-k
-decreases-loop-k l = l.to - l.k
+invariant-loop-k l = (l.from < l.k → l.k ≤ l.to) × GapStored l.level l.from l.initial.out l.out l.k

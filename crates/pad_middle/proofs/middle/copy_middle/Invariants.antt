@@ -7,6 +7,3 @@ use Rattle.pad_middle.proofs.middle.copy_middle.Given as goal
 abbrev pub invariant-loop-row : goal.invariant-loop-row
 invariant-loop-row l =
     RowWalk l.shape l.lefts l.padded l.n l.rows l.row l.start × RowsStored l.shape l.lefts l.padded l.data l.initial.out l.out l.row
-
-abbrev pub decreases-loop-row : goal.decreases-loop-row
-decreases-loop-row l = l.rows - l.row

@@ -4,7 +4,4 @@ use Rattle.pad_spec.proofs.OneRow.{RowStored}
 use Rattle.pad_middle.proofs.middle.copy_row.Given as goal
 
 abbrev pub invariant-loop-j : goal.invariant-loop-j
-invariant-loop-j l = (l.j ≤ l.n) × RowStored l.data l.from l.at l.initial.out l.out l.j
-
-abbrev pub decreases-loop-j : goal.decreases-loop-j
-decreases-loop-j l = l.n - l.j
+invariant-loop-j l = RowStored l.data l.from l.at l.initial.out l.out l.j

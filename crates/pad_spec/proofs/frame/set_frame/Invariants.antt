@@ -1,6 +1,5 @@
 -- `pad_spec::frame::set_frame` meets its contract: axis by axis, the pad before it and its padded length.
 use mathlib.Core.Path.{◌≡◌}
-use Prim.Native.Nat.{◌-◌, ◌≤◌}
 use lib.Dec.{ltb}
 use lib.ListN.{length}
 use Rattle.numbers.proofs.Stored.{Stored}
@@ -9,8 +8,5 @@ use Rattle.pad_spec.proofs.frame.set_frame.Given as goal
 
 abbrev pub invariant-loop-a : goal.invariant-loop-a
 invariant-loop-a l =
-    (l.a ≤ length l.shape) × (length l.lefts ≡ length l.shape) × (length l.padded ≡ length l.shape)
+    (length l.lefts ≡ length l.shape) × (length l.padded ≡ length l.shape)
     × Stored 0 (λ k. ltb k l.a) (left_at l.pads l.count) l.initial.lefts l.lefts × Stored 0 (λ k. ltb k l.a) (padded_length_at l.shape l.pads l.count) l.initial.padded l.padded
-
-abbrev pub decreases-loop-a : goal.decreases-loop-a
-decreases-loop-a l = length l.shape - l.a

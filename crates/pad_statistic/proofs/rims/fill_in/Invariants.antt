@@ -9,7 +9,4 @@ use Rattle.pad_statistic.proofs.rims.fill_in.Given as goal
 
 abbrev pub invariant-loop-axis : goal.invariant-loop-axis
 invariant-loop-axis l =
-    Fills (mode_taking l.statistic) l.shape l.lefts l.padded 0 l.axis l.initial.out l.out × (l.axis ≤ length l.shape) × (length l.line ≡ 1152) × (length l.out ≡ cell_count l.padded)
-
-abbrev pub decreases-loop-axis : goal.decreases-loop-axis
-decreases-loop-axis l = length l.shape - l.axis
+    Fills (mode_taking l.statistic) l.shape l.lefts l.padded 0 l.axis l.initial.out l.out × (length l.line ≡ 1152) × (length l.out ≡ cell_count l.padded)

@@ -31,9 +31,6 @@ fill_lane-requires c =
     let O = L.invariant.0 in
     (s.requires.0, s.requires.1, λ apart. L.invariant.2 ∙ s.requires.2 (λ e. apart (O.apart ∙ e)), L.invariant.1.count, O.long, O.apart, omega (arith, O.split))
 
-pub overflow_add-lane : goal.overflow_add-lane
-overflow_add-lane c = let O = c.loop-lane.invariant.0 in record { fits = omega (arith, O.few) }
-
 pub loop-lane-preserved : goal.loop-lane-preserved
 loop-lane-preserved c =
     let L = c.loop-lane in

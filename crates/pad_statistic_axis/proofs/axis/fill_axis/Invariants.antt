@@ -8,6 +8,3 @@ use Rattle.pad_statistic_axis.proofs.axis.fill_axis.Given as goal
 abbrev pub invariant-loop-lane : goal.invariant-loop-lane
 invariant-loop-lane l =
     OnAxis l.padded l.axis l.p l.s l.count × CellBorder l.statistic l.shape l.lefts l.padded l.axis l.initial.out l.lane l.out × (length l.line ≡ length l.initial.line)
-
-abbrev pub decreases-loop-lane : goal.decreases-loop-lane
-decreases-loop-lane l = l.count - l.lane

@@ -7,8 +7,5 @@ use Rattle.pad_spec.specs.Pads.{in_middle, all_from, middle_from}
 use Rattle.pad_statistic_axis.proofs.place.middle_from.Given as goal
 
 abbrev pub invariant-loop-a : goal.invariant-loop-a
-invariant-loop-a l = (l.a ≤ length l.shape) × (middle_from l.shape l.lefts l.from (coordinate l.padded l.place)
-    ≡ all_from (in_middle l.shape l.lefts (coordinate l.padded l.place)) l.a (length l.shape - l.a))
-
-abbrev pub decreases-loop-a : goal.decreases-loop-a
-decreases-loop-a l = length l.shape - l.a
+invariant-loop-a l = middle_from l.shape l.lefts l.from (coordinate l.padded l.place)
+    ≡ all_from (in_middle l.shape l.lefts (coordinate l.padded l.place)) l.a (length l.shape - l.a)

@@ -1,5 +1,6 @@
 -- `on_middle` meets its contract: the coordinate on the axis is a digit of the place.
-use mathlib.Core.Path.{sym, subst}
+use mathlib.Core.Path.{sym, subst, ◌∙◌}
+use borrow.Author.Tests.{lt-leb}
 use Prim.Native.Nat.{ℕ, ◌<◌}
 use native.Mathlib.Omega.{arith}
 use Rattle.pad_spec.proofs.Room.{padded_few, axis_stride, axis-length}
@@ -15,16 +16,9 @@ nonzero_div-q c = let s = c in subst (λ (x : ℕ). 0 < x) (sym c.stride_of.ensu
 pub nonzero_rem-q : goal.nonzero_rem-q
 nonzero_rem-q c = let s = c in subst (λ (x : ℕ). 0 < x) (sym c.len_of.ensures) (axis-length s.requires.0 s.args.axis)
 
-pub returns-then-q-left : goal.returns-then-q-left
-returns-then-q-left c = let s = c in middle-before s.requires.0 s.requires.2 s.requires.1 c.stride_of.ensures
-    c.len_of.ensures c.if-q-left.true
+pub returns-then-left-q : goal.returns-then-left-q
+returns-then-left-q c = middle-after c.requires.0 c.requires.2 c.requires.1 c.stride_of.ensures c.len_of.ensures c.len_of-then-left-q.ensures c.if-left-q.true
 
-pub overflow_add-result : goal.overflow_add-result
-overflow_add-result c =
-    let s = c in
-    let F = s.requires.0 in
-    record { fits = omega (arith, F.room s.args.axis s.requires.2, F.short s.args.axis, c.len_of-2.ensures) }
-
-pub returns : goal.returns
-returns c = let s = c in middle-after s.requires.0 s.requires.2 s.requires.1 c.stride_of.ensures
-    c.len_of.ensures c.len_of-2.ensures (omega (arith, c.if-q-left.false))
+pub returns-else-left-q : goal.returns-else-left-q
+returns-else-left-q c =
+    lt-leb _ _ c.if-left-q.false ∙ middle-before c.requires.0 c.requires.2 c.requires.1 c.stride_of.ensures c.len_of.ensures c.if-left-q.false

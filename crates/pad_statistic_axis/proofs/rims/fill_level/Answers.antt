@@ -13,11 +13,8 @@ use Rattle.pad_spec.proofs.Rims.{own_of, filled_none, cell_in, inside-kept, befo
 use Rattle.pad_statistic_axis.proofs.rims.fill_level.Goals as goal
 use Rattle.pad_statistic_axis.proofs.rims.fill_level.Goals.{In-loop-j, In-loop-k}
 
-pub loop-k-init : goal.loop-k-init
-loop-k-init c = (search rules, filled_none (pos 0) _ _ _ _ _ _ _)
-
 at_in : (c : In-loop-k) → let a = c in a.args.base + c.loop-k.k * a.args.s < length a.args.out.now
-at_in c = let a = c in cell_in c.loop-k.invariant.1 a.requires.0 a.requires.1 c.loop-k.k (omega arith)
+at_in c = let a = c in cell_in c.loop-k.invariant a.requires.0 a.requires.1 c.loop-k.k (omega arith)
 
 pub overflow_mul-at : goal.overflow_mul-at
 overflow_mul-at c = omega (arith, at_in c)
@@ -29,22 +26,22 @@ pub offset_bounds-out-at : goal.offset_bounds-out-at
 offset_bounds-out-at c = omega (arith, at_in c)
 
 pub bounds-out-at : goal.bounds-out-at
-bounds-out-at c = omega (arith, at_in c, c.loop-k.invariant.1.stored.kept)
+bounds-out-at c = omega (arith, at_in c, c.loop-k.invariant.stored.kept)
 
 pub loop-k-preserved : goal.loop-k-preserved
-loop-k-preserved c = let a = c in (search rules, before_constant c.loop-k.invariant.1 a.requires.0 a.requires.1 a.requires.2 _ (omega arith) refl)
+loop-k-preserved c = let a = c in before_constant c.loop-k.invariant a.requires.0 a.requires.1 a.requires.2 _ (omega arith) refl
 
 pub loop-j-init : goal.loop-j-init
 loop-j-init c =
     let s = c in
-    let F = c.loop-k.invariant.1 in
-    (search rules, s.requires.2, inside-kept F s.requires.0, filled_again F s.requires.0 s.requires.1 s.requires.2 (omega arith))
+    let F = c.loop-k.invariant in
+    (inside-kept F s.requires.0, filled_again F s.requires.0 s.requires.1 s.requires.2 (omega arith))
 
 at-in-2 : (c : In-loop-j) → let a = c in a.args.base + c.loop-j.j * a.args.s < length a.args.out.now
 at-in-2 c =
     let a = c in
     let l = c.loop-j in
-    omega (arith, cell_in l.invariant.3 l.invariant.2 a.requires.1 l.j (omega arith), c.loop-k.invariant.1.stored.kept)
+    omega (arith, cell_in l.invariant.1 l.invariant.0 a.requires.1 l.j (omega arith), c.loop-k.invariant.stored.kept)
 
 pub overflow_mul-at-in-loop-j : goal.overflow_mul-at-in-loop-j
 overflow_mul-at-in-loop-j c = omega (arith, at-in-2 c)
@@ -56,20 +53,20 @@ pub offset_bounds-out-at-in-loop-j : goal.offset_bounds-out-at-in-loop-j
 offset_bounds-out-at-in-loop-j c = omega (arith, at-in-2 c)
 
 pub bounds-out-at-in-loop-j : goal.bounds-out-at-in-loop-j
-bounds-out-at-in-loop-j c = omega (arith, at-in-2 c, c.loop-j.invariant.3.stored.kept, c.loop-k.invariant.1.stored.kept)
+bounds-out-at-in-loop-j c = omega (arith, at-in-2 c, c.loop-j.invariant.1.stored.kept, c.loop-k.invariant.stored.kept)
 
 pub loop-j-preserved : goal.loop-j-preserved
 loop-j-preserved c =
     let a = c in
     let l = c.loop-j in
-    (search rules, search rules, l.invariant.2, after_constant l.invariant.3 l.invariant.2 a.requires.1 a.requires.2 _ l.invariant.0 (omega arith) refl)
+    (l.invariant.0, after_constant l.invariant.1 l.invariant.0 a.requires.1 a.requires.2 _ (omega arith) (omega arith) refl)
 
 pub returns : goal.returns
 returns c =
     let s = c in
     let a = s.args in
     let e = read s.ranges.c.sfits refl in
-    filled-all (filled-joined c.loop-k.invariant.1 s.requires.0 s.requires.1 s.requires.2 (omega arith) c.loop-j.invariant.0 c.loop-j.invariant.3)
+    filled-all (filled-joined c.loop-k.invariant s.requires.0 s.requires.1 s.requires.2 (omega arith) (omega arith) c.loop-j.invariant.1)
     s.requires.0 s.requires.1 s.requires.2 (omega arith)
     ∙ ap (λ (z : ℤ). with_lane (pos 0) a.p a.s a.l (padded_line (pos 0) (constant z) a.left (a.p - (a.left + a.n)) (own_of (pos 0) a.p a.s a.l a.left a.n a.out.now))
     a.out.now) e

@@ -10,14 +10,7 @@ use Rattle.pad_spec.proofs.Rims.{Filled}
 use Rattle.pad_statistic_axis.proofs.rims.fill_level.Given as goal
 
 abbrev pub invariant-loop-k : goal.invariant-loop-k
-invariant-loop-k l = (l.k ≤ l.left) × Filled (pos 0) (constant l.c) l.p l.s l.l l.left l.n l.initial.out l.out l.k
-
-abbrev pub decreases-loop-k : goal.decreases-loop-k
-decreases-loop-k l = l.left - l.k
+invariant-loop-k l = Filled (pos 0) (constant l.c) l.p l.s l.l l.left l.n l.initial.out l.out l.k
 
 abbrev pub invariant-loop-j : goal.invariant-loop-j
-invariant-loop-j l =
-    (l.left + l.n ≤ l.j) × (l.j ≤ l.p) × (lane_inside l.p l.s l.l (length l.initial.out) ≡ true) × Filled (pos 0) (constant l.c) l.p l.s l.l l.left l.n l.initial.out l.out l.j
-
-abbrev pub decreases-loop-j : goal.decreases-loop-j
-decreases-loop-j l = l.p - l.j
+invariant-loop-j l = (lane_inside l.p l.s l.l (length l.initial.out) ≡ true) × Filled (pos 0) (constant l.c) l.p l.s l.l l.left l.n l.initial.out l.out l.j
