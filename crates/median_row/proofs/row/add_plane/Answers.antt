@@ -19,7 +19,7 @@ overflow_add-a c = let s = c in omega (arith, rows_few s.requires.0)
 pub overflow_mul-a-in-loop-y : goal.overflow_mul-a-in-loop-y
 overflow_mul-a-in-loop-y c = let s = c in omega (arith, row_small s.requires.0 _ ((let row_below : let s = c in s.args.x * s.args.rows + c.loop-y.y < s.args.x * s.args.rows + s.args.ys.to = search rules in row_below)))
 
-pub overflow_add-a-in-loop-y : goal.overflow_add-add_row-end
+pub overflow_add-a-in-loop-y : goal.overflow_add-a-in-loop-y
 overflow_add-a-in-loop-y c = let s = c in omega (arith, row_small s.requires.0 _ ((let row_below : let s = c in s.args.x * s.args.rows + c.loop-y.y < s.args.x * s.args.rows + s.args.ys.to = search rules in row_below)))
 
 pub slice_bounds-add_row-end : goal.slice_bounds-add_row-end

@@ -7,7 +7,7 @@ use Rattle.median_spec.proofs.EveryRow.{rows_none, rows_more, rows_all}
 use borrow.Author.Rules.{rules}
 use Rattle.median_row.proofs.row.median_rows.Goals as goal
 
-pub overflow_mul-r-end : goal.overflow_mul-count
+pub overflow_mul-r-end : goal.overflow_mul-r-end
 overflow_mul-r-end c = omega (arith, rows_count c.requires.0)
 
 pub loop-r-init : goal.loop-r-init
