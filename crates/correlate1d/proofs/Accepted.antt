@@ -1,6 +1,6 @@
 -- An accepted call on whole levels: its weights and levels are small, as the workers suppose.
 -- Assumes nothing.
-use mathlib.Core.Path.{◌≡◌, refl, sym, ap, subst, ◌∙◌}
+use mathlib.Core.Path.{◌≡◌, refl, ap, ◌∙◌}
 use mathlib.Core.Bool.{Bool, false}
 use mathlib.Core.List.{List, map}
 use Prim.Native.Nat.{ℕ, ◌^◌, ◌≤◌}
@@ -43,9 +43,6 @@ module _ {convolution : Bool} {b : Border ℤ} {o : ℤ} {w : List ℤ} {ns : Li
   weight-read : read (get_or w 0 (pos 0)) ≡ get_or w 0 (pos 0)
   unfolding bad_weight
   weight-read = to_z-of_z w64 (get_or w 0 (pos 0)) (fits_size (size_inside 65535 (get_or w 0 (pos 0)) scales_accepted.weight) (omega arith))
-
-  pub scales_read : ScaleNeeds cells (read (get_or w 0 (pos 0))) out
-  scales_read = subst (λ (x : ℤ). ScaleNeeds cells x out) (sym weight-read) scales_accepted
 
   pub scaled_cells : {left : List ℤ} → left ≡ map (λ x. x *ℤ read (get_or w 0 (pos 0))) cells → left ≡ map (λ x. x *ℤ get_or w 0 (pos 0)) cells
   scaled_cells e = e ∙ ap (λ (y : ℤ). map (λ x. x *ℤ y) cells) weight-read

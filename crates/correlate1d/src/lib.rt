@@ -14,8 +14,8 @@ ghost use Rattle.correlate_judge_spec.specs.Judge.{correlate_judged};
 ghost use Rattle.correlate1d.specs.Rows.{Correlate1dRows};
 ghost use Rattle.correlate1d.specs.WeighNeeds.{ScaleNeeds, WeighNeeds};
 
-use numbers::Refusal;
 use border::BorderMode;
+use numbers::Refusal;
 use window_spec::Origin;
 
 // Every cell times one weight.
@@ -108,16 +108,7 @@ pub fn correlate1d(
         (correlate1d_z (border_of mode) origin weights.now shape.now axis «data».now)
         out.old (answer_number result) out.new }
 {
-    correlate_judge::judge_correlate(
-        data,
-        shape,
-        weights,
-        axis,
-        mode,
-        origin,
-        false,
-        out.len(),
-    )?;
+    correlate_judge::judge_correlate(data, shape, weights, axis, mode, origin, false, out.len())?;
     correlate_cells(data, shape, weights, axis, mode, origin, false, out);
     Ok(())
 }
@@ -149,16 +140,7 @@ pub fn convolve1d(
         (convolve1d_z (border_of mode) origin weights.now shape.now axis «data».now)
         out.old (answer_number result) out.new }
 {
-    correlate_judge::judge_correlate(
-        data,
-        shape,
-        weights,
-        axis,
-        mode,
-        origin,
-        true,
-        out.len(),
-    )?;
+    correlate_judge::judge_correlate(data, shape, weights, axis, mode, origin, true, out.len())?;
     correlate_cells(data, shape, weights, axis, mode, origin, true, out);
     Ok(())
 }

@@ -15,8 +15,8 @@ ghost use Rattle.correlate_spec.specs.Convolved.{convolve1d_f};
 ghost use Rattle.correlate_judge_spec.specs.Judge.{correlate_judged_f};
 ghost use Rattle.correlate1d.specs.WeighNeeds.{PlaceNeeds};
 
-use numbers::Refusal;
 use border::BorderModeF64;
+use numbers::Refusal;
 use window_spec::Origin;
 
 // Every cell times one weight.

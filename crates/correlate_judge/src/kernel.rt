@@ -6,8 +6,8 @@ ghost use Rattle.array_spec.specs.Conditions.{bad_shape};
 ghost use Rattle.border.specs.Modes.{border_of};
 ghost use Rattle.correlate_judge_spec.specs.KernelJudge.{kernel_placed, kernel_judged};
 
-use numbers::Refusal;
 use border::BorderMode;
+use numbers::Refusal;
 
 // Conditions 5, 6, 7, 9 and 11 in rising order, of a kernel on a grid whose shape condition 1 accepts.
 fn judge_placed(

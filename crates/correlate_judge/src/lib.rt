@@ -11,8 +11,8 @@ ghost use Rattle.border.specs.Modes.{border_of, border_of_f64};
 ghost use Rattle.window_spec.specs.Window.{bad_size, bad_window_origin, bad_reach, applied_origin};
 ghost use Rattle.correlate_judge_spec.specs.Judge.{correlate_judged, correlate_judged_f};
 
-use numbers::Refusal;
 use border::{BorderMode, BorderModeF64};
+use numbers::Refusal;
 
 mod kernel;
 
@@ -30,8 +30,8 @@ fn judge_weighing(
     origin: isize,
     convolution: bool,
 ) -> Result<(), Refusal>
-    ensures { answer_number result ≡ refusal_of ((bad_size len, 5) ∷ (weights_bad, 6) ∷ (bad_window_origin len origin, 7) ∷
-        (bad_axis shape.now axis, 8) ∷ (constant_bad, 9) ∷
+    ensures { answer_number result ≡ refusal_of ((bad_size len, 5) ∷ (weights_bad, 6) ∷
+        (bad_window_origin len origin, 7) ∷ (bad_axis shape.now axis, 8) ∷ (constant_bad, 9) ∷
         (bad_reach (border_of mode) len (applied_origin convolution len origin) (length_of shape.now axis), 11) ∷
         []) }
 {

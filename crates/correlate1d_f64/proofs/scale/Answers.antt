@@ -1,6 +1,5 @@
 -- `scale` meets its contract: the output is filled from the front with products.
 use mathlib.Core.Path.{refl, sym, ap, ◌∙◌}
-use Prim.Native.Nat.{◌-◌}
 use native.Mathlib.Omega.{arith}
 use lib.Ieee.{binary64, mul, nan}
 use lib.ListN.{get_or}
