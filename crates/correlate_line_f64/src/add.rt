@@ -18,10 +18,8 @@ pub(crate) fn add_row(weights: &[f64], backward: bool, line: &[f64], j: usize, o
 {
     let weight = weight_at_f64(weights, backward, j);
     let n = out.len();
-    let mut i = 0;
-    while i < n {
+    for i in 0..n {
         out[i] = out[i] + line[i + j] * weight;
-        i += 1;
     }
 }
 
@@ -35,10 +33,8 @@ fn add_four_rows(weights: &[f64], backward: bool, line: &[f64], j: usize, out: &
 {
     let four = four_weights(weights, backward, j);
     let n = out.len();
-    let mut i = 0;
-    while i < n {
+    for i in 0..n {
         out[i] = four_more(out[i], line, i + j, four);
-        i += 1;
     }
 }
 
@@ -60,6 +56,7 @@ pub(crate) fn add_fours(
 {
     let count = weights.len();
     let mut k = from;
+    // A `while`: where the fours end is the answer, which a `for` in steps of 4 does not keep.
     while count - k >= 4 {
         add_four_rows(weights, backward, line, k, out);
         k += 4;

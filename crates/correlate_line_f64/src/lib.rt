@@ -25,11 +25,10 @@ fn plain_line(weights: &[f64], backward: bool, line: &[f64], out: &mut [f64])
         line.now (length out.old) }
 {
     let count = weights.len();
-    let taken = start_rows(weights, backward, line, out);
-    let mut k = add_fours(weights, backward, line, taken, out);
-    while k < count {
+    let started = start_rows(weights, backward, line, out);
+    let taken = add_fours(weights, backward, line, started, out);
+    for k in taken..count {
         add_row(weights, backward, line, k, out);
-        k += 1;
     }
 }
 

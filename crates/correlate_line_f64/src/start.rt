@@ -16,10 +16,8 @@ fn start_row(weights: &[f64], backward: bool, line: &[f64], out: &mut [f64])
 {
     let weight = weight_at_f64(weights, backward, 0);
     let n = out.len();
-    let mut i = 0;
-    while i < n {
+    for i in 0..n {
         out[i] = 0.0 + line[i] * weight;
-        i += 1;
     }
 }
 
@@ -33,10 +31,8 @@ fn start_three_rows(weights: &[f64], backward: bool, line: &[f64], out: &mut [f6
     let w1 = weight_at_f64(weights, backward, 1);
     let w2 = weight_at_f64(weights, backward, 2);
     let n = out.len();
-    let mut i = 0;
-    while i < n {
+    for i in 0..n {
         out[i] = 0.0 + line[i] * w0 + line[i + 1] * w1 + line[i + 2] * w2;
-        i += 1;
     }
 }
 
@@ -48,10 +44,8 @@ fn start_four_rows(weights: &[f64], backward: bool, line: &[f64], out: &mut [f64
 {
     let four = four_weights(weights, backward, 0);
     let n = out.len();
-    let mut i = 0;
-    while i < n {
+    for i in 0..n {
         out[i] = four_more(0.0, line, i, four);
-        i += 1;
     }
 }
 
@@ -64,10 +58,8 @@ fn start_five_rows(weights: &[f64], backward: bool, line: &[f64], out: &mut [f64
     let four = four_weights(weights, backward, 0);
     let fifth = weight_at_f64(weights, backward, 4);
     let n = out.len();
-    let mut i = 0;
-    while i < n {
+    for i in 0..n {
         out[i] = four_more(0.0, line, i, four) + line[i + 4] * fifth;
-        i += 1;
     }
 }
 

@@ -31,10 +31,8 @@ fn set_row(weights: &[f64], backward: bool, line: &[f64], out: &mut [f64])
     let weight = weight_at_f64(weights, backward, 0);
     let n = out.len();
     let cells = window_f64(line, 0, n); // the first cell of every window, one after the other
-    let mut i = 0;
-    while i < n {
+    for i in 0..n {
         out[i] = cells[i] * weight;
-        i += 1;
     }
 }
 
@@ -49,10 +47,8 @@ fn start_pairs(weights: &[f64], backward: bool, minus: bool, line: &[f64], out: 
     let middle = weight_at_f64(weights, backward, half);
     let outer = left_weight(weights, backward, 0, right);
     let n = out.len();
-    let mut i = 0;
-    while i < n {
+    for i in 0..n {
         out[i] = line[i + half] * middle + pair_term(minus, line, i, i + right, outer);
-        i += 1;
     }
 }
 
@@ -75,10 +71,8 @@ fn add_pairs(
 {
     let shared = left_weight(weights, backward, left, right);
     let n = out.len();
-    let mut i = 0;
-    while i < n {
+    for i in 0..n {
         out[i] = out[i] + pair_term(minus, line, i + left, i + right, shared);
-        i += 1;
     }
 }
 
@@ -103,13 +97,11 @@ fn add_three_pairs(
     let w1 = left_weight(weights, backward, left + 1, right - 1);
     let w2 = left_weight(weights, backward, left + 2, right - 2);
     let n = out.len();
-    let mut i = 0;
-    while i < n {
+    for i in 0..n {
         let t0 = pair_term(minus, line, i + left, i + right, w0);
         let t1 = pair_term(minus, line, i + left + 1, i + (right - 1), w1);
         let t2 = pair_term(minus, line, i + left + 2, i + (right - 2), w2);
         out[i] = out[i] + t0 + t1 + t2;
-        i += 1;
     }
 }
 
@@ -150,6 +142,7 @@ pub fn pair_line_f64(weights: &[f64], backward: bool, minus: bool, line: &[f64],
     start_pairs(weights, backward, minus, line, out);
     let mut left = add_threes(weights, backward, minus, line, out);
     let mut right = count - 1 - left;
+    // A `while`: two counters, from both ends inward.
     while left < right {
         add_pairs(weights, backward, minus, line, left, right, out);
         left += 1;

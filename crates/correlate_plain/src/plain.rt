@@ -15,10 +15,8 @@ pub(crate) fn add_row(weights: &[i64], backward: bool, line: &[i64], j: usize, o
 {
     let weight = direction::weight_at(weights, backward, j);
     let n = out.len();
-    let mut i = 0;
-    while i < n {
+    for i in 0..n {
         out[i] = out[i] + line[i + j] * weight;
-        i += 1;
     }
 }
 
@@ -37,13 +35,11 @@ fn add_three_rows(weights: &[i64], backward: bool, line: &[i64], j: usize, out: 
     let n = out.len();
     let mut x0 = line[j];
     let mut x1 = line[j + 1];
-    let mut i = 0;
-    while i < n {
+    for i in 0..n {
         let x2 = line[i + j + 2];
         out[i] = out[i] + (x0 * w0 + x1 * w1 + x2 * w2);
         x0 = x1;
         x1 = x2;
-        i += 1;
     }
 }
 
@@ -62,14 +58,12 @@ fn add_four_rows(weights: &[i64], backward: bool, line: &[i64], j: usize, out: &
     let mut x0 = line[j];
     let mut x1 = line[j + 1];
     let mut x2 = line[j + 2];
-    let mut i = 0;
-    while i < n {
+    for i in 0..n {
         let x3 = line[i + j + 3];
         out[i] = out[i] + (x0 * w0 + x1 * w1 + x2 * w2 + x3 * w3);
         x0 = x1;
         x1 = x2;
         x2 = x3;
-        i += 1;
     }
 }
 
@@ -82,6 +76,7 @@ fn add_fours(weights: &[i64], backward: bool, line: &[i64], out: &mut [i64]) -> 
 {
     let count = weights.len();
     let mut k = 0;
+    // A `while`: where the fours end is the answer, which a `for` in steps of 4 does not keep.
     while count - k >= 4 {
         add_four_rows(weights, backward, line, k, out);
         k += 4;
@@ -96,13 +91,12 @@ pub fn add_line(weights: &[i64], backward: bool, line: &[i64], out: &mut [i64])
         line.now (length weights.now)) 0 (length out.old) }
 {
     let count = weights.len();
-    let mut k = add_fours(weights, backward, line, out);
-    if count - k == 3 {
-        add_three_rows(weights, backward, line, k, out);
+    let taken = add_fours(weights, backward, line, out);
+    if count - taken == 3 {
+        add_three_rows(weights, backward, line, taken, out);
         return;
     }
-    while k < count {
+    for k in taken..count {
         add_row(weights, backward, line, k, out);
-        k += 1;
     }
 }

@@ -18,10 +18,8 @@ fn start_row(weights: &[i64], backward: bool, line: &[i64], out: &mut [i64])
 {
     let weight = weight_at(weights, backward, 0);
     let n = out.len();
-    let mut i = 0;
-    while i < n {
+    for i in 0..n {
         out[i] = line[i] * weight;
-        i += 1;
     }
 }
 
@@ -38,13 +36,11 @@ fn start_three_rows(weights: &[i64], backward: bool, line: &[i64], out: &mut [i6
     let n = out.len();
     let mut x0 = line[0];
     let mut x1 = line[1];
-    let mut i = 0;
-    while i < n {
+    for i in 0..n {
         let x2 = line[i + 2];
         out[i] = x0 * w0 + x1 * w1 + x2 * w2;
         x0 = x1;
         x1 = x2;
-        i += 1;
     }
 }
 
@@ -71,9 +67,8 @@ pub fn set_line(weights: &[i64], backward: bool, line: &[i64], out: &mut [i64])
         line.now (length out.old) }
 {
     let count = weights.len();
-    let mut k = start_rows(weights, backward, line, out);
-    while k < count {
+    let taken = start_rows(weights, backward, line, out);
+    for k in taken..count {
         add_row(weights, backward, line, k, out);
-        k += 1;
     }
 }

@@ -9,11 +9,8 @@ pub fn sum_of(cells: &[i64]) -> i64
     ensures { result ≡ sum_of cells.now }
 {
     let mut sum = 0;
-    let mut i = 0;
-    while i < cells.len() {
-        let z = cells[i];
-        sum += z;
-        i += 1;
+    for z in cells {
+        sum += *z;
     }
     sum
 }

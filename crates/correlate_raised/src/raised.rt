@@ -26,10 +26,8 @@ fn add_raised_row(weights: &[i64], backward: bool, line: &[i64], by: u32, j: usi
 {
     let weight = raised_weight(weights, backward, by, j);
     let n = out.len();
-    let mut i = 0;
-    while i < n {
+    for i in 0..n {
         out[i] = out[i] + raised_term(line, i + j, weight) as i64;
-        i += 1;
     }
 }
 
@@ -50,10 +48,8 @@ fn add_four_raised_rows(
 {
     let four = raised_four(weights, backward, by, j);
     let n = out.len();
-    let mut i = 0;
-    while i < n {
+    for i in 0..n {
         out[i] = out[i] + four_terms(line, i + j, four) as i64;
-        i += 1;
     }
 }
 
@@ -67,14 +63,14 @@ fn add_raised(weights: &[i64], backward: bool, line: &[i64], by: u32, out: &mut 
         (lowered line.now) (length out.old) }
 {
     let count = weights.len();
-    let mut k = 0;
-    while count - k >= 4 {
-        add_four_raised_rows(weights, backward, line, by, k, out);
-        k += 4;
+    let mut taken = 0;
+    // A `while`: the loop after it begins where the fours end, which a `for` in steps of 4 does not keep.
+    while count - taken >= 4 {
+        add_four_raised_rows(weights, backward, line, by, taken, out);
+        taken += 4;
     }
-    while k < count {
+    for k in taken..count {
         add_raised_row(weights, backward, line, by, k, out);
-        k += 1;
     }
 }
 

@@ -27,12 +27,10 @@ fn lower_row(weights: &[i64], line: &[i64], by: u32, base: i64, out: &mut [i64])
     let before = weights.len() - 1;
     let mut sum = sum_of(window(line, 0, before));
     let n = out.len();
-    let mut i = 0;
-    while i < n {
+    for i in 0..n {
         let total = sum + line[i + before];
         out[i] = base - total * times;
         sum = total - line[i];
-        i += 1;
     }
 }
 

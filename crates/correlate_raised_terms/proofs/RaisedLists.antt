@@ -1,19 +1,16 @@
 -- Which lists may be raised: levels within condition 3, and weights that are not below 0 or are raised by 65,535.
 -- Assumes nothing.
-use Prim.Native.Nat.{ℕ, suc, ◌+◌, ◌-◌, ◌^◌, ◌≤◌, ◌<◌}
-use mathlib.Core.Path.{◌≡◌, refl, sym, ap, subst, ◌∙◌}
+use Prim.Native.Nat.{suc, ◌+◌, ◌-◌, ◌≤◌}
+use mathlib.Core.Path.{◌≡◌, refl, sym, subst}
 use mathlib.Core.Bool.{Bool, true, false, true≢false}
 use mathlib.Core.List.{List, [], ◌∷◌}
 use native.Mathlib.Omega.{arith}
 use lib.IntN.{ℤ, pos, negsuc, neg_ℤ}
-use lib.Signed.{lt_z, mag}
-use mir.Syntax.{w64}
-use mir.Val.{to_z, of_z}
+use lib.Signed.{lt_z}
 use Rattle.numbers.specs.Lists.{any_of, Every}
 use Rattle.numbers.specs.Ranges.{outside_z}
 use Rattle.numbers.proofs.Any.{every_imp}
 use Rattle.numbers.proofs.IntSum.{minus_pos}
-use Rattle.numbers.proofs.Read.{read}
 use Rattle.numbers.proofs.Size.{Size, tested_sized}
 use Rattle.numbers.proofs.Tests.{or_false, cond_yes, cond_no, cond_ind}
 use Rattle.correlate_raised_terms.specs.Narrow.{Raised, Narrow, raise_of}
@@ -31,7 +28,7 @@ raised_up : (x : ℤ) → Size x 65535 → Raised 65535 131070 x
 raised_up (pos n) h = record { to = n + 65535; is = refl; small = omega (arith, h.size) }
 raised_up (negsuc n) h = record { to = 65535 - suc n; is = minus_pos 65535 (suc n) h.size; small = omega arith }
 
-abbrev pub below : ℤ → Bool
+abbrev below : ℤ → Bool
 below z = lt_z z (pos 0)
 
 raised_none : (x : ℤ) → Size x 65535 → below x ≡ false → Raised 0 131070 x
@@ -45,16 +42,12 @@ weights_none : (w : List ℤ) → Every (λ x. Size x 65535) w → any_of below 
 weights_none [] h e = tt
 weights_none (x ∷ xs) h e = let p = or_false (below x) (any_of below xs) e in (raised_none x h.0 p.0, weights_none xs h.1 p.1)
 
--- the machine's test of a weight that was read
-pub below-read : (z : ℤ) {t : Bool} → mag z < 2 ^ 63 → lt_z (to_z w64 (of_z w64 z)) (pos 0) ≡ t → below z ≡ t
-below-read z h e = ap below (sym (read h (refl {a = z}))) ∙ e
-
 -- ---- by how much: as the code finds it, and that it serves
-pub raise_some : (w : List ℤ) → any_of below w ≡ true → 65535 ≡ raise_of w
+raise_some : (w : List ℤ) → any_of below w ≡ true → 65535 ≡ raise_of w
 unfolding raise_of
 raise_some w e = sym (cond_yes (any_of below w) 65535 0 e)
 
-pub raise_none : (w : List ℤ) → any_of below w ≡ false → 0 ≡ raise_of w
+raise_none : (w : List ℤ) → any_of below w ≡ false → 0 ≡ raise_of w
 unfolding raise_of
 raise_none w e = sym (cond_no (any_of below w) 65535 0 e)
 

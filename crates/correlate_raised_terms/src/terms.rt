@@ -37,12 +37,7 @@ fn four_toward(weights: &[i64], backward: bool, by: u32, j: usize) -> Four
     let w1 = raised_weight(weights, backward, by, j + 1);
     let w2 = raised_weight(weights, backward, by, j + 2);
     let w3 = raised_weight(weights, backward, by, j + 3);
-    Four {
-        w0: w0,
-        w1: w1,
-        w2: w2,
-        w3: w3,
-    }
+    Four { w0, w1, w2, w3 }
 }
 
 // As four_toward, the direction asked once for the four. Where it is asked for each, the compiler chooses an address
@@ -65,11 +60,8 @@ pub fn raise_cells(line: &mut [i64])
     requires { Narrow line.old }
     ensures { lowered line.new ≡ line.old }
 {
-    let n = line.len();
-    let mut i = 0;
-    while i < n {
-        line[i] = line[i] + 2147483648;
-        i += 1;
+    for cell in line.iter_mut() {
+        *cell += 2147483648;
     }
 }
 

@@ -1,6 +1,6 @@
 -- `plain_line` meets its contract: the row is begun, the passes by fours go on from there, and each turn adds the term of one weight that they left.
 use mathlib.Core.Path.{refl, ◌∙◌}
-use Prim.Native.Nat.{◌+◌, ◌-◌}
+use Prim.Native.Nat.{◌+◌}
 use native.Mathlib.Omega.{arith}
 use Rattle.direction.specs.Direction.{directed}
 use Rattle.direction.proofs.Directed.{directed-length}
@@ -9,35 +9,35 @@ use Rattle.correlate_spec.proofs.Along.{row_made, row_length_lem, row_own, row_n
 use borrow.Author.Rules.{rules}
 use Rattle.correlate_line_f64.proofs.plain_line.Goals as goal
 
-pub add_fours-k-requires : goal.add_fours-k-requires
-add_fours-k-requires c =
-    let q = c.start_rows-taken.ensures in
-    let e = c.start_rows-taken.auto.out in
+pub add_fours-taken-requires : goal.add_fours-taken-requires
+add_fours-taken-requires c =
+    let q = c.start_rows-started.ensures in
+    let e = c.start_rows-started.auto.out in
     (record { some = omega arith; long = omega arith }, q.0, row_own (row_made _ _ q.1))
 
 pub loop-k-init : goal.loop-k-init
-loop-k-init c = let q = c.add_fours-k.ensures in (q.0, refl, row_made _ _ q.1)
+loop-k-init c = let q = c.add_fours-taken.ensures in (refl, row_made _ _ q.1)
 
 pub add_row-requires : goal.add_row-requires
 add_row-requires c =
-    let r = c.loop-k.invariant.2 in
-    let e = row_length_lem r ∙ c.add_fours-k.auto.out
-    ∙ c.start_rows-taken.auto.out in
+    let r = c.loop-k.invariant.1 in
+    let e = row_length_lem r ∙ c.add_fours-taken.auto.out
+    ∙ c.start_rows-started.auto.out in
     (record { some = omega arith; long = omega arith }, search rules, row_own r)
 
 pub loop-k-preserved : goal.loop-k-preserved
 loop-k-preserved c =
     let a = c.args in
     let l = c.loop-k in
-    (search rules, l.invariant.1, row_next l.invariant.2 {h = plain_to float_ops (directed a.backward a.weights.now) a.line.now (l.k + 1)} c.add_row.ensures)
+    (l.invariant.0, row_next l.invariant.1 {h = plain_to float_ops (directed a.backward a.weights.now) a.line.now (l.k + 1)} c.add_row.ensures)
 
 pub shape_of-out : goal.shape_of-out
-shape_of-out c = row_length_lem c.loop-k.invariant.2 ∙ c.add_fours-k.auto.out
-    ∙ c.start_rows-taken.auto.out
+shape_of-out c = row_length_lem c.loop-k.invariant.1 ∙ c.add_fours-taken.auto.out
+    ∙ c.start_rows-started.auto.out
 
 pub returns : goal.returns
 returns c =
     let a = c.args in
-    plain_end float_ops (directed a.backward a.weights.now) a.line.now c.loop-k.invariant.2 (omega (arith, directed-length a.backward a.weights.now))
-    (c.add_fours-k.auto.out
-    ∙ c.start_rows-taken.auto.out)
+    plain_end float_ops (directed a.backward a.weights.now) a.line.now c.loop-k.invariant.1 (omega (arith, directed-length a.backward a.weights.now, c.add_fours-taken.ensures.0))
+    (c.add_fours-taken.auto.out
+    ∙ c.start_rows-started.auto.out)

@@ -1,6 +1,6 @@
 -- `add_fours` meets its contract: each turn adds the terms of four weights to the whole row.
 use mathlib.Core.Path.{refl}
-use Prim.Native.Nat.{◌+◌, ◌-◌}
+use Prim.Native.Nat.{◌+◌}
 use native.Mathlib.Omega.{arith}
 use Rattle.direction.specs.Direction.{directed}
 use Rattle.correlate_spec.specs.Weighed.{float_ops, plain_to}

@@ -1,6 +1,6 @@
 -- `add_row` meets its contract: along the row, each cell gets its next term.
 use mathlib.Core.Path.{refl}
-use Prim.Native.Nat.{◌+◌, ◌-◌}
+use Prim.Native.Nat.{◌+◌}
 use lib.Ieee.{nan}
 use Rattle.direction.specs.Direction.{directed}
 use Rattle.correlate_spec.proofs.Along.{pass_none, pass_all}

@@ -1,6 +1,5 @@
 -- `start_five_rows` meets its contract: the row is filled from the front with sums of five terms.
 use mathlib.Core.Path.{◌∙◌}
-use Prim.Native.Nat.{◌-◌}
 use lib.Ieee.{nan, of_bits}
 use Rattle.direction.specs.Direction.{directed}
 use Rattle.correlate_spec.specs.Weighed.{float_ops}

@@ -1,6 +1,5 @@
 -- `start_row` meets its contract: the row is filled from the front with sums of one term.
 use mathlib.Core.Path.{◌∙◌}
-use Prim.Native.Nat.{◌-◌}
 use native.Mathlib.Omega.{arith}
 use lib.Ieee.{nan, of_bits}
 use Rattle.direction.specs.Direction.{directed}

@@ -1,5 +1,4 @@
 -- `start_row` meets its contract: the row is filled from the front with sums of one term.
-use Prim.Native.Nat.{◌-◌}
 use lib.Ieee.{nan}
 use Rattle.direction.specs.Direction.{directed}
 use Rattle.correlate_spec.specs.Weighed.{float_ops, plain_to}
@@ -8,6 +7,3 @@ use Rattle.correlate_line_f64.proofs.start.start_row.Given as goal
 
 abbrev pub invariant-loop-i : goal.invariant-loop-i
 invariant-loop-i l = Pass nan (plain_to float_ops (directed l.backward l.weights) l.line 1) l.initial.out l.n l.i l.out
-
-abbrev pub decreases-loop-i : goal.decreases-loop-i
-decreases-loop-i l = l.n - l.i

@@ -1,6 +1,5 @@
 -- `start_three_rows` meets its contract: the row is filled from the front with sums of three terms.
 use mathlib.Core.Path.{◌∙◌}
-use Prim.Native.Nat.{◌-◌}
 use native.Mathlib.Omega.{arith}
 use lib.Ieee.{nan, of_bits}
 use Rattle.direction.specs.Direction.{directed}

@@ -1,5 +1,4 @@
 -- `add_pairs` meets its contract: along the row, each cell gets the term of its next pair.
-use Prim.Native.Nat.{◌-◌}
 use lib.Ieee.{nan}
 use Rattle.direction.specs.Direction.{directed}
 use Rattle.direction.proofs.Directed.{directed-length}

@@ -1,5 +1,5 @@
 -- `add_pairs` meets its contract: along the row, each cell gets the term of its next pair.
-use Prim.Native.Nat.{◌+◌, ◌-◌}
+use Prim.Native.Nat.{◌+◌}
 use lib.Ieee.{nan}
 use Rattle.direction.specs.Direction.{directed}
 use Rattle.correlate_spec.specs.Weighed.{float_ops, pairs_to}
@@ -9,6 +9,3 @@ use Rattle.correlate_pairs_f64.proofs.pairs.add_pairs.Given as goal
 
 abbrev pub invariant-loop-i : goal.invariant-loop-i
 invariant-loop-i l = Pass nan (pairs_to float_ops (joined_by float_ops l.minus) (directed l.backward l.weights) l.line (l.left + 1)) l.initial.out l.n l.i l.out
-
-abbrev pub decreases-loop-i : goal.decreases-loop-i
-decreases-loop-i l = l.n - l.i

@@ -1,5 +1,4 @@
 -- `add_three_pairs` meets its contract: along the row, each cell gets the terms of its next three pairs.
-use Prim.Native.Nat.{◌-◌}
 use lib.Ieee.{nan}
 use Rattle.direction.specs.Direction.{directed}
 use Rattle.direction.proofs.Directed.{directed-length}

@@ -1,5 +1,5 @@
 -- `add_threes` meets its contract: each turn adds the terms of three pairs to the whole row.
-use Prim.Native.Nat.{◌+◌, ◌-◌}
+use Prim.Native.Nat.{◌+◌}
 use native.Mathlib.Omega.{arith}
 use Rattle.direction.specs.Direction.{directed}
 use Rattle.correlate_spec.specs.Weighed.{float_ops, pairs_to}

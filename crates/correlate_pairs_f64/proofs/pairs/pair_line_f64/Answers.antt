@@ -1,7 +1,7 @@
 -- `pair_line_f64` meets its contract: from the row of the middle cells and the outermost pairs, the passes by threes go on, and each turn adds the term of one
 -- pair that they left. A single weight has no pair.
 use mathlib.Core.Path.{◌≡◌, refl, ap, ◌∙◌}
-use Prim.Native.Nat.{ℕ, ◌+◌, ◌/◌, ◌-◌, ◌<◌}
+use Prim.Native.Nat.{ℕ, ◌+◌, ◌/◌, ◌<◌}
 use mathlib.Core.List.{List}
 use native.Mathlib.Omega.{arith}
 use lib.Ieee.{Float}

@@ -1,5 +1,4 @@
 -- `set_row` meets its contract: the row is filled from the front with terms.
-use Prim.Native.Nat.{◌-◌}
 use native.Mathlib.Omega.{arith}
 use lib.Ieee.{nan}
 use Rattle.correlate_spec.specs.Weighed.{float_ops}

@@ -1,6 +1,6 @@
 -- `start_pairs` meets its contract: the row is filled from the front with the middle terms and those of the outermost pair.
 use mathlib.Core.Path.{ap, sym}
-use Prim.Native.Nat.{◌-◌, ◌/◌}
+use Prim.Native.Nat.{◌/◌}
 use native.Mathlib.Omega.{arith}
 use lib.Ieee.{nan}
 use Rattle.direction.specs.Direction.{directed}

@@ -1,6 +1,6 @@
 -- `add_four_rows` meets its contract: along the row, each cell gets the terms of four weights; terms and sums fit. x0, x1 and x2 are the first three cells of the
 -- window that is next.
-use Prim.Native.Nat.{◌+◌, ◌-◌}
+use Prim.Native.Nat.{◌+◌}
 use native.Mathlib.Omega.{arith}
 use lib.IntN.{pos}
 use Rattle.direction.specs.Direction.{directed}

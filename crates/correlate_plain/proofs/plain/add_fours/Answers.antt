@@ -1,6 +1,5 @@
 -- `add_fours` meets its contract: each turn adds the terms of four weights to the whole row.
 use mathlib.Core.Path.{refl}
-use Prim.Native.Nat.{◌-◌}
 use Rattle.correlate_plain.proofs.Passes.{adding_none, passed, four-more}
 use borrow.Author.Rules.{rules}
 use Rattle.correlate_plain.proofs.plain.add_fours.Goals as goal

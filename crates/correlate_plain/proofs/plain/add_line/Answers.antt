@@ -2,7 +2,7 @@
 -- whatever the row held before them. Assumes nothing.
 use mathlib.Core.Path.{◌≡◌, refl}
 use mathlib.Core.List.{List}
-use Prim.Native.Nat.{ℕ, ◌+◌, ◌-◌}
+use Prim.Native.Nat.{ℕ, ◌+◌}
 use native.Mathlib.Omega.{arith}
 use lib.IntN.{ℤ}
 use lib.ListN.{length}
@@ -15,7 +15,7 @@ use Rattle.correlate_plain.proofs.plain.add_line.Goals as goal
 
 pub add_three_rows-requires : goal.add_three_rows-requires
 add_three_rows-requires c =
-    let f = c.add_fours-k.ensures in
+    let f = c.add_fours-taken.ensures in
     let s = c in
     (passed s.args.backward {held = s.args.out.now} (record { is = f.1 }) s.requires f.0, search rules)
 
@@ -24,24 +24,24 @@ last-three : (w s held : List ℤ) (n : ℕ) {mid new : List ℤ} → mid ≡ ta
     → new ≡ tabulate (plus mid (λ i. three_terms w s i n)) 0 (length mid) → Adding w s held (n + 3) new
 last-three w s held n e q = three-more (record { is = e }) q
 
-pub returns-then-count-k-eq3 : goal.returns-then-count-k-eq3
-returns-then-count-k-eq3 c =
+pub returns-then-count-taken-eq3 : goal.returns-then-count-taken-eq3
+returns-then-count-taken-eq3 c =
     let f = c in
     let a = f.args in
-    adding_all (last-three (directed a.backward a.weights.now) a.line.now a.out.now _ f.add_fours-k.ensures.1 c.add_three_rows.ensures)
+    adding_all (last-three (directed a.backward a.weights.now) a.line.now a.out.now _ f.add_fours-taken.ensures.1 c.add_three_rows.ensures)
     {m = length a.weights.now} (omega arith)
 
 pub loop-k-init : goal.loop-k-init
-loop-k-init c = (c.add_fours-k.ensures.0, refl, λ held h. h)
+loop-k-init c = (refl, λ held h. h)
 
 pub add_row-requires : goal.add_row-requires
 add_row-requires c = let l = c.loop-k in
     let f = c in
     let s = f in
-    (passed s.args.backward (l.invariant.2 s.args.out.now (record { is = f.add_fours-k.ensures.1 })) s.requires l.invariant.0, search rules)
+    (passed s.args.backward (l.invariant.1 s.args.out.now (record { is = f.add_fours-taken.ensures.1 })) s.requires (omega (arith, f.add_fours-taken.ensures.0)), search rules)
 
 pub loop-k-preserved : goal.loop-k-preserved
-loop-k-preserved c = let l = c.loop-k in (search rules, refl, λ held h. one_more_lem (l.invariant.2 held h) c.add_row.ensures)
+loop-k-preserved c = let l = c.loop-k in (refl, λ held h. one_more_lem (l.invariant.1 held h) c.add_row.ensures)
 
 pub returns : goal.returns
-returns c = let f = c in adding_all (c.loop-k.invariant.2 f.args.out.now (record { is = f.add_fours-k.ensures.1 })) (omega arith)
+returns c = let f = c in adding_all (c.loop-k.invariant.1 f.args.out.now (record { is = f.add_fours-taken.ensures.1 })) (omega (arith, f.add_fours-taken.ensures.0))

@@ -2,7 +2,6 @@
 -- whatever the row held before them. Assumes nothing.
 use mathlib.Core.Path.{◌≡◌}
 use mathlib.Core.List.{List}
-use Prim.Native.Nat.{◌-◌, ◌≤◌}
 use lib.IntN.{ℤ}
 use lib.ListN.{length}
 use Rattle.direction.specs.Direction.{directed}
@@ -11,7 +10,4 @@ use Rattle.correlate_plain.proofs.plain.add_line.Given as goal
 
 abbrev pub invariant-loop-k : goal.invariant-loop-k
 invariant-loop-k l =
-    (l.k ≤ l.count) × (l.count ≡ length l.weights) × ((held : List ℤ) → Adding (directed l.backward l.weights) l.line held l.initial.k l.initial.out → Adding (directed l.backward l.weights) l.line held l.k l.out)
-
-abbrev pub decreases-loop-k : goal.decreases-loop-k
-decreases-loop-k l = l.count - l.k
+    (l.count ≡ length l.weights) × ((held : List ℤ) → Adding (directed l.backward l.weights) l.line held l.taken l.initial.out → Adding (directed l.backward l.weights) l.line held l.k l.out)

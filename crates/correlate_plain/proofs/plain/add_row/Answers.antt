@@ -1,6 +1,5 @@
 -- `add_row` meets its contract: along the row, each cell gets the term of one weight; term and sum fit.
 use mathlib.Core.Path.{refl}
-use Prim.Native.Nat.{◌-◌}
 use lib.IntN.{pos}
 use Rattle.correlate_spec.proofs.Along.{pass_none, pass_all}
 use Rattle.correlate_plain.proofs.Directed.{line-directed, passed_directed}

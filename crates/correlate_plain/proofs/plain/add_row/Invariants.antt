@@ -1,5 +1,4 @@
 -- `add_row` meets its contract: along the row, each cell gets the term of one weight; term and sum fit.
-use Prim.Native.Nat.{◌-◌}
 use lib.IntN.{pos}
 use Rattle.correlate_spec.specs.Weighed.{whole_ops, cell_term}
 use Rattle.direction.specs.Direction.{directed}
@@ -9,6 +8,3 @@ use Rattle.correlate_plain.proofs.plain.add_row.Given as goal
 
 abbrev pub invariant-loop-i : goal.invariant-loop-i
 invariant-loop-i l = Pass (pos 0) (plus l.initial.out (λ k. cell_term whole_ops (directed l.backward l.weights) l.line k l.j)) l.initial.out l.n l.i l.out
-
-abbrev pub decreases-loop-i : goal.decreases-loop-i
-decreases-loop-i l = l.n - l.i

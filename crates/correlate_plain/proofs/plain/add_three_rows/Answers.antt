@@ -1,6 +1,6 @@
 -- `add_three_rows` meets its contract: along the row, each cell gets the terms of three weights; terms and sums fit. x0 and x1 are the first two cells of the
 -- window that is next.
-use Prim.Native.Nat.{◌+◌, ◌-◌}
+use Prim.Native.Nat.{◌+◌}
 use native.Mathlib.Omega.{arith}
 use lib.IntN.{pos}
 use Rattle.direction.specs.Direction.{directed}

@@ -1,7 +1,7 @@
 -- `add_three_rows` meets its contract: along the row, each cell gets the terms of three weights; terms and sums fit. x0 and x1 are the first two cells of the
 -- window that is next.
 use mathlib.Core.Path.{◌≡◌}
-use Prim.Native.Nat.{◌+◌, ◌-◌}
+use Prim.Native.Nat.{◌+◌}
 use lib.IntN.{pos}
 use lib.ListN.{get_or}
 use Rattle.direction.specs.Direction.{directed}
@@ -13,6 +13,3 @@ abbrev pub invariant-loop-i : goal.invariant-loop-i
 invariant-loop-i l =
     (l.x0 ≡ get_or l.line (l.i + l.j) (pos 0)) × (l.x1 ≡ get_or l.line (l.i + l.j + 1) (pos 0))
     × Pass (pos 0) (plus l.initial.out (λ k. three_terms (directed l.backward l.weights) l.line k l.j)) l.initial.out l.n l.i l.out
-
-abbrev pub decreases-loop-i : goal.decreases-loop-i
-decreases-loop-i l = l.n - l.i

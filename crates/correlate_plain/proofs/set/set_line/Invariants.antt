@@ -1,6 +1,5 @@
 -- `set_line` meets its contract: from a row that is begun, each turn adds the term of one weight to the whole row.
 use mathlib.Core.Path.{◌≡◌}
-use Prim.Native.Nat.{◌-◌, ◌≤◌}
 use lib.ListN.{length}
 use Rattle.direction.specs.Direction.{directed}
 use Rattle.correlate_spec.specs.Weighed.{whole_ops, plain_to}
@@ -8,7 +7,4 @@ use Rattle.correlate_spec.proofs.Along.{Row}
 use Rattle.correlate_plain.proofs.set.set_line.Given as goal
 
 abbrev pub invariant-loop-k : goal.invariant-loop-k
-invariant-loop-k l = (l.k ≤ l.count) × (l.count ≡ length l.weights) × Row (plain_to whole_ops (directed l.backward l.weights) l.line l.k) (length l.initial.out) l.out
-
-abbrev pub decreases-loop-k : goal.decreases-loop-k
-decreases-loop-k l = l.count - l.k
+invariant-loop-k l = (l.count ≡ length l.weights) × Row (plain_to whole_ops (directed l.backward l.weights) l.line l.k) (length l.initial.out) l.out

@@ -1,6 +1,5 @@
 -- `start_row` meets its contract: the row is filled from the front with sums of one term, which fit.
 use mathlib.Core.Path.{◌∙◌}
-use Prim.Native.Nat.{◌-◌}
 use lib.IntN.{pos}
 use Rattle.direction.specs.Direction.{directed}
 use Rattle.correlate_spec.proofs.Along.{pass_none, pass_more, pass_all}

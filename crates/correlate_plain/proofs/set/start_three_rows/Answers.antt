@@ -1,7 +1,7 @@
 -- `start_three_rows` meets its contract: the row is filled from the front with sums of three terms, which fit. x0 and x1 are the first two cells of the window
 -- that is next.
 use mathlib.Core.Path.{◌∙◌}
-use Prim.Native.Nat.{◌+◌, ◌-◌}
+use Prim.Native.Nat.{◌+◌}
 use native.Mathlib.Omega.{arith}
 use lib.IntN.{pos}
 use Rattle.direction.specs.Direction.{directed}

@@ -1,6 +1,5 @@
--- `sum_of` meets its contract. The loop's invariant: `sum` is the sum of the first `i` cells. The measure is what is left of the cells.
+-- `sum_of` meets its contract. The loop's invariant: `sum` is the sum of the first `z-index` cells.
 use mathlib.Core.Path.{sym, ap, ◌∙◌}
-use Prim.Native.Nat.{◌-◌}
 use native.Mathlib.Nat.{zero-add}
 use native.Mathlib.Omega.{arith}
 use mir.Syntax.{w64}
@@ -13,28 +12,24 @@ use Rattle.correlate_spec.specs.WindowSum.{window_sum}
 use Rattle.correlate_spec.proofs.Computed.{read}
 use Rattle.correlate_spec.proofs.Sliding.{sum-none}
 use Rattle.correlate_spec.proofs.SlidingSum.{sum_computed, total-read}
-use borrow.Author.Rules.{rules}
 use Rattle.correlate_plain.proofs.sums.sum_of.Goals as goal
 
-pub loop-i-init : goal.loop-i-init
-loop-i-init c = (search rules, sym (sum-none c.args.cells.now 0))
+pub loop-z-init : goal.loop-z-init
+loop-z-init c = sym (sum-none c.args.cells.now 0)
 
 pub overflow_add-sum : goal.overflow_add-sum
 overflow_add-sum c =
-    let k = c in
-    let s = k in
-    (sum_computed s.args.cells.now s.requires.cells k.loop-i.i 0 (omega (arith, s.requires.few)) k.loop-i.invariant.1 k.loop-i.i).fits
+    let l = c.loop-z in
+    (sum_computed c.args.cells.now c.requires.cells l.z-index 0 (omega (arith, c.requires.few)) l.invariant l.z-index).fits
 
-pub loop-i-preserved : goal.loop-i-preserved
-loop-i-preserved c =
-    let k = c in
-    let s = k in (
-      search rules,
-      ap (λ m. read (to_z w64 k.loop-i.sum-bits +ℤ read (get_or s.args.cells.now m (pos 0)))) (sym (zero-add k.loop-i.i))
-          ∙ total-read s.args.cells.now s.requires.cells k.loop-i.i 0 (omega (arith, s.requires.few)) k.loop-i.invariant.1 (omega arith),
-    )
+pub loop-z-preserved : goal.loop-z-preserved
+loop-z-preserved c =
+    let l = c.loop-z in
+    let s = c.args.cells.now in
+    ap (λ m. read (to_z w64 l.sum-bits +ℤ read (get_or s m (pos 0)))) (sym (zero-add l.z-index))
+    ∙ total-read s c.requires.cells l.z-index 0 (omega (arith, c.requires.few)) l.invariant (omega arith)
 
 pub returns : goal.returns
 returns c =
     let l = c.args.cells.now in
-    c.loop-i.invariant.1 ∙ ap (λ m. window_sum l m 0) (omega arith) ∙ ap sum_of (window-whole l)
+    c.loop-z.invariant ∙ ap (λ m. window_sum l m 0) (omega arith) ∙ ap sum_of (window-whole l)

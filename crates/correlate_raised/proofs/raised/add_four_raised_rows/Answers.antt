@@ -1,5 +1,4 @@
 -- `add_four_raised_rows` meets its contract: along the row, each cell gets its next four raised terms; terms and sum fit.
-use Prim.Native.Nat.{◌-◌}
 use native.Mathlib.Omega.{arith}
 use lib.IntN.{pos}
 use borrow.Author.Rules.{rules}

@@ -9,14 +9,12 @@ use Rattle.correlate_raised.specs.Raised.{raised_to}
 use Rattle.correlate_raised_terms.specs.Products.{lowered}
 use Rattle.correlate_raised.proofs.raised.add_raised.Given as goal
 
+abbrev pub invariant-loop-taken : goal.invariant-loop-taken
+invariant-loop-taken l =
+    (l.taken ≤ l.count) × (l.count ≡ length l.weights) × Row (raised_to l.by (directed l.backward l.weights) (lowered l.line) l.taken) (length l.initial.out) l.out
+
+abbrev pub decreases-loop-taken : goal.decreases-loop-taken
+decreases-loop-taken l = l.count - l.taken
+
 abbrev pub invariant-loop-k : goal.invariant-loop-k
-invariant-loop-k l = (l.k ≤ l.count) × (l.count ≡ length l.weights) × Row (raised_to l.by (directed l.backward l.weights) (lowered l.line) l.k) (length l.initial.out) l.out
-
-abbrev pub decreases-loop-k : goal.decreases-loop-k
-decreases-loop-k l = l.count - l.k
-
-abbrev pub invariant-loop-k-2 : goal.invariant-loop-k-2
-invariant-loop-k-2 l = (l.k ≤ l.count) × (l.count ≡ length l.weights) × Row (raised_to l.by (directed l.backward l.weights) (lowered l.line) l.k) (length l.initial.out) l.out
-
-abbrev pub decreases-loop-k-2 : goal.decreases-loop-k-2
-decreases-loop-k-2 l = l.count - l.k
+invariant-loop-k l = (l.count ≡ length l.weights) × Row (raised_to l.by (directed l.backward l.weights) (lowered l.line) l.k) (length l.initial.out) l.out

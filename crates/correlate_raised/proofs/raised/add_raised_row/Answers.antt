@@ -1,5 +1,4 @@
 -- `add_raised_row` meets its contract: along the row, each cell gets its next raised term; terms and sum fit.
-use Prim.Native.Nat.{◌-◌}
 use native.Mathlib.Omega.{arith}
 use lib.IntN.{pos}
 use borrow.Author.Rules.{rules}

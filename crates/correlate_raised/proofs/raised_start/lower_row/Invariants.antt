@@ -1,7 +1,6 @@
 -- `lower_row` meets its contract. The loop's invariant: `sum` is the sum of the cells that the windows before and at `i` share, and the
 -- starts before `i` are stored. Assumes nothing.
 use mathlib.Core.Path.{◌≡◌}
-use Prim.Native.Nat.{◌-◌}
 use lib.IntN.{pos}
 use Rattle.correlate_spec.specs.WindowSum.{window_sum}
 use Rattle.correlate_spec.proofs.Along.{Pass}
@@ -11,6 +10,3 @@ use Rattle.correlate_raised.proofs.raised_start.lower_row.Given as goal
 abbrev pub invariant-loop-i : goal.invariant-loop-i
 invariant-loop-i l =
     (l.sum ≡ window_sum l.line l.before l.i) × Pass (pos 0) (raised_start l.by l.weights l.line) l.initial.out l.n l.i l.out
-
-abbrev pub decreases-loop-i : goal.decreases-loop-i
-decreases-loop-i l = l.n - l.i
