@@ -14,8 +14,8 @@ ghost use Rattle.pad_spec.specs.Frame.{Framed, Filling, middle_set};
 ghost use Rattle.pad_middle.specs.Around.{around_set};
 ghost use Rattle.pad.specs.Laid.{laid};
 
-use numbers::Refusal;
 use border::{CellBorder, PadMode};
+use numbers::Refusal;
 use pad_middle::copy_middle;
 use pad_spec::{Filler, Pair, Statistic};
 

@@ -14,11 +14,9 @@ use pad_spec::{Filler, Pair, pair_of};
 fn bad_constant(mode: border::PadMode) -> bool
     ensures { result ≡ bad_constant mode }
 {
-    let filler = pad_spec::filler_of(mode);
-    match filler {
+    match pad_spec::filler_of(mode) {
         Filler::Level(t) => array::bad_level(t),
-        Filler::Cells(_) => false,
-        Filler::Statistic(_) => false,
+        Filler::Cells(_) | Filler::Statistic(_) => false,
     }
 }
 
@@ -34,24 +32,14 @@ fn bad_reach_on(
 {
     let n = array::len_of(shape, axis);
     let p = pair_of(pads, count, axis);
-    if pad_spec::bad_pad(mode, n, p.left) {
-        return true;
-    }
-    pad_spec::bad_pad(mode, n, p.right)
+    pad_spec::bad_pad(mode, n, p.left) || pad_spec::bad_pad(mode, n, p.right)
 }
 
 // Condition 11: on some axis a pad that the mode cannot fill.
 fn bad_reach(mode: border::PadMode, shape: &[usize], pads: [Pair; 3], count: usize) -> bool
     ensures { result ≡ bad_pad_reach mode shape.now pads count }
 {
-    let mut a = 0;
-    while a < shape.len() {
-        if bad_reach_on(mode, shape, pads, count, a) {
-            return true;
-        }
-        a += 1;
-    }
-    false
+    (0..shape.len()).any(|a| bad_reach_on(mode, shape, pads, count, a))
 }
 
 // What `pad` and `pad_to` refuse, in rising order: the number of the first condition that holds, or 0.

@@ -1,36 +1,27 @@
--- What a loop over a line keeps of the first member in an order: of a running value and what is left, or of four running values that take every fourth
--- member each. At the end stand the same laws as the machine takes them, of levels that fit 64 bits. The minimum's proofs take these laws at ≤, the maximum's at ≥.
+-- What a loop over a line keeps of the first member in an order: of four running values that take every fourth member each, and what is left.
+-- At the end stand the same laws as the machine takes them, of levels that fit 64 bits. The minimum's proofs take these laws at ≤, the maximum's at ≥.
 -- Assumes nothing.
 use mathlib.Core.Path.{◌≡◌, refl, sym, ap, ◌∙◌}
-use mathlib.Core.Bool.{Bool, true, false, not}
+use mathlib.Core.Bool.{Bool}
 use mathlib.Core.List.{List, [], ◌∷◌}
-use Prim.Native.Nat.{ℕ, ◌+◌, ◌^◌, ◌≤◌, ◌<◌}
+use Prim.Native.Nat.{ℕ, ◌+◌, ◌^◌, ◌<◌}
 use native.Mathlib.Nat.{not-suc-le-zero, suc-ne-zero}
 use native.Mathlib.Omega.{arith}
 use lib.IntN.{ℤ, pos}
-use lib.ListN.{length, get_or, drop, drop_of_length-le}
-use lib.Signed.{lt_z, le_z, mag}
-use mir.Facts.{to_z-of_z}
+use lib.ListN.{length, get_or, drop}
+use lib.Signed.{le_z, mag}
 use mir.Syntax.{w64}
-use mir.Val.{SFits, to_z, of_z}
-use Rattle.numbers.specs.Order.{Total, extreme_from, extreme}
+use mir.Val.{to_z, of_z}
+use Rattle.std.specs.Int.{int_min, int_max}
+use Rattle.std.proofs.lemmas.Int.{ints}
+use Rattle.numbers.specs.Order.{Total, at_least, extreme_from, extreme}
 use Rattle.numbers.proofs.Index.{drop-next}
-use Rattle.numbers.proofs.IntOrder.{le_z_not_lt_z}
 use Rattle.numbers.proofs.Lesser.{lesser, lesser_itself, lesser_assoc, lesser_crossed}
 use Rattle.numbers.proofs.Read.{read}
-use Rattle.numbers.proofs.Tests.{cond_yes, cond_no}
 
 -- ---- one step: n is m, or the member at place i where that comes first
 pub record Next {A : Type 0} (le : A → A → Bool) (d : A) (l : List A) (i : ℕ) (m n : A) : Type 0 where
   pub is : n ≡ lesser le m (get_or l i d)
-
--- as the machine takes it, of a level that was read
-pub next-read : (le : ℤ → ℤ → Bool) (l : List ℤ) (i : ℕ) {m r : ℤ} → let z = get_or l i (pos 0) in
-    mag z < 2 ^ 63 → mag r < 2 ^ 63 → r ≡ lesser le m (to_z w64 (of_z w64 z)) → Next le (pos 0) l i m (to_z w64 (of_z w64 r))
-next-read le l i {m} {r} h k e = record { is = read k (e ∙ ap (lesser le m) back) }
-  where
-    back : to_z w64 (of_z w64 (get_or l i (pos 0))) ≡ get_or l i (pos 0)
-    back = read h refl
 
 module _ {A : Type 0} (le : A → A → Bool) (d : A) where
   -- ---- the ends of a pass
@@ -41,13 +32,6 @@ module _ {A : Type 0} (le : A → A → Bool) (d : A) where
   pub extreme-first : (l : List A) → 0 < length l → extreme_from le (get_or l 0 d) (drop 1 l) ≡ extreme le d l
   extreme-first [] h = absurd (not-suc-le-zero h)
   extreme-first (x ∷ xs) h = refl
-
-  module _ (l : List A) (i : ℕ) (m v : A) (e : extreme_from le m (drop i l) ≡ v) where
-    pub extreme-more : {n : A} → Next le d l i m n → i < length l → extreme_from le n (drop (i + 1) l) ≡ v
-    extreme-more N h = ap (λ y. extreme_from le y (drop (i + 1) l)) N.is ∙ sym (ap (extreme_from le m) (drop-next l i d h)) ∙ e
-
-    pub extreme-last : length l ≤ i → m ≡ v
-    extreme-last h = sym (ap (extreme_from le m) (drop_of_length-le l h)) ∙ e
 
   -- ---- four running values, and what is left from place i on
   abbrev pub four : A → A → A → A → A
@@ -100,31 +84,23 @@ module _ {A : Type 0} (le : A → A → Bool) (d : A) where
 abbrev back : ℤ → ℤ
 back z = to_z w64 (of_z w64 z)
 
--- the machine's test of two levels, y below x, by the test of ≤
-pub at_most_tested : {x y : ℤ} (t : Bool) → SFits w64 x → SFits w64 y → lt_z (back y) (back x) ≡ t → le_z x y ≡ not t
-at_most_tested {x} {y} t h k e = le_z_not_lt_z x y ∙ ap not (rw (to_z-of_z h, to_z-of_z k) at e)
+-- the lesser and the greater of two levels, as std has them
+pub min_is : (x y : ℤ) → int_min x y ≡ lesser le_z x y
+min_is x y = grind (arith, ints)
 
-module _ (le : ℤ → ℤ → Bool) where
-  -- the first of two levels: the second where the test fails, otherwise the first
-  pub second_taken : {a b : ℤ} → SFits w64 a → SFits w64 b → le a b ≡ false → back b ≡ lesser le a b
-  second_taken {a} {b} h k e = to_z-of_z k ∙ sym (cond_no _ a b e)
+pub max_is : (x y : ℤ) → int_max x y ≡ lesser at_least x y
+max_is x y = grind (arith, ints)
 
-  pub first-kept : {a b : ℤ} → SFits w64 a → SFits w64 b → le a b ≡ true → back a ≡ lesser le a b
-  first-kept {a} {b} h k e = to_z-of_z h ∙ sym (cond_yes _ a b e)
+module _ (le : ℤ → ℤ → Bool) (op : ℤ → ℤ → ℤ) (op_is : (x y : ℤ) → op x y ≡ lesser le x y) (l : List ℤ) where
+  -- one step, of a level that was read
+  pub next-read : (i : ℕ) {m r : ℤ} → let z = get_or l i (pos 0) in mag z < 2 ^ 63 → mag r < 2 ^ 63 → r ≡ op m (back z) → Next le (pos 0) l i m (back r)
+  next-read i {m} {r} h k e = record { is = read k (e ∙ op_is m (back (get_or l i (pos 0))) ∙ ap (lesser le m) (read h refl)) }
 
-  -- the last of the levels that go singly, and the ends of a pass
-  module _ (l : List ℤ) where
-    pub from_more : (i : ℕ) (m : ℤ) {r v : ℤ} → let z = get_or l i (pos 0) in extreme_from le m (drop i l) ≡ v → i < length l
-        → mag z < 2 ^ 63 → mag r < 2 ^ 63 → r ≡ lesser le m (back z) → extreme_from le (back r) (drop (i + 1) l) ≡ v
-    from_more i m {r} {v} e h f g k = extreme-more le (pos 0) l i m v e (next-read le l i f g k) h
-
-    pub from_last : (i from : ℕ) (m : ℤ) {first : ℤ} → extreme_from le m (drop i l) ≡ extreme_from le (back first) (drop from l) → length l ≤ i
-        → SFits w64 first → m ≡ extreme_from le first (drop from l)
-    from_last i from m {first} e h f = extreme-last le (pos 0) l i m _ e h ∙ ap (λ z. extreme_from le z (drop from l)) (to_z-of_z f)
-
-    -- the four running values joined, and the levels that are left after them
-    pub four-last : {i : ℕ} {a b c e p q r s : ℤ} → Four le (pos 0) l i a b c e
-        → mag p < 2 ^ 63 → p ≡ lesser le a b → mag q < 2 ^ 63 → q ≡ lesser le c e
-        → mag r < 2 ^ 63 → r ≡ lesser le (back p) (back q) → mag s < 2 ^ 63 → s ≡ extreme_from le (back r) (drop i l) → back s ≡ extreme le (pos 0) l
-    four-last {i} F fp ep fq eq fr er fs es =
-        read fs (es ∙ ap (λ z. extreme_from le z (drop i l)) (read fr (er ∙ (λ t. lesser le (read fp ep t) (read fq eq t))))) ∙ F.is
+  -- the four running values joined, and the levels that are left after them
+  pub four-last : {i : ℕ} {a b c e p q r s : ℤ} → Four le (pos 0) l i a b c e → mag p < 2 ^ 63 → p ≡ op a b → mag q < 2 ^ 63 → q ≡ op c e
+      → mag r < 2 ^ 63 → r ≡ op (back p) (back q) → mag s < 2 ^ 63 → s ≡ extreme_from le (back r) (drop i l) → back s ≡ extreme le (pos 0) l
+  four-last {i} {a} {b} {c} {e} {p} {q} F fp ep fq eq fr er fs es =
+      read fs
+      (es ∙ ap (λ z. extreme_from le z (drop i l))
+      (read fr (er ∙ op_is (back p) (back q) ∙ (λ t. lesser le (read fp (ep ∙ op_is a b) t) (read fq (eq ∙ op_is c e) t)))))
+      ∙ F.is

@@ -1,29 +1,16 @@
 // The least and the greatest level of a line.
-ghost use Rattle.std.specs.Prelude.{◌≡◌, cond, drop};
+ghost use Rattle.std.specs.Prelude.{◌≡◌, drop};
 ghost use Rattle.std.specs.Int.Signed.{le_z};
 ghost use Rattle.numbers.specs.Order.{at_least, extreme_from};
 ghost use Rattle.statistics_spec.specs.Statistics.{minimum_of, maximum_of};
-
-// The lesser of two levels.
-fn lesser(a: i64, b: i64) -> i64
-    ensures { result ≡ cond (le_z a b) a b }
-{
-    if b < a {
-        return b;
-    }
-    a
-}
 
 // The least of `first` and the levels from place `from` on.
 fn least_from(line: &[i64], from: usize, first: i64) -> i64
     ensures { result ≡ extreme_from le_z first (drop from line.now) }
 {
     let mut least = first;
-    let mut i = from;
-    while i < line.len() {
-        let x = line[i];
-        least = lesser(least, x);
-        i += 1;
+    for i in from..line.len() {
+        least = least.min(line[i]);
     }
     least
 }
@@ -40,30 +27,21 @@ pub fn minimum(line: &[i64]) -> i64
     if n == 0 {
         return 0;
     }
-    // Four levels a turn, each to a running value of its own, so that none waits for the one before it.
+    // Four levels a turn, each to a running value of its own, so that none waits for the one before it. A `while`, since
+    // `i` goes on to the levels that are left.
     let mut a = line[0];
     let mut b = a;
     let mut c = a;
     let mut d = a;
     let mut i = 1;
     while i + 3 < n {
-        a = lesser(a, line[i]);
-        b = lesser(b, line[i + 1]);
-        c = lesser(c, line[i + 2]);
-        d = lesser(d, line[i + 3]);
+        a = a.min(line[i]);
+        b = b.min(line[i + 1]);
+        c = c.min(line[i + 2]);
+        d = d.min(line[i + 3]);
         i += 4;
     }
-    least_from(line, i, lesser(lesser(a, b), lesser(c, d)))
-}
-
-// The greater of two levels.
-fn greater(a: i64, b: i64) -> i64
-    ensures { result ≡ cond (at_least a b) a b }
-{
-    if a < b {
-        return b;
-    }
-    a
+    least_from(line, i, a.min(b).min(c.min(d)))
 }
 
 // The greatest of `first` and the levels from place `from` on.
@@ -71,11 +49,8 @@ fn greatest_from(line: &[i64], from: usize, first: i64) -> i64
     ensures { result ≡ extreme_from at_least first (drop from line.now) }
 {
     let mut greatest = first;
-    let mut i = from;
-    while i < line.len() {
-        let x = line[i];
-        greatest = greater(greatest, x);
-        i += 1;
+    for i in from..line.len() {
+        greatest = greatest.max(line[i]);
     }
     greatest
 }
@@ -98,11 +73,11 @@ pub fn maximum(line: &[i64]) -> i64
     let mut d = a;
     let mut i = 1;
     while i + 3 < n {
-        a = greater(a, line[i]);
-        b = greater(b, line[i + 1]);
-        c = greater(c, line[i + 2]);
-        d = greater(d, line[i + 3]);
+        a = a.max(line[i]);
+        b = b.max(line[i + 1]);
+        c = c.max(line[i + 2]);
+        d = d.max(line[i + 3]);
         i += 4;
     }
-    greatest_from(line, i, greater(greater(a, b), greater(c, d)))
+    greatest_from(line, i, a.max(b).max(c.max(d)))
 }

@@ -1,8 +1,8 @@
 -- The lifted sum of a line, level by level: where no level is far it stays below 2^64, and less what was added it is the sum of the levels.
 -- Assumes nothing.
-use Rattle.std.proofs.Common.{◌≡◌, ℕ, ◌+◌, ◌*◌, ◌%◌, ◌^◌, ◌<◌, ◌≤◌, false, List, length, get_or, drop, ℤ, pos, ◌+ℤ◌, ◌-ℤ◌, sym, ap, ◌∙◌, zero-le, arith, w64, SFits, to_z, of_z, ltb-false}
+use Rattle.std.proofs.Common.{◌≡◌, ℕ, ◌+◌, ◌*◌, ◌%◌, ◌^◌, ◌<◌, ◌≤◌, false, List, length, get_or, drop, ℤ, pos, ◌+ℤ◌, ◌-ℤ◌, sym, ap, ◌∙◌, arith, w64, SFits, to_z, of_z, ltb-false}
 use mathlib.Core.Path.{subst⁻¹}
-use lib.IntN.{+ℤ_assoc, +ℤ_idl, +ℤ_idr, +ℤ-neg_ℤ_cancel}
+use lib.IntN.{+ℤ_assoc, +ℤ-neg_ℤ_cancel}
 use mir.ValLaws.{to_z-of_z, to_z_pos}
 use Rattle.numbers.specs.Lists.{any_of}
 use Rattle.numbers.specs.Sums.{sum_of}
@@ -12,7 +12,7 @@ use Rattle.numbers.proofs.Size.{size_sum, fits_size}
 use Rattle.array_levels.specs.Near.{is_far}
 use Rattle.array_levels.proofs.Raising.{Lift, none-outside}
 use Rattle.statistics_spec.specs.Statistics.{unserved, answered}
-use Rattle.statistics_spec.proofs.Running.{sum_more, sum-last}
+use Rattle.statistics_spec.proofs.Running.{sum_more}
 use Rattle.statistics_spec.proofs.Served.{served_sized, unserved_short, answered_served}
 use Rattle.statistics_mean.specs.NearSum.{NearSum}
 
@@ -20,9 +20,6 @@ use Rattle.statistics_mean.specs.NearSum.{NearSum}
 pub record Summed (l : List ℤ) (i sum : ℕ) : Type 0 where
   pub is : pos sum +ℤ sum_of (drop i l) ≡ sum_of l +ℤ pos (i * 2 ^ 30)
   pub small : sum ≤ i * 2147483647
-
-pub summed-none : (l : List ℤ) → Summed l 0 0
-summed-none l = record { is = +ℤ_idl (sum_of l) ∙ sym (+ℤ_idr (sum_of l)); small = zero-le }
 
 module _ {l : List ℤ} {i sum : ℕ} (S : Summed l i sum) where
   pub summed-more : {m sum' : ℕ} → i < length l → length l ≤ 1024 → any_of is_far l ≡ false → Lift (get_or l i (pos 0)) m → sum' ≡ (sum + m) % 2 ^ 64 → Summed l (i + 1) sum'
@@ -52,11 +49,6 @@ module _ {l : List ℤ} {i sum : ℕ} (S : Summed l i sum) where
 
       next : i * 2 ^ 30 + 2 ^ 30 ≡ (i + 1) * 2 ^ 30
       next = omega arith
-
-  pub summed-all : length l ≤ i → i ≤ length l → any_of is_far l ≡ false → NearSum l sum
-  summed-all h k f =
-      let e : i ≡ length l = omega arith in
-      record { near = f; is = sum-last l i (pos sum) (sum_of l +ℤ pos (i * 2 ^ 30)) S.is h ∙ ap (λ n. sum_of l +ℤ pos (n * 2 ^ 30)) e; small = omega (arith, S.small) }
 
 -- ---- on the machine: what was added is taken away
 module _ (l : List ℤ) {sum : ℕ} (N : NearSum l sum) (b : length l ≤ 1024) where

@@ -15,10 +15,7 @@ const MOST_CELLS: usize = 1024;
 pub fn not_served(line: &[i64]) -> bool
     ensures { result ≡ unserved line.now }
 {
-    if MOST_CELLS < line.len() {
-        return true;
-    }
-    array::any_outside(line)
+    MOST_CELLS < line.len() || array::any_outside(line)
 }
 
 // The sum of the levels, which stays below 2^41 in size.
@@ -27,11 +24,8 @@ fn sum(line: &[i64]) -> i64
     ensures { result ≡ sum_of line.now }
 {
     let mut sum = 0;
-    let mut i = 0;
-    while i < line.len() {
-        let z = line[i];
-        sum += z;
-        i += 1;
+    for z in line {
+        sum += *z;
     }
     sum
 }
@@ -48,15 +42,12 @@ fn lift_all(line: &[i64]) -> Lifts
     requires { length line.now ≤ 1024 }
     ensures { result.bits ≤ 2147483647 → NearSum line.now result.sum }
 {
-    let mut bits = 0;
-    let mut sum = 0;
-    let mut i = 0;
-    while i < line.len() {
-        let z = line[i];
-        let w = array::lifted(z);
-        bits = bits | w;
-        sum = std::num::wrapping_add_u64(sum, w);
-        i += 1;
+    let mut bits: u64 = 0;
+    let mut sum: u64 = 0;
+    for z in line {
+        let w = array::lifted(*z);
+        bits |= w;
+        sum = sum.wrapping_add(w);
     }
     Lifts { bits, sum }
 }

@@ -1,30 +1,28 @@
--- `bad_reach` meets its contract: no axis before the one that the loop has reached is refused.
-use mathlib.Core.Path.{refl}
-use Prim.Native.Nat.{◌-◌}
+-- `bad_reach` meets its contract: the closure computes the test of an axis.
+use mathlib.Core.Path.{◌≡◌, refl, ap, ◌∙◌}
+use mathlib.Core.List.{◌∷◌}
+use Prim.Native.Nat.{ℕ, zero, suc, ◌+◌}
 use native.Mathlib.Omega.{arith}
 use borrow.Author.Rules.{rules}
+use borrow.Author.Tests.{tests}
 use lib.ListN.{length}
-use Rattle.numbers.proofs.Tests.{condition_is}
-use Rattle.pad_spec.specs.Conditions.{bad_pad_reach}
-use Rattle.pad_spec.proofs.PairOf.{axis_hit, axis_miss, axis_end}
+use Rattle.std.specs.List.{range_with_len}
+use Rattle.std.proofs.lemmas.Iterator.{YieldsList-from_range}
+use Rattle.std.proofs.lemmas.Iterator.Search.{any_from_yields_List}
+use Rattle.numbers.specs.Lists.{tabulate, any_of}
+use Rattle.pad_spec.specs.Conditions.{bad_pad_reach, bad_pad_reach_on}
 use Rattle.pad_judge.proofs.bad_reach.Goals as goal
 
-pub loop-a-init : goal.loop-a-init
-loop-a-init c = (search rules, refl)
-
-pub returns-then-bad_reach_on : goal.returns-then-bad_reach_on
-unfolding bad_pad_reach
-returns-then-bad_reach_on c =
-    let l = c in
-    axis_hit _ (length l.args.shape.now) l.loop-a.a (omega arith) l.loop-a.invariant.1 (condition_is c.bad_reach_on.ensures c.if-bad_reach_on.true)
-
-pub loop-a-preserved : goal.loop-a-preserved
-loop-a-preserved c =
-    let l = c in
-    (search rules, axis_miss _ (length l.args.shape.now) l.loop-a.a (omega arith) l.loop-a.invariant.1 (condition_is c.bad_reach_on.ensures c.if-bad_reach_on.false))
+range_is : (m n : ℕ) → range_with_len m n ≡ tabulate (λ k. k) m n
+unfolding tabulate
+range_is m zero = refl
+range_is m (suc n) = let e : m + 1 ≡ suc m = omega arith in rw e (ap (λ l. m ∷ l) (range_is (suc m) n))
 
 pub returns : goal.returns
 unfolding bad_pad_reach
 returns c =
-    let l = c in
-    axis_end _ (length l.args.shape.now) l.loop-a.a (omega arith) l.loop-a.invariant.1
+    let a = c.args in
+    let t = bad_pad_reach_on a.mode a.shape.now a.pads a.count in
+    any_from_yields_List t _ _ _ c.any.ensures.ran (YieldsList-from_range 0 (length a.shape.now) (length a.shape.now) refl (omega arith))
+    (λ x b q k. search (rules, tests))
+    ∙ ap (any_of t) (range_is 0 (length a.shape.now))
