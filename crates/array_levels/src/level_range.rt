@@ -9,16 +9,6 @@ ghost use Rattle.numbers.specs.Lists.{any_of};
 ghost use Rattle.numbers.specs.Ranges.{outside_z};
 ghost use Rattle.array_levels.specs.Near.{is_far, lift_of};
 
-// A level as a number above zero: 2^63 is added.
-fn raised(z: i64) -> u64
-    ensures { pos result ≡ z +ℤ pos (2 ^ 63) }
-{
-    if z < 0 {
-        return (z + 9223372036854775807 + 1) as u64;
-    }
-    z as u64 + 9223372036854775808
-}
-
 // A level with 2^30 added, modulo 2^64.
 //
 // * `z` - the level.
@@ -28,7 +18,7 @@ fn raised(z: i64) -> u64
 pub fn lifted(z: i64) -> u64
     ensures { result ≡ lift_of z }
 {
-    std::num::wrapping_add_u64(raised(z), 9223372037928517632)
+    z.wrapping_add(1073741824).cast_unsigned()
 }
 
 // Whether some level is outside -2^30..2^30 - 1: those inside are lifted to numbers below 2^31, and so are their bits
@@ -37,11 +27,8 @@ fn far_in(line: &[i64]) -> bool
     ensures { result ≡ any_of is_far line.now }
 {
     let mut bits = 0;
-    let mut i = 0;
-    while i < line.len() {
-        let z = line[i];
-        bits = bits | lifted(z);
-        i += 1;
+    for &z in line {
+        bits |= lifted(z);
     }
     2147483647 < bits
 }
@@ -54,18 +41,13 @@ fn far_in_two(line: &[i64], other: &[i64]) -> bool
 {
     let mut bits = 0;
     let mut more = 0;
-    let mut i = 0;
-    while i < line.len() {
+    for i in 0..line.len() {
         let z = line[i];
         let y = other[i];
-        bits = bits | lifted(z);
-        more = more | lifted(y);
-        i += 1;
+        bits |= lifted(z);
+        more |= lifted(y);
     }
-    if 2147483647 < bits {
-        return true;
-    }
-    2147483647 < more
+    2147483647 < bits || 2147483647 < more
 }
 
 // The same of a line: of its two halves, and of the level that is left of an odd number.
@@ -74,10 +56,7 @@ fn any_far(line: &[i64]) -> bool
 {
     let half = line.len() / 2;
     let e = half + half;
-    if far_in_two(&line[..half], &line[half..e]) {
-        return true;
-    }
-    far_in(&line[e..])
+    far_in_two(&line[..half], &line[half..e]) || far_in(&line[e..])
 }
 
 // Whether some level is outside -(2^31 - 1)..2^31 - 1: the sizes' bits joined pass the limit where one size does. For a
@@ -90,11 +69,8 @@ pub fn any_over(line: &[i64]) -> bool
     ensures { result ≡ any_of (outside_z (neg_ℤ (pos (2 ^ 31 - 1))) (pos (2 ^ 31 - 1))) line.now }
 {
     let mut sizes = 0;
-    let mut i = 0;
-    while i < line.len() {
-        let z = line[i];
-        sizes = sizes | numbers::magnitude(z);
-        i += 1;
+    for &z in line {
+        sizes |= numbers::magnitude(z);
     }
     2147483647 < sizes
 }
@@ -107,8 +83,5 @@ pub fn any_over(line: &[i64]) -> bool
 pub fn any_outside(line: &[i64]) -> bool
     ensures { result ≡ any_of (outside_z (neg_ℤ (pos (2 ^ 31 - 1))) (pos (2 ^ 31 - 1))) line.now }
 {
-    if !any_far(line) {
-        return false;
-    }
-    any_over(line)
+    any_far(line) && any_over(line)
 }

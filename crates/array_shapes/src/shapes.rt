@@ -9,10 +9,7 @@ ghost use Rattle.array_spec.specs.Grid.{length_of};
 pub fn len_of(shape: &[usize], axis: usize) -> usize
     ensures { result ≡ length_of shape.now axis }
 {
-    if shape.len() <= axis {
-        return 1;
-    }
-    shape[axis]
+    shape.get(axis).copied().unwrap_or(1)
 }
 
 // The number of cells of three lengths; 0 where a length is outside 1..1,024 or there are over 8,192 cells.
@@ -20,22 +17,8 @@ fn count_of_three(a: usize, b: usize, c: usize) -> usize
     ensures { result ≡ cond (outside 1 longest_axis a ||
         (outside 1 longest_axis b || (outside 1 longest_axis c || ltb most_cells (a * (b * c))))) 0 (a * (b * c)) }
 {
-    if a < 1 {
-        return 0;
-    }
-    if numbers::LONGEST_AXIS < a {
-        return 0;
-    }
-    if b < 1 {
-        return 0;
-    }
-    if numbers::LONGEST_AXIS < b {
-        return 0;
-    }
-    if c < 1 {
-        return 0;
-    }
-    if numbers::LONGEST_AXIS < c {
+    let allowed = 1..=numbers::LONGEST_AXIS;
+    if !allowed.contains(&a) || !allowed.contains(&b) || !allowed.contains(&c) {
         return 0;
     }
     let count = a * (b * c);
@@ -50,11 +33,7 @@ fn count_of_three(a: usize, b: usize, c: usize) -> usize
 pub fn cell_count(shape: &[usize]) -> usize
     ensures { result ≡ grid_count shape.now }
 {
-    let axes = shape.len();
-    if axes < 1 {
-        return 0;
-    }
-    if 3 < axes {
+    if !(1..=3).contains(&shape.len()) {
         return 0;
     }
     count_of_three(len_of(shape, 0), len_of(shape, 1), len_of(shape, 2))

@@ -8,13 +8,10 @@ fn gather_f64(grid: &[f64], base: usize, stride: usize, line: &mut [f64])
     requires { base + length line.old * stride < length grid.now + stride }
     ensures { line.new ≡ lane_at nan grid.now base stride (length line.old) }
 {
-    let n = line.len();
-    let mut i = 0;
-    while i < n {
+    for i in 0..line.len() {
         let at = base + i * stride;
         let v = grid[at];
         line[i] = v;
-        i += 1;
     }
 }
 
@@ -25,13 +22,10 @@ fn scatter_f64(line: &[f64], stride: usize, lane: usize, base: usize, grid: &mut
     ensures { grid.new ≡ with_lane nan (length line.now) stride lane line.now
         grid.old }
 {
-    let n = line.len();
-    let mut i = 0;
-    while i < n {
+    for i in 0..line.len() {
         let at = base + i * stride;
         let v = line[i];
         grid[at] = v;
-        i += 1;
     }
 }
 
@@ -42,9 +36,9 @@ pub fn read_from_f64(grid: &[f64], base: usize, stride: usize, line: &mut [f64])
 {
     if stride == 1 {
         gather_f64(grid, base, 1, line);
-        return;
+    } else {
+        gather_f64(grid, base, stride, line);
     }
-    gather_f64(grid, base, stride, line);
 }
 
 // As `write_from`, of float levels.
@@ -56,7 +50,7 @@ pub fn write_from_f64(line: &[f64], stride: usize, lane: usize, base: usize, gri
 {
     if stride == 1 {
         scatter_f64(line, 1, lane, base, grid);
-        return;
+    } else {
+        scatter_f64(line, stride, lane, base, grid);
     }
-    scatter_f64(line, stride, lane, base, grid);
 }

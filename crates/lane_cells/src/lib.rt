@@ -14,13 +14,10 @@ fn gather(grid: &[i64], base: usize, stride: usize, line: &mut [i64])
     requires { base + length line.old * stride < length grid.now + stride }
     ensures { line.new ≡ lane_at (pos 0) grid.now base stride (length line.old) }
 {
-    let n = line.len();
-    let mut i = 0;
-    while i < n {
+    for i in 0..line.len() {
         let at = base + i * stride;
         let v = grid[at];
         line[i] = v;
-        i += 1;
     }
 }
 
@@ -31,13 +28,10 @@ fn scatter(line: &[i64], stride: usize, lane: usize, base: usize, grid: &mut [i6
     ensures { grid.new ≡ with_lane (pos 0) (length line.now) stride lane line.now
         grid.old }
 {
-    let n = line.len();
-    let mut i = 0;
-    while i < n {
+    for i in 0..line.len() {
         let at = base + i * stride;
         let v = line[i];
         grid[at] = v;
-        i += 1;
     }
 }
 
@@ -49,9 +43,9 @@ pub fn read_from(grid: &[i64], base: usize, stride: usize, line: &mut [i64])
 {
     if stride == 1 {
         gather(grid, base, 1, line);
-        return;
+    } else {
+        gather(grid, base, stride, line);
     }
-    gather(grid, base, stride, line);
 }
 
 // Copies the line to the cells of the lane, whose first cell is at base.
@@ -64,9 +58,9 @@ pub fn write_from(line: &[i64], stride: usize, lane: usize, base: usize, grid: &
 {
     if stride == 1 {
         scatter(line, 1, lane, base, grid);
-        return;
+    } else {
+        scatter(line, stride, lane, base, grid);
     }
-    scatter(line, stride, lane, base, grid);
 }
 
 // Reads a lane of the grid into the line.
@@ -83,8 +77,7 @@ pub fn read_lane(grid: &[i64], stride: usize, lane: usize, line: &mut [i64])
 {
     let count = grid.len();
     let base = lanes::first_place(count, line.len(), stride, lane);
-    if base == count {
-        return;
+    if base != count {
+        read_from(grid, base, stride, line);
     }
-    read_from(grid, base, stride, line);
 }

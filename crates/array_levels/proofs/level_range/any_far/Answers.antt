@@ -2,23 +2,17 @@
 use Rattle.std.proofs.Common.{◌+◌, ◌-◌, ◌/◌, ◌||◌, length, take, drop, sym, ap, ◌∙◌}
 use Rattle.numbers.specs.Lists.{any_of}
 use Rattle.array_levels.specs.Near.{is_far}
-use Rattle.array_levels.proofs.Halves.{length-half, length_other, any_halves}
+use Rattle.array_levels.proofs.Halves.{any_halves}
 use Rattle.array_levels.proofs.level_range.any_far.Goals as goal
-
-pub slice_bounds-far_in_two-end : goal.slice_bounds-far_in_two-end
-slice_bounds-far_in_two-end c = sym (length-half c.args.line.now)
-
-pub far_in_two-requires : goal.far_in_two-requires
-far_in_two-requires c = length_other c.args.line.now
 
 pub returns-then-far_in_two : goal.returns-then-far_in_two
 returns-then-far_in_two c =
     let line = c.args.line.now in
     let rest = any_of is_far (take (length line - (length line / 2 + length line / 2)) (drop (length line / 2 + length line / 2) line)) in
-    ap (λ b. b || rest) (sym c.if-far_in_two.true ∙ c.far_in_two.ensures) ∙ any_halves is_far line
+    c.if-far_in_two.true ∙ ap (λ b. b || rest) (sym c.if-far_in_two.true ∙ c.far_in_two.ensures) ∙ any_halves is_far line
 
-pub returns : goal.returns
-returns c =
+pub returns-else-far_in_two : goal.returns-else-far_in_two
+returns-else-far_in_two c =
     let line = c.args.line.now in
     let rest = any_of is_far (take (length line - (length line / 2 + length line / 2)) (drop (length line / 2 + length line / 2) line)) in
     c.far_in.ensures ∙ ap (λ b. b || rest) (sym c.if-far_in_two.false ∙ c.far_in_two.ensures) ∙ any_halves is_far line

@@ -1,13 +1,7 @@
 -- `scatter_f64` meets its contract: the cells of the lane are written one after the other, and no other cell changes.
-use mathlib.Core.Path.{◌≡◌}
-use Prim.Native.Nat.{◌-◌, ◌≤◌}
-use lib.ListN.{length}
 use lib.Ieee.{nan}
 use Rattle.lanes.proofs.Stores.{Written}
 use Rattle.lane_cells.proofs.float.scatter_f64.Given as goal
 
 abbrev pub invariant-loop-i : goal.invariant-loop-i
-invariant-loop-i l = (l.i ≤ l.n) × (l.n ≡ length l.line) × Written nan l.line l.stride l.lane l.initial.grid l.grid l.i
-
-abbrev pub decreases-loop-i : goal.decreases-loop-i
-decreases-loop-i l = l.n - l.i
+invariant-loop-i l = Written nan l.line l.stride l.lane l.initial.grid l.grid l.i
