@@ -1,17 +1,16 @@
 -- Worked rows of codes and words: what each names, codes that name nothing, and the number that these get. Each holds
 -- by computing.
 --   CodesRows   the rows
-use Rattle.std.specs.Prelude.{◌≡◌, true, false, [], ◌∷◌, pos, get_or}
+use Rattle.std.specs.Prelude.{◌≡◌, true, false, [], ◌∷◌, pos, get_or, Some, None}
 use Rattle.numbers.specs.Refusal.{refusal_of}
 use Rattle.border.specs.declared.BorderMode.TheVariants as Whole
 use Rattle.border.specs.declared.BorderModeF64.TheVariants as F64
 use Rattle.border.specs.declared.PadMode.TheVariants as Pad
 use Rattle.symmetry_spec.specs.Class.{class_z}
-use Rattle.codes.specs.Codes.{mode_of, mode_of_f64, padding_of, kernel_of}
+use Rattle.codes.specs.Codes.{mode_of, mode_of_f64, padding_of}
 use Rattle.codes.specs.Codes.{unknown_border, unknown_pad, unknown_kernel, coded, code_of}
 use Rattle.codes.specs.Words.{border_words, pad_words, kernel_words, class_words}
 use Rattle.words.specs.Words.{bytes_of, place_in}
-use Rattle.words.specs.declared.Found.TheVariants.{At, Nothing}
 use Rattle.std.specs.Float.{nan}
 
 pub record CodesRows : Type 0 where
@@ -51,25 +50,25 @@ pub record CodesRows : Type 0 where
   pub class_1 : code_of (class_z (pos 1 ∷ pos 2 ∷ pos 1 ∷ [])) ≡ 1
   pub class_0 : code_of (class_z (pos 1 ∷ pos 2 ∷ [])) ≡ 0
   -- the words in the order of their codes
-  pub word_constant : place_in border_words (bytes_of "constant") ≡ At 0
-  pub word_mirror : place_in border_words (bytes_of "mirror") ≡ At 1
-  pub word_nearest : place_in border_words (bytes_of "nearest") ≡ At 2
-  pub word_reflect : place_in border_words (bytes_of "reflect") ≡ At 3
-  pub word_wrap : place_in border_words (bytes_of "wrap") ≡ At 4
-  pub word_edge : place_in border_words (bytes_of "edge") ≡ Nothing
-  pub pad_word_constant : place_in pad_words (bytes_of "constant") ≡ At 0
-  pub pad_word_edge : place_in pad_words (bytes_of "edge") ≡ At 1
-  pub pad_word_maximum : place_in pad_words (bytes_of "maximum") ≡ At 2
-  pub pad_word_mean : place_in pad_words (bytes_of "mean") ≡ At 3
-  pub pad_word_median : place_in pad_words (bytes_of "median") ≡ At 4
-  pub pad_word_minimum : place_in pad_words (bytes_of "minimum") ≡ At 5
-  pub pad_word_reflect : place_in pad_words (bytes_of "reflect") ≡ At 6
-  pub pad_word_symmetric : place_in pad_words (bytes_of "symmetric") ≡ At 7
-  pub pad_word_wrap : place_in pad_words (bytes_of "wrap") ≡ At 8
-  pub pad_word_mirror : place_in pad_words (bytes_of "mirror") ≡ Nothing
-  pub word_star : place_in kernel_words (bytes_of "star") ≡ At 0
-  pub word_ball : place_in kernel_words (bytes_of "ball") ≡ At 1
-  pub word_full : place_in kernel_words (bytes_of "full") ≡ At 2
+  pub word_constant : place_in border_words (bytes_of "constant") ≡ Some 0
+  pub word_mirror : place_in border_words (bytes_of "mirror") ≡ Some 1
+  pub word_nearest : place_in border_words (bytes_of "nearest") ≡ Some 2
+  pub word_reflect : place_in border_words (bytes_of "reflect") ≡ Some 3
+  pub word_wrap : place_in border_words (bytes_of "wrap") ≡ Some 4
+  pub word_edge : place_in border_words (bytes_of "edge") ≡ None
+  pub pad_word_constant : place_in pad_words (bytes_of "constant") ≡ Some 0
+  pub pad_word_edge : place_in pad_words (bytes_of "edge") ≡ Some 1
+  pub pad_word_maximum : place_in pad_words (bytes_of "maximum") ≡ Some 2
+  pub pad_word_mean : place_in pad_words (bytes_of "mean") ≡ Some 3
+  pub pad_word_median : place_in pad_words (bytes_of "median") ≡ Some 4
+  pub pad_word_minimum : place_in pad_words (bytes_of "minimum") ≡ Some 5
+  pub pad_word_reflect : place_in pad_words (bytes_of "reflect") ≡ Some 6
+  pub pad_word_symmetric : place_in pad_words (bytes_of "symmetric") ≡ Some 7
+  pub pad_word_wrap : place_in pad_words (bytes_of "wrap") ≡ Some 8
+  pub pad_word_mirror : place_in pad_words (bytes_of "mirror") ≡ None
+  pub word_star : place_in kernel_words (bytes_of "star") ≡ Some 0
+  pub word_ball : place_in kernel_words (bytes_of "ball") ≡ Some 1
+  pub word_full : place_in kernel_words (bytes_of "full") ≡ Some 2
   -- the word of a class stands at its code
   pub class_symmetric : get_or class_words (code_of (class_z (pos 1 ∷ pos 2 ∷ pos 1 ∷ []))) [] ≡ bytes_of "Symmetric"
   pub class_neither : get_or class_words (code_of (class_z (pos 1 ∷ pos 2 ∷ []))) [] ≡ bytes_of "NonSymmetric"

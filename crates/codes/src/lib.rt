@@ -13,88 +13,63 @@ use border::{BorderMode, BorderModeF64, PadMode};
 use kernel3d::Kernel3d;
 use numbers::Refusal;
 use symmetry_spec::SymmetryState;
-use words::Found;
 
 // The border of a code. 1 is Mirror; 9, which names none, is Nearest.
+#[tactic(auto, unfolding(crate::specs::Codes::mode_of))]
 pub fn mode_of(code: u8, constant: i64) -> BorderMode
     ensures { result ≡ mode_of code constant }
 {
-    if code == 0 {
-        return BorderMode::Constant(constant);
+    match code {
+        0 => BorderMode::Constant(constant),
+        1 => BorderMode::Mirror,
+        3 => BorderMode::Reflect,
+        4 => BorderMode::Wrap,
+        _ => BorderMode::Nearest,
     }
-    if code == 1 {
-        return BorderMode::Mirror;
-    }
-    if code == 3 {
-        return BorderMode::Reflect;
-    }
-    if code == 4 {
-        return BorderMode::Wrap;
-    }
-    BorderMode::Nearest
 }
 
 // The same of floats.
+#[tactic(auto, unfolding(crate::specs::Codes::mode_of_f64))]
 pub fn mode_of_f64(code: u8, constant: f64) -> BorderModeF64
     ensures { result ≡ mode_of_f64 code constant }
 {
-    if code == 0 {
-        return BorderModeF64::Constant(constant);
+    match code {
+        0 => BorderModeF64::Constant(constant),
+        1 => BorderModeF64::Mirror,
+        3 => BorderModeF64::Reflect,
+        4 => BorderModeF64::Wrap,
+        _ => BorderModeF64::Nearest,
     }
-    if code == 1 {
-        return BorderModeF64::Mirror;
-    }
-    if code == 3 {
-        return BorderModeF64::Reflect;
-    }
-    if code == 4 {
-        return BorderModeF64::Wrap;
-    }
-    BorderModeF64::Nearest
 }
 
 // The padding mode of a code. 6 is Reflect; 9, which names none, is Edge.
+#[tactic(auto, unfolding(crate::specs::Codes::padding_of))]
 pub fn pad_mode_of(code: u8, constant: i64) -> PadMode
     ensures { result ≡ padding_of code constant }
 {
-    if code == 0 {
-        return PadMode::Constant(constant);
+    match code {
+        0 => PadMode::Constant(constant),
+        2 => PadMode::Maximum,
+        3 => PadMode::Mean,
+        4 => PadMode::Median,
+        5 => PadMode::Minimum,
+        6 => PadMode::Reflect,
+        7 => PadMode::Symmetric,
+        8 => PadMode::Wrap,
+        _ => PadMode::Edge,
     }
-    if code == 2 {
-        return PadMode::Maximum;
-    }
-    if code == 3 {
-        return PadMode::Mean;
-    }
-    if code == 4 {
-        return PadMode::Median;
-    }
-    if code == 5 {
-        return PadMode::Minimum;
-    }
-    if code == 6 {
-        return PadMode::Reflect;
-    }
-    if code == 7 {
-        return PadMode::Symmetric;
-    }
-    if code == 8 {
-        return PadMode::Wrap;
-    }
-    PadMode::Edge
 }
 
 // The kernel of a code. 1 is Ball; 9, which names none, is Full.
+#[tactic(auto, unfolding(crate::specs::Codes::kernel_of))]
 pub fn kernel_of(code: u8) -> Kernel3d
     ensures { result ≡ kernel_of code }
 {
-    if code == 0 {
-        return Kernel3d::Star;
+    match code {
+        0 => Kernel3d::Star,
+        1 => Kernel3d::Ball,
+        _ => Kernel3d::Full,
     }
-    if code == 1 {
-        return Kernel3d::Ball;
-    }
-    Kernel3d::Full
 }
 
 // The code of a symmetry class. Symmetric is 1.
@@ -108,15 +83,17 @@ pub fn code_of(class: SymmetryState) -> u8
     }
 }
 
-// The code of a border's word. mirror is At 1, and circle is Nothing.
-pub fn border_code(token: &[u8]) -> Found
+// The code of a border's word. mirror is Some(1), and circle is None.
+#[tactic(auto, unfolding(words::specs::Words::column_from))]
+pub fn border_code(token: &[u8]) -> Option<usize>
     ensures { result ≡ place_in border_words token.now }
 {
     words::find_word(token, b"constant mirror nearest reflect wrap ")
 }
 
-// The code of a padding mode's word. edge is At 1.
-pub fn pad_code(token: &[u8]) -> Found
+// The code of a padding mode's word. edge is Some(1).
+#[tactic(auto, unfolding(words::specs::Words::column_from))]
+pub fn pad_code(token: &[u8]) -> Option<usize>
     ensures { result ≡ place_in pad_words token.now }
 {
     words::find_word(
@@ -125,14 +102,16 @@ pub fn pad_code(token: &[u8]) -> Found
     )
 }
 
-// The code of a kernel's word. ball is At 1.
-pub fn kernel_code(token: &[u8]) -> Found
+// The code of a kernel's word. ball is Some(1).
+#[tactic(auto, unfolding(words::specs::Words::column_from))]
+pub fn kernel_code(token: &[u8]) -> Option<usize>
     ensures { result ≡ place_in kernel_words token.now }
 {
     words::find_word(token, b"star ball full ")
 }
 
 // The words of symmetry classes as a table, in the order of their codes.
+#[tactic(auto, unfolding(words::specs::Words::column_from))]
 pub fn class_words() -> [u8; 37]
     ensures { words_of result ≡ class_words }
 {

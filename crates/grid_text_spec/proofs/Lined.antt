@@ -12,7 +12,7 @@ use lib.ListN.{length, get_or, set, take, drop, length-append, length-drop, drop
 use lib.Seq.{take_all, take-suc, drop-cons, set-append_seam, take_at, drop_at, drop-drop}
 use Rattle.text_spec.specs.Writing.{places_of, signed_text, written_in, written_count}
 use Rattle.text_spec.proofs.Digits.{digits_length, places_most}
-use Rattle.text_spec.proofs.Signs.{all_from}
+use Rattle.text_spec.proofs.Written.{all_from}
 use Rattle.grid_text_spec.specs.Lines.{line_of, level_lines, lines_in, lines_count}
 
 -- ---- one line

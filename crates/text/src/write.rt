@@ -11,9 +11,10 @@ fn glyph(d: u64) -> u8
     ensures { result ≡ glyph_of d }
 {
     if d < 10 {
-        return 48 + d as u8;
+        b'0' + d as u8
+    } else {
+        b'a' + (d - 10) as u8
     }
-    87 + d as u8
 }
 
 // The last k digits of n in a base from 2 to 16, at the front of out; the rest of out stays.
@@ -24,10 +25,8 @@ pub fn spell(n: u64, base: u64, k: usize, out: &mut [u8])
     requires k_in_bounds { k ≤ length out.old }
     ensures { out.new ≡ digits_of base k n ++ drop k out.old }
 {
-    let mut i = k;
     let mut rest = n;
-    while i > 0 {
-        i -= 1;
+    for i in (0..k).rev() {
         out[i] = glyph(rest % base);
         rest /= base;
     }
@@ -41,6 +40,7 @@ fn spell_decimal(n: u64, k: usize, out: &mut [u8])
 {
     let mut i = k;
     let mut rest = n;
+    // A `while`, since a turn takes two places and one may be left.
     while i > 1 {
         let pair = rest % 100;
         out[i - 1] = glyph(pair % 10);
@@ -48,36 +48,23 @@ fn spell_decimal(n: u64, k: usize, out: &mut [u8])
         rest /= 100;
         i -= 2;
     }
-    if i == 0 {
-        return;
+    if i == 1 {
+        out[0] = glyph(rest % 10);
     }
-    out[0] = glyph(rest % 10);
 }
 
 // How many decimal digits n has, at most 19.
 fn places(n: u64) -> usize
     ensures { result ≡ places_of 18 n }
 {
-    let mut k = 0;
     let mut power = 10;
-    while k < 18 {
+    for k in 0..18 {
         if n < power {
-            break;
+            return k + 1;
         }
         power *= 10;
-        k += 1;
     }
-    k + 1
-}
-
-// The size of a signed number.
-fn size(z: i64) -> u64
-    ensures { result ≡ nat_abs z }
-{
-    if z < 0 {
-        return -(z + 1) as u64 + 1;
-    }
-    z as u64
+    19
 }
 
 // The decimal digits of n at the front of out, and how many they are.
@@ -105,8 +92,8 @@ pub fn write_signed(z: i64, out: &mut [u8]) -> usize
         return 0;
     }
     if z < 0 {
-        out[0] = 45;
-        return write_size(size(z), &mut out[1..]) + 1;
+        out[0] = b'-';
+        return write_size(z.unsigned_abs(), &mut out[1..]) + 1;
     }
-    write_size(size(z), out)
+    write_size(z.unsigned_abs(), out)
 }

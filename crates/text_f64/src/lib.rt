@@ -9,16 +9,6 @@ ghost use Rattle.text_f64.specs.Rows.{TextF64Rows};
 ghost use Rattle.text_f64.specs.Back.{ReadsBackF64};
 ghost use Rattle.text_spec.specs.Writing.{written_in, written_count};
 
-use text_spec::Unsigned;
-
-// What a token is as a float.
-#[derive(Clone, Copy)]
-pub enum Token {
-    // Neither 16 hexadecimal digits nor nan.
-    Not,
-    Is(f64),
-}
-
 // How many bytes of room every written number asks for.
 const ROOM: usize = 20;
 
@@ -26,56 +16,40 @@ const ROOM: usize = 20;
 fn nan_bits(n: u64) -> bool
     ensures { result ≡ nan_bits binary64 n }
 {
-    if n % 9223372036854775808 / 4503599627370496 != 2047 {
-        return false;
-    }
-    n % 4503599627370496 != 0
+    n % 9223372036854775808 / 4503599627370496 == 2047 && n % 4503599627370496 != 0
 }
 
 // The float of a pattern.
-fn pattern(bits: Unsigned) -> Token
+fn pattern(bits: Option<u64>) -> Option<f64>
     ensures { result ≡ pattern_of bits }
 {
-    match bits {
-        Unsigned::Is(n) => {
-            if nan_bits(n) {
-                return Token::Is(0.0 / 0.0);
-            }
-            Token::Is(f64::from_bits(n))
-        }
-        Unsigned::Not => Token::Not,
+    let n = bits?;
+    if nan_bits(n) {
+        return Some(f64::NAN);
     }
+    Some(f64::from_bits(n))
 }
 
 // Whether a token is nan.
 fn is_nan(token: &[u8]) -> bool
     ensures { result ≡ is_nan_text token.now }
 {
-    if token.len() != 3 {
-        return false;
-    }
-    if token[0] != 110 {
-        return false;
-    }
-    if token[1] != 97 {
-        return false;
-    }
-    token[2] == 110
+    matches!(token, b"nan")
 }
 
 // The float that a token is.
 //
 // * `token` - the bytes, whatever they are.
 //
-// Any other token is Not. The bits of a NaN are a NaN. 3ff0000000000000 is 1.0, and 3FF0000000000000 is Not.
-pub fn read_float(token: &[u8]) -> Token
+// Any other token is None. The bits of a NaN are a NaN. 3ff0000000000000 is 1.0, and 3FF0000000000000 is None.
+pub fn read_float(token: &[u8]) -> Option<f64>
     ensures { result ≡ float_of token.now }
 {
     if is_nan(token) {
-        return Token::Is(0.0 / 0.0);
+        return Some(f64::NAN);
     }
     if token.len() != 16 {
-        return Token::Not;
+        return None;
     }
     pattern(text::numeral(16, token))
 }
@@ -93,10 +67,8 @@ pub fn write_float(x: f64, out: &mut [u8]) -> usize
     if out.len() < ROOM {
         return 0;
     }
-    if x != x {
-        out[0] = 110;
-        out[1] = 97;
-        out[2] = 110;
+    if x.is_nan() {
+        out[..3].copy_from_slice(b"nan");
         return 3;
     }
     text::spell(f64::to_bits(x), 16, 16, out);

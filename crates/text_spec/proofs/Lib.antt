@@ -1,6 +1,5 @@
 -- Laws on numbers as text.
 pub mod Numerals
-pub mod Signs
 pub mod Turned
 pub mod Digits
 pub mod Returned

@@ -4,20 +4,19 @@ use Prim.Native.Nat.{ℕ, zero, suc, ◌/◌, ◌%◌, ◌^◌, ◌≤◌, ◌<�
 use native.Mathlib.Nat.{mod-lt}
 use native.Mathlib.Omega.{arith}
 use mathlib.Core.Path.{◌≡◌, refl, sym, ap, ◌∙◌}
-use mathlib.Core.Bool.{Bool, true, false, cond, true≢false}
+use mathlib.Core.Bool.{false, true≢false}
 use mathlib.Core.List.{List, [], ◌∷◌, ◌++◌}
 use borrow.Author.Tests.{lt-ltb, le-leb, lt-leb, ne_eqb}
-use lib.Dec.{eqb, leb}
+use lib.Dec.{eqb}
 use lib.IntN.{ℤ, pos, negsuc}
 use lib.ListN.{length, get_or}
 use mir.Syntax.{w64}
 use mir.Val.{SFits}
-use Rattle.numbers.specs.Lists.{any_of, Every}
+use Rattle.std.specs.Prelude.{Some}
+use Rattle.numbers.specs.Lists.{Every}
 use Rattle.numbers.proofs.Any.{none_any, every_at}
-use Rattle.text_spec.specs.Reading.{digit_of, no_digit, value_of, numeral_from, numeral_of, positive_of, negative_of, signed_of}
+use Rattle.text_spec.specs.Reading.{digit_of, no_digit, numeral_from, numeral_of, positive_of, negative_of, signed_of}
 use Rattle.text_spec.specs.Writing.{glyph_of, digits_of, places_of, decimal_text, signed_text}
-use Rattle.text_spec.specs.declared.Unsigned.TheVariants as Whole
-use Rattle.text_spec.specs.declared.Signed.TheVariants as Turned
 use Rattle.text_spec.proofs.Digits.{digits_length, digit_glyph, digits_value, places-least, places_hold}
 
 every_last : {A : Type 0} (P : A → Type 0) (s : List A) (x : A) → Every P s → P x → Every P (s ++ (x ∷ []))
@@ -35,7 +34,7 @@ module _ (b : ℕ) (h : 1 < b) (l : b ≤ 16) where
       below : digit_of (glyph_of (n % b)) < b
       below = omega (arith, small, digit_glyph (n % b) (omega (arith, small)))
 
-  pub numeral_back : (k n : ℕ) → 0 < k → n < b ^ k → n < 2 ^ 64 → numeral_of b (digits_of b k n) ≡ Whole.Is n
+  pub numeral_back : (k n : ℕ) → 0 < k → n < b ^ k → n < 2 ^ 64 → numeral_of b (digits_of b k n) ≡ Some n
   unfolding numeral_from
   numeral_back k n p f g =
       rw (
@@ -56,11 +55,11 @@ no_minus k n p = ne_eqb (get_or (digits_of 10 k n) 0 0) 45 (λ e. true≢false (
     first : no_digit 10 (get_or (digits_of 10 k n) 0 0) ≡ false
     first = every_at (λ x. no_digit 10 x ≡ false) (digits_of 10 k n) 0 (each_digit 10 (omega arith) (omega arith) k n) 0 (omega (arith, digits_length 10 k n))
 
-decimal_back : (n : ℕ) → n ≤ 2 ^ 63 → numeral_of 10 (decimal_text n) ≡ Whole.Is n
+decimal_back : (n : ℕ) → n ≤ 2 ^ 63 → numeral_of 10 (decimal_text n) ≡ Some n
 decimal_back n h =
     numeral_back 10 (omega arith) (omega arith) (places_of 18 n) n (places-least 18 n) (places_hold 18 n (omega arith)) (omega arith)
 
-pub signed_back : (z : ℤ) → SFits w64 z → signed_of (signed_text z) ≡ Turned.Is z
+pub signed_back : (z : ℤ) → SFits w64 z → signed_of (signed_text z) ≡ Some z
 signed_back (pos n) f =
     rw (no_minus (places_of 18 n) n (places-least 18 n))
     (ap positive_of (decimal_back n (omega (arith, f.sfits))) ∙ rw (lt-ltb n (2 ^ 63) f.sfits) refl)

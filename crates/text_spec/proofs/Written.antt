@@ -3,7 +3,7 @@
 use Prim.Native.Nat.{ℕ, suc, ◌+◌, ◌-◌, ◌≤◌}
 use native.Mathlib.Numerals.{add-one}
 use native.Mathlib.Omega.{arith}
-use mathlib.Core.Path.{◌≡◌, refl, sym, ap, ◌∙◌}
+use mathlib.Core.Path.{◌≡◌, sym, ap, ◌∙◌}
 use mathlib.Core.List.{List, [], ◌∷◌, ◌++◌, append-nil}
 use borrow.Author.Tests.{le-ltb}
 use borrow.Rule.Slice.PartMut.{put_mid, post_of, same_len_mid}
@@ -11,9 +11,13 @@ use lib.IntN.{ℤ, pos, negsuc, nat_abs}
 use lib.ListN.{length, take, drop, set, length-set, length-drop}
 use lib.Seq.{drop-length}
 use lib.Signed.{mag}
-use Rattle.text_spec.specs.Writing.{digits_of, places_of, decimal_text, signed_text, written_in, written_count}
+use Rattle.text_spec.specs.Writing.{places_of, decimal_text, signed_text, written_in, written_count}
 use Rattle.text_spec.proofs.Digits.{digits_length}
-use Rattle.text_spec.proofs.Signs.{all_from}
+use lib.Seq.{take_all}
+
+-- a slice from n on has all that is left
+pub all_from : (n : ℕ) (t : List ℕ) → take (length t - n) (drop n t) ≡ drop n t
+all_from n t = take_all (length t - n) (drop n t) (omega (arith, length-drop n t))
 
 -- a minus in front, and the part after it
 abbrev pub minused : List ℕ → List ℕ

@@ -6,16 +6,14 @@ use mathlib.Core.Path.{◌≡◌, refl, sym, ap, ◌∙◌}
 use mathlib.Core.Bool.{Bool, true, false, ◌&&◌, ◌||◌, cond, true≢false}
 use mathlib.Core.List.{List, [], ◌∷◌, ◌++◌}
 use native.Mathlib.Omega.{arith}
-use native.Mathlib.Nat.{add-sub_of_le, sub_self}
+use native.Mathlib.Nat.{sub_self}
 use native.Mathlib.Numerals.{add-one}
-use borrow.Author.Tests.{eqb-true, eqb-false, eq-eqb}
+use borrow.Author.Tests.{eqb-true}
 use lib.Dec.{eqb}
 use lib.ListN.{length, get_or, take, drop, length-drop, drop_of_length-le}
 use lib.Seq.{drop-cons, take-suc, get_or-drop}
-use Rattle.numbers.proofs.Tests.{and_true}
+use Rattle.std.specs.Prelude.{Some, None}
 use Rattle.words.specs.Words.{word_if, column_from, same_bytes, place_from, place_in}
-use Rattle.words.specs.declared.Found.{Found}
-use Rattle.words.specs.declared.Found.TheVariants.{At, Nothing}
 
 abbrev pub between : ℕ → ℕ → List ℕ → List ℕ
 between start i l = take (i - start) (drop start l)
@@ -56,38 +54,9 @@ module _ (e o : ℕ) (l : List ℕ) (start i : ℕ) (h : start ≤ i) (b : i < l
       go true = sym (between_none (i + 1) l)
       go false = sym (between_more start i l h b)
 
--- two lists of bytes are the same where the test says so, and only there
-pub same_yes : (a b : List ℕ) → a ≡ b → same_bytes a b ≡ true
-same_yes [] [] e = refl
-same_yes [] (y ∷ b) e = let z : ◌≡◌ {A = ℕ} 0 1 = cc in absurd (omega arith)
-same_yes (x ∷ a) [] e = let z : ◌≡◌ {A = ℕ} 0 1 = cc in absurd (omega arith)
-same_yes (x ∷ a) (y ∷ b) e =
-    let p : x ≡ y = cc in
-    let q : a ≡ b = cc in
-    rw (eq-eqb x y p, same_yes a b q) refl
-
-pub same_true : (a b : List ℕ) → same_bytes a b ≡ true → a ≡ b
-same_true [] [] e = refl
-same_true [] (y ∷ b) e = absurd (true≢false (sym e))
-same_true (x ∷ a) [] e = absurd (true≢false (sym e))
-same_true (x ∷ a) (y ∷ b) e =
-    let p = and_true (eqb x y) (same_bytes a b) e in
-    let q : x ≡ y = eqb-true x y p.0 in
-    let r : a ≡ b = same_true a b p.1 in
-    cc
-
--- the test as the answer of a comparison that knows both
-pub same_is : (a b : List ℕ) (r : Bool) → (r ≡ true → a ≡ b) → (a ≡ b → r ≡ true) → r ≡ same_bytes a b
-same_is a b true f g = sym (same_yes a b (f refl))
-same_is a b false f g = go (same_bytes a b) refl
-  where
-    go : (t : Bool) → same_bytes a b ≡ t → false ≡ t
-    go true e = g (same_true a b e)
-    go false e = refl
-
 -- a search: the word that ends here is the token, or it is looked for in what is left
 pub place_hit : (n : ℕ) (t : Bool) (w : List ℕ) (ws : List (List ℕ)) (s : List ℕ) → t && same_bytes w s ≡ true
-    → place_from n (word_if t w ws) s ≡ At n
+    → place_from n (word_if t w ws) s ≡ Some n
 place_hit n true w ws s e = rw e refl
 place_hit n false w ws s e = absurd (true≢false (sym e))
 
@@ -115,17 +84,16 @@ cond_more false h = omega arith
 -- what a search keeps: the token is looked for in what is left, its word so far from start on, and `place` words are behind
 pub record Looking (table token : List ℕ) (place start i : ℕ) : Type 0 where
   pub behind : start ≤ i
-  pub within : i ≤ length table
   pub counted : place ≤ i
   pub found : place_in (column_from 32 10 [] table) token ≡ place_from place (column_from 32 10 (between start i table) (drop i table)) token
 
 pub looking_none : (table token : List ℕ) → Looking table token 0 0 0
 unfolding place_in
-looking_none table token = record { behind = omega arith; within = omega arith; counted = omega arith; found = refl }
+looking_none table token = record { behind = omega arith; counted = omega arith; found = refl }
 
 module _ {table token : List ℕ} {place start i : ℕ} (s : Looking table token place start i) where
   pub looking_hit : i < length table → eqb (get_or table i 0) 32 && same_bytes (between start i table) token ≡ true
-      → place_in (column_from 32 10 [] table) token ≡ At place
+      → place_in (column_from 32 10 [] table) token ≡ Some place
   looking_hit b e =
       s.found ∙ ap (λ ws. place_from place ws token) (column_step 32 10 table start i s.behind b)
       ∙ place_hit place (eqb (get_or table i 0) 32) (between start i table) (left 32 10 table start i s.behind b) token e
@@ -136,25 +104,20 @@ module _ {table token : List ℕ} {place start i : ℕ} (s : Looking table token
   looking_more b e p n =
       rw (p, n) (record {
         behind = next_in 32 10 table start i s.behind b;
-        within = omega arith;
         counted = cond_more (eqb (get_or table i 0) 32) s.counted;
         found =
             s.found ∙ ap (λ ws. place_from place ws token) (column_step 32 10 table start i s.behind b)
             ∙ place_miss place (eqb (get_or table i 0) 32) (between start i table) (left 32 10 table start i s.behind b) token e;
       })
 
-  pub looking_all : length table ≤ i → place_in (column_from 32 10 [] table) token ≡ Nothing
+  pub looking_all : length table ≤ i → place_in (column_from 32 10 [] table) token ≡ None
   unfolding column_from
   looking_all b = s.found ∙ ap (λ r. place_from place (column_from 32 10 (between start i table) r) token) (drop_of_length-le table b)
 
 -- what a count keeps: what stands at a place stands at place `k` of what is left
 pub record Counting (e o : ℕ) (table : List ℕ) (place k start i : ℕ) : Type 0 where
   pub behind : start ≤ i
-  pub within : i ≤ length table
   pub same : get_or (column_from e o [] table) place [] ≡ get_or (column_from e o (between start i table) (drop i table)) k []
-
-pub counting_none : (e o : ℕ) (table : List ℕ) (place : ℕ) → Counting e o table place place 0 0
-counting_none e o table place = record { behind = omega arith; within = omega arith; same = refl }
 
 module _ {e o : ℕ} {table : List ℕ} {place k start i : ℕ} (s : Counting e o table place k start i) where
   pub counting_hit : i < length table → eqb (get_or table i 0) e && eqb k 0 ≡ true → get_or (column_from e o [] table) place [] ≡ between start i table
@@ -168,7 +131,6 @@ module _ {e o : ℕ} {table : List ℕ} {place k start i : ℕ} (s : Counting e 
   counting_more b h p n =
       rw (p, n) (record {
         behind = next_in e o table start i s.behind b;
-        within = omega arith;
         same =
             s.same ∙ ap (λ ws. get_or ws k []) (column_step e o table start i s.behind b)
             ∙ at_miss k (eqb (get_or table i 0) e) (between start i table) (left e o table start i s.behind b) h;

@@ -1,8 +1,7 @@
 -- Worked rows of words in tables.
 --   WordsRows   the rows
-use Rattle.std.specs.Prelude.{◌≡◌, [], ◌∷◌}
+use Rattle.std.specs.Prelude.{◌≡◌, [], ◌∷◌, Some, None}
 use Rattle.words.specs.Words.{bytes_of, word_list, words_of, rests_of, lines_of, place_in}
-use Rattle.words.specs.declared.Found.TheVariants.{At, Nothing}
 
 pub record WordsRows : Type 0 where
   -- a space ends a word; what has none behind it is no word
@@ -14,9 +13,9 @@ pub record WordsRows : Type 0 where
   pub line_rests : rests_of (bytes_of "pad ab\nhelp \nsobel c\n") ≡ word_list ("ab" ∷ "" ∷ "c" ∷ [])
   pub lines : lines_of (bytes_of "\na b\nc\nd") ≡ word_list ("" ∷ "a b" ∷ "c" ∷ [])
   -- a word's place; its beginning, a longer one and nothing are no word
-  pub first : place_in (word_list ("nearest" ∷ "wrap" ∷ [])) (bytes_of "nearest") ≡ At 0
-  pub second : place_in (word_list ("nearest" ∷ "wrap" ∷ [])) (bytes_of "wrap") ≡ At 1
-  pub beginning : place_in (word_list ("nearest" ∷ "wrap" ∷ [])) (bytes_of "near") ≡ Nothing
-  pub longer : place_in (word_list ("nearest" ∷ "wrap" ∷ [])) (bytes_of "wraps") ≡ Nothing
-  pub empty : place_in (word_list ("nearest" ∷ "wrap" ∷ [])) [] ≡ Nothing
-  pub twice : place_in (word_list ("wrap" ∷ "wrap" ∷ [])) (bytes_of "wrap") ≡ At 0
+  pub first : place_in (word_list ("nearest" ∷ "wrap" ∷ [])) (bytes_of "nearest") ≡ Some 0
+  pub second : place_in (word_list ("nearest" ∷ "wrap" ∷ [])) (bytes_of "wrap") ≡ Some 1
+  pub beginning : place_in (word_list ("nearest" ∷ "wrap" ∷ [])) (bytes_of "near") ≡ None
+  pub longer : place_in (word_list ("nearest" ∷ "wrap" ∷ [])) (bytes_of "wraps") ≡ None
+  pub empty : place_in (word_list ("nearest" ∷ "wrap" ∷ [])) [] ≡ None
+  pub twice : place_in (word_list ("wrap" ∷ "wrap" ∷ [])) (bytes_of "wrap") ≡ Some 0

@@ -9,11 +9,9 @@
 --   lines_of t             the lines of a text: what stands before each line feed
 --   same_bytes a b         whether two lists of bytes are the same
 --   place_in ws t          the first place of the word t in a list of words, counted from 0; place_from counts from n
-use Rattle.std.specs.Prelude.{ℕ, ◌+◌, Bool, true, false, ◌&&◌, ◌||◌, cond, List, [], ◌∷◌, ◌++◌, map, eqb}
+use Rattle.std.specs.Prelude.{ℕ, ◌+◌, Bool, true, false, ◌&&◌, ◌||◌, cond, List, [], ◌∷◌, ◌++◌, map, eqb, Option, Some, None}
 use Prim.Native.Char.{code}
 use Prim.Native.String.{String, [] as none, ◌∷◌ as ◌before◌}
-use Rattle.words.specs.declared.Found.{Found}
-use Rattle.words.specs.declared.Found.TheVariants.{At, Nothing}
 
 abbrev pub bytes_of : String → List ℕ
 bytes_of none = []
@@ -45,9 +43,9 @@ same_bytes [] (y ∷ b) = false
 same_bytes (x ∷ a) [] = false
 same_bytes (x ∷ a) (y ∷ b) = eqb x y && same_bytes a b
 
-abbrev pub place_from : ℕ → List (List ℕ) → List ℕ → Found
-place_from n [] t = Nothing
-place_from n (w ∷ ws) t = cond (same_bytes w t) (At n) (place_from (n + 1) ws t)
+abbrev pub place_from : ℕ → List (List ℕ) → List ℕ → Option ℕ
+place_from n [] t = None
+place_from n (w ∷ ws) t = cond (same_bytes w t) (Some n) (place_from (n + 1) ws t)
 
-unfoldable pub place_in : List (List ℕ) → List ℕ → Found
+unfoldable pub place_in : List (List ℕ) → List ℕ → Option ℕ
 place_in ws t = place_from 0 ws t

@@ -7,16 +7,9 @@ ghost use Rattle.std.specs.Prelude.{◌≡◌, cond, ◌&&◌, ◌||◌, ◌+◌
 ghost use Rattle.words.specs.Words.{column_from, words_of, rests_of, lines_of, place_in, same_bytes};
 ghost use Rattle.words.specs.Rows.{WordsRows};
 
-// Where a word stands in a table, counted from 0.
-#[derive(Clone, Copy)]
-pub enum Found {
-    At(usize),
-    Nothing,
-}
+const SPACE: u8 = b' ';
 
-const SPACE: u8 = 32;
-
-const LINE_FEED: u8 = 10;
+const LINE_FEED: u8 = b'\n';
 
 // Whether the bytes from start to i are the token, with a space behind them.
 fn is_here(token: &[u8], table: &[u8], start: usize, i: usize) -> bool
@@ -24,10 +17,7 @@ fn is_here(token: &[u8], table: &[u8], start: usize, i: usize) -> bool
     ensures { result ≡ eqb (get_or table.now i 0) 32 && same_bytes
         (take (i - start) (drop start table.now)) token.now }
 {
-    if table[i] != SPACE {
-        return false;
-    }
-    check::same(&table[start..i], token)
+    table[i] == SPACE && &table[start..i] == token
 }
 
 // One more at a given byte.
@@ -35,23 +25,14 @@ fn count_at(byte: u8, end: u8, n: usize) -> usize
     requires { n < 18446744073709551615 }
     ensures { result ≡ cond (eqb byte end) (n + 1) n }
 {
-    if byte == end {
-        return n + 1;
-    }
-    n
+    if byte == end { n + 1 } else { n }
 }
 
 // One less at a given byte, and never below 0.
 fn left_at(byte: u8, end: u8, n: usize) -> usize
     ensures { result ≡ cond (eqb byte end) (n - 1) n }
 {
-    if byte != end {
-        return n;
-    }
-    if n == 0 {
-        return 0;
-    }
-    n - 1
+    if byte == end { n.saturating_sub(1) } else { n }
 }
 
 // Where the bytes start that go on behind place i: there, behind one of two given bytes.
@@ -59,13 +40,11 @@ fn start_behind(byte: u8, end: u8, other: u8, start: usize, i: usize) -> usize
     requires { i < 18446744073709551615 }
     ensures { result ≡ cond (eqb byte end || eqb byte other) (i + 1) start }
 {
-    if byte == end {
-        return i + 1;
+    if byte == end || byte == other {
+        i + 1
+    } else {
+        start
     }
-    if byte == other {
-        return i + 1;
-    }
-    start
 }
 
 // Where a token stands among the words of a table.
@@ -73,32 +52,27 @@ fn start_behind(byte: u8, end: u8, other: u8, start: usize, i: usize) -> usize
 // * `token` - the bytes, whatever they are.
 // * `table` - a space behind each word.
 //
-// wrap is At 1 in `nearest wrap `, and wra is Nothing.
-pub fn find_word(token: &[u8], table: &[u8]) -> Found
+// wrap is Some(1) in `nearest wrap `, and wra is None.
+pub fn find_word(token: &[u8], table: &[u8]) -> Option<usize>
     ensures { result ≡ place_in (words_of table.now) token.now }
 {
     let mut place = 0;
     let mut start = 0;
-    let mut i = 0;
-    while i < table.len() {
+    for (i, &byte) in table.iter().enumerate() {
         if is_here(token, table, start, i) {
-            return Found::At(place);
+            return Some(place);
         }
-        place = count_at(table[i], SPACE, place);
-        start = start_behind(table[i], SPACE, LINE_FEED, start, i);
-        i += 1;
+        place = count_at(byte, SPACE, place);
+        start = start_behind(byte, SPACE, LINE_FEED, start, i);
     }
-    Found::Nothing
+    None
 }
 
 // Whether the byte ends the last of those that are left.
 fn is_last(byte: u8, end: u8, left: usize) -> bool
     ensures { result ≡ eqb byte end && eqb left 0 }
 {
-    if byte != end {
-        return false;
-    }
-    left == 0
+    byte == end && left == 0
 }
 
 // What stands before the given byte for the time that place says, counted from 0.
@@ -107,16 +81,14 @@ fn column_at(table: &[u8], end: u8, other: u8, place: usize) -> &[u8]
 {
     let mut left = place;
     let mut start = 0;
-    let mut i = 0;
-    while i < table.len() {
-        if is_last(table[i], end, left) {
+    for (i, &byte) in table.iter().enumerate() {
+        if is_last(byte, end, left) {
             return &table[start..i];
         }
-        left = left_at(table[i], end, left);
-        start = start_behind(table[i], end, other, start, i);
-        i += 1;
+        left = left_at(byte, end, left);
+        start = start_behind(byte, end, other, start, i);
     }
-    &table[0..0]
+    &[]
 }
 
 // The word at a place of a table, counted from 0; past the last word no bytes. At place 1 of `nearest wrap ` stands

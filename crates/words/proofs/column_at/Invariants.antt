@@ -1,11 +1,6 @@
--- `column_at` meets its contract: the invariant is `Counting`, the measure the bytes that are left.
-use Prim.Native.Nat.{◌-◌}
-use lib.ListN.{length}
+-- `column_at` meets its contract: the invariant is `Counting`.
 use Rattle.words.proofs.Column.{Counting}
 use Rattle.words.proofs.column_at.Given as goal
 
 abbrev pub invariant-loop-i : goal.invariant-loop-i
 invariant-loop-i l = Counting l.end l.other l.table l.place l.left l.start l.i
-
-abbrev pub decreases-loop-i : goal.decreases-loop-i
-decreases-loop-i l = length l.table - l.i

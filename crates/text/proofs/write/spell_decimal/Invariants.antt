@@ -1,5 +1,5 @@
 -- `spell_decimal` meets its contract, as `spell` does, two digits a turn and then the one that may be left. The measure is the digits that are left.
-use Prim.Native.Nat.{◌-◌, ◌≤◌}
+use Prim.Native.Nat.{◌≤◌}
 use mathlib.Core.List.{◌++◌}
 use mathlib.Core.Path.{◌≡◌}
 use lib.ListN.{length, drop}
