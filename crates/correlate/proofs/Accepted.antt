@@ -94,8 +94,3 @@ module _ {convolution : Bool} {b : Border ℤ} {o : ℤ} {sides : List ℕ} {w :
 
   pub suits_as : {n : ℕ} {x : ℤ} → n ≡ side → x ≡ applied → Suits n x
   suits_as {n} {x} p q = subst (λ (m : ℕ). Suits m x) (sym p) (subst (λ (y : ℤ). Suits side y) (sym q) (origin_applied, kernelled_accepted))
-
--- ---- the pads as the code hands them to the worker
-module _ {b : Border ℤ} {ns : List ℕ} {side left right : ℕ} {w cells out : List ℤ} (K : KernelCallNeeds b ns side left right w cells out) where
-  pub padded_as : {l r : ℕ} → l ≡ left → r ≡ right → KernelCallNeeds b ns side l r w cells out
-  padded_as {l} {r} p q = subst (λ (x : ℕ). KernelCallNeeds b ns side x r w cells out) (sym p) (subst (λ (y : ℕ). KernelCallNeeds b ns side left y w cells out) (sym q) K)

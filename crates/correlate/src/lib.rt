@@ -13,8 +13,8 @@ ghost use Rattle.correlate_spec.specs.Kernel.{sides_of, side_of_lem, kernel_answ
 ghost use Rattle.correlate_grid.specs.Kernel.{KernelCallNeeds};
 ghost use Rattle.correlate_judge_spec.specs.KernelJudge.{kernel_judged};
 
-use numbers::Refusal;
 use border::BorderMode;
+use numbers::Refusal;
 use window_spec::Origin;
 
 // Fills out with the sums of every window of a kernel of equal sides. The weights are read from the last to the first
@@ -93,16 +93,7 @@ pub fn correlate(
         (correlate_z (border_of mode) origin sides.now weights.now shape.now
         «data».now) out.old (answer_number result) out.new }
 {
-    correlate_judge::judge_kernel(
-        data,
-        shape,
-        weights,
-        sides,
-        mode,
-        origin,
-        false,
-        out.len(),
-    )?;
+    correlate_judge::judge_kernel(data, shape, weights, sides, mode, origin, false, out.len())?;
     correlate_cells(data, shape, weights, sides, mode, origin, false, out);
     Ok(())
 }
@@ -135,16 +126,7 @@ pub fn convolve(
         (convolve_z (border_of mode) origin sides.now weights.now shape.now
         «data».now) out.old (answer_number result) out.new }
 {
-    correlate_judge::judge_kernel(
-        data,
-        shape,
-        weights,
-        sides,
-        mode,
-        origin,
-        true,
-        out.len(),
-    )?;
+    correlate_judge::judge_kernel(data, shape, weights, sides, mode, origin, true, out.len())?;
     correlate_cells(data, shape, weights, sides, mode, origin, true, out);
     Ok(())
 }

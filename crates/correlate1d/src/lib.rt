@@ -23,11 +23,8 @@ fn scale(data: &[i64], weight: i64, out: &mut [i64])
     requires { ScaleNeeds «data».now weight out.old }
     ensures { out.new ≡ map (λ x. x *ℤ weight) «data».now }
 {
-    let n = out.len();
-    let mut i = 0;
-    while i < n {
+    for i in 0..out.len() {
         out[i] = data[i] * weight;
-        i += 1;
     }
 }
 

@@ -24,11 +24,8 @@ fn scale(data: &[f64], weight: f64, out: &mut [f64])
     requires { length out.old ≡ length «data».now }
     ensures { out.new ≡ map (λ x. mul binary64 x weight) «data».now }
 {
-    let n = out.len();
-    let mut i = 0;
-    while i < n {
+    for i in 0..out.len() {
         out[i] = data[i] * weight;
-        i += 1;
     }
 }
 

@@ -8,28 +8,14 @@ ghost use Rattle.correlate_judge_spec.specs.KernelJudge.{bad_side, bad_kernel};
 fn bad_side(first: usize, side: usize) -> bool
     ensures { result ≡ bad_side first side }
 {
-    if side < 1 {
-        return true;
-    }
-    if numbers::LONGEST_SIDE < side {
-        return true;
-    }
-    side != first
+    !(1..=numbers::LONGEST_SIDE).contains(&side) || side != first
 }
 
 // Condition 5 of all sides: some side is bad.
 fn bad_sides(first: usize, sides: &[usize]) -> bool
     ensures { result ≡ any_of (bad_side first) sides.now }
 {
-    let mut a = 0;
-    while a < sides.len() {
-        let side = sides[a];
-        if bad_side(first, side) {
-            return true;
-        }
-        a += 1;
-    }
-    false
+    sides.iter().any(|side| bad_side(first, *side))
 }
 
 // Condition 5 of a kernel with count weights, on a grid whose shape condition 1 accepts.
@@ -37,12 +23,7 @@ pub fn bad_kernel(shape: &[usize], sides: &[usize], count: usize) -> bool
     requires { bad_shape shape.now ≡ false }
     ensures { result ≡ bad_kernel shape.now sides.now count }
 {
-    if sides.len() != shape.len() {
-        return true;
-    }
-    let first = array::len_of(sides, 0);
-    if bad_sides(first, sides) {
-        return true;
-    }
-    array::bad_length(sides, count)
+    sides.len() != shape.len()
+        || bad_sides(array::len_of(sides, 0), sides)
+        || array::bad_length(sides, count)
 }

@@ -5,8 +5,8 @@ ghost use Rattle.numbers.specs.Refusal.{refusal_of};
 ghost use Rattle.border.specs.Axes.{borders_of};
 ghost use Rattle.gradient_spec.specs.Judge.{passes_judged, GradientNumber};
 
-use numbers::Refusal;
 use border::BorderMode;
+use numbers::Refusal;
 
 // Conditions 8, 9 and 11 of the passes, in rising order.
 fn judge_passes(shape: &[usize], axis: usize, modes: [BorderMode; 3]) -> Result<(), Refusal>

@@ -9,8 +9,8 @@ ghost use Rattle.border.specs.Axes.{borders_of};
 ghost use Rattle.gradient_spec.specs.Gradient.{prewitt_weights, sobel_weights, gradient};
 ghost use Rattle.gradient_spec.specs.Judge.{ThreeSmall, gradient_judged};
 
-use numbers::Refusal;
 use border::BorderMode;
+use numbers::Refusal;
 
 mod judge;
 mod passes;

@@ -15,20 +15,14 @@ use border::BorderMode;
 fn first_other(axis: usize) -> usize
     ensures { result ≡ first_other axis }
 {
-    if axis == 0 {
-        return 1;
-    }
-    0
+    if axis == 0 { 1 } else { 0 }
 }
 
 // The last axis of three beside the given one.
 fn last_other(axis: usize) -> usize
     ensures { result ≡ last_other axis }
 {
-    if axis == 2 {
-        return 1;
-    }
-    2
+    if axis == 2 { 1 } else { 2 }
 }
 
 // Fills out with one pass along an axis, which has that axis's border.

@@ -1,11 +1,9 @@
 -- An accepted call: each of its passes is accepted, and leaves a grid that the next pass accepts.
 -- Assumes nothing.
-use mathlib.Core.Path.{◌≡◌, ap, subst, ◌∙◌}
+use mathlib.Core.Path.{◌≡◌, ap, ◌∙◌}
 use mathlib.Core.Bool.{false}
 use mathlib.Core.List.{List, [], ◌∷◌}
-use Prim.Native.Nat.{ℕ, ◌+◌, ◌-◌, ◌/◌, ◌<◌}
-use native.Mathlib.Nat.{add-zero}
-use native.Mathlib.Omega.{arith}
+use Prim.Native.Nat.{ℕ, ◌<◌}
 use borrow.Author.Tests.{ltb-true, not-false}
 use lib.Dec.{ltb}
 use lib.IntN.{ℤ, pos}
@@ -17,51 +15,17 @@ use Rattle.numbers.proofs.Tests.{or_false}
 use Rattle.array_spec.specs.Conditions.{bad_level}
 use Rattle.array_spec.specs.Grid.{cell_count, length_of}
 use Rattle.array_spec.proofs.Judged.{PassedGrid, grid_passed}
-use Rattle.lanes.specs.Lanes.{along_axis}
 use Rattle.lanes.proofs.AlongAxis.{length_along}
 use Rattle.border.specs.Axes.{any_axis, bad_constants}
 use Rattle.border.specs.Border.{Border}
 use Rattle.border.specs.Modes.{bad_constant_by}
-use Rattle.border.specs.Reach.{bad_pad}
 use Rattle.border.proofs.AnyAxis.{axis-at}
-use Rattle.pad_line.specs.Lane.{AxisNeeds}
 use Rattle.window_spec.specs.Window.{bad_reach}
 use Rattle.uniform_spec.specs.Mean.{means}
-use Rattle.uniform_axis.specs.MeanAxisNeeds.{MeanAxisNeeds}
 use Rattle.uniform_spec.specs.Uniform.{padded_for, uniform1d}
 use Rattle.uniform_spec.specs.Judge.{half_over, bad_grid_reach, uniform1d_judged, uniform_judged}
 use Rattle.uniform_spec.proofs.Sums.{levels-kept}
-use Rattle.uniform_spec.proofs.Window.{size_some, size_few, pads_filled}
 use Rattle.uniform.specs.PassNeeds.{PassNeeds}
-
--- ---- what the means along an axis suppose of a pass
-module _ {b : Border ℤ} {size : ℕ} {ns : List ℕ} {a : ℕ} {cells out : List ℤ} (P : PassNeeds b size ns a cells out) where
-  -- the window is its pads and the cell itself
-  pub pads_size : size / 2 + (size - size / 2 - 1) + 1 ≡ size
-  pads_size = omega (arith, size_some size P.window)
-
-  pub pass_sweep : AxisNeeds b ns a (size / 2) (size - size / 2 - 1) cells out
-  pass_sweep =
-      let r = or_false (bad_pad b (length_of ns a) (size / 2 + 0)) (bad_pad b (length_of ns a) (size - size / 2 - 1 + 0)) (pads_filled b size (length_of ns a) P.reach) in
-      record {
-        shape = P.shape;
-        axis = P.axis;
-        count = P.count;
-        same = omega (arith, P.same, P.count);
-        fills_left = subst (λ x. bad_pad b (length_of ns a) x ≡ false) (add-zero (size / 2)) r.0;
-        fills_right = subst (λ x. bad_pad b (length_of ns a) x ≡ false) (add-zero (size - size / 2 - 1)) r.1;
-        narrow = omega (arith, size_few size P.window);
-      }
-
-  pub pass_averaging : MeanAxisNeeds (size / 2 + (size - size / 2 - 1) + 1) b cells
-  pass_averaging = record { few = omega (arith, size_few size P.window); level = P.level; levels = P.levels }
-
-  -- the answer, by the length of the window as the worker has it
-  abbrev filled : ℕ → List ℤ
-  filled m = along_axis (pos 0) (λ s. means (padded_for b size s) m (length s)) ns a cells
-
-  pub pass_filled : {left : List ℤ} → left ≡ filled (size / 2 + (size - size / 2 - 1) + 1) → left ≡ uniform1d b size ns a cells
-  pass_filled e = e ∙ ap filled pads_size
 
 -- ---- the one-axis form
 module _ {b : Border ℤ} {size : ℕ} {ns : List ℕ} {a : ℕ} {cells : List ℤ} (out : List ℤ) where

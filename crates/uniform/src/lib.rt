@@ -12,8 +12,8 @@ ghost use Rattle.uniform_spec.specs.Uniform.{uniform1d, uniform as uniformOf};
 ghost use Rattle.uniform_spec.specs.Judge.{uniform1d_judged, uniform_judged};
 ghost use Rattle.uniform.specs.PassNeeds.{PassNeeds};
 
-use numbers::Refusal;
 use border::BorderMode;
+use numbers::Refusal;
 pub use uniform_judge::{judge_along, judge_uniform, judge_uniform1d};
 
 // Fills out with the means along the axis; `uniform_filter` makes one pass for each axis, and a recipe one for a step.

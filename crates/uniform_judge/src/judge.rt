@@ -8,8 +8,8 @@ ghost use Rattle.window_spec.specs.Window.{bad_reach, bad_size};
 ghost use Rattle.uniform_spec.specs.Judge.{bad_grid_reach, uniform_along_judged, uniform_axes_judged};
 ghost use Rattle.uniform_spec.specs.Judge.{uniform1d_judged, uniform_judged};
 
-use numbers::Refusal;
 use border::BorderMode;
+use numbers::Refusal;
 
 // Condition 11 of a lane of n cells: the border cannot fill one of the pads of a centred window.
 fn bad_window(mode: BorderMode, n: usize, size: usize) -> bool
@@ -24,10 +24,7 @@ fn bad_grid_window(mode: BorderMode, n: usize, size: usize) -> bool
     requires { bad_size size ≡ false }
     ensures { result ≡ bad_grid_reach (border_of mode) size n }
 {
-    if bad_window(mode, n, size) {
-        return true;
-    }
-    n < size / 2
+    bad_window(mode, n, size) || n < size / 2
 }
 
 // Condition 11 of a grid: a lane of some axis has it, by the axis's own border.
@@ -35,14 +32,10 @@ fn bad_grid(modes: [BorderMode; 3], shape: &[usize], size: usize) -> bool
     requires { bad_size size ≡ false }
     ensures { result ≡ any_axis (λ b. bad_grid_reach b size) (borders_of modes) shape.now }
 {
-    let mut a = 0;
-    while a < shape.len() {
-        let mode = border::mode_on(modes, a);
-        let n = shape[a];
-        if bad_grid_window(mode, n, size) {
+    for (a, n) in shape.iter().enumerate() {
+        if bad_grid_window(border::mode_on(modes, a), *n, size) {
             return true;
         }
-        a += 1;
     }
     false
 }
@@ -53,7 +46,12 @@ fn bad_grid(modes: [BorderMode; 3], shape: &[usize], size: usize) -> bool
 // * `size`, `axis`, `mode` - as in `uniform_filter1d`.
 //
 // Refuses: 5 (kernel), 8 (axis), 9 (constant), 11 (reach). Of 3 cells size 7 under Mirror gives 11.
-pub fn judge_along(shape: &[usize], size: usize, axis: usize, mode: BorderMode) -> Result<(), Refusal>
+pub fn judge_along(
+    shape: &[usize],
+    size: usize,
+    axis: usize,
+    mode: BorderMode,
+) -> Result<(), Refusal>
     ensures { answer_number result ≡ refusal_of (uniform_along_judged (border_of mode) size shape.now axis) }
 {
     if window::bad_size(size) {

@@ -1,30 +1,18 @@
--- `convolve` meets its contract: refused by the judge's number, or the answer of an accepted call, which is that of the reversed weights.
-use mathlib.Core.Path.{◌≡◌, sym, ap, ◌∙◌}
-use mathlib.Core.Bool.{true}
-use lib.IntN.{ℤ}
+-- `convolve` meets its contract: an accepted call's answer is that of the reversed weights.
+use mathlib.Core.Path.{◌≡◌, sym, ◌∙◌}
 use lib.ListN.{length}
 use mir.Syntax.{w64}
 use mir.Val.{to_z, of_z}
-use Rattle.numbers.specs.Refusal.{refusal_of}
-use Rattle.numbers.proofs.Chain.{answers_refused, answers_accepted}
+use Rattle.numbers.proofs.Number.{fills}
 use Rattle.border.specs.Modes.{border_of}
-use Rattle.correlate_spec.specs.Kernel.{convolve_z}
-use Rattle.correlate_judge_spec.specs.KernelJudge.{kernel_judged}
 use Rattle.correlate_judge_spec.proofs.Convolution.{kernel_convolves}
 use borrow.Author.Rules.{rules}
 use Rattle.correlate.proofs.convolve.Goals as goal
-
-pub returns-then-refusal-ne0 : goal.returns-then-refusal-ne0
-returns-then-refusal-ne0 c = answers_refused _ _ _ _ ((let judged : let s = c in c.judge_kernel-refusal.result ≡ refusal_of (kernel_judged true (border_of s.args.mode) s.args.origin s.args.sides.now s.args.weights.now s.args.shape.now s.args.«data».now (length s.args.out.now)) = let s = c in let e : to_z w64 (of_z w64 s.args.origin) ≡ s.args.origin = search rules in c.judge_kernel-refusal.ensures ∙ ap (λ (o : ℤ). refusal_of (kernel_judged true (border_of s.args.mode) o s.args.sides.now s.args.weights.now s.args.shape.now s.args.«data».now (length s.args.out.now))) e in judged)) c.if-refusal-ne0.true
-
-pub correlate_cells-requires : goal.correlate_cells-requires
-correlate_cells-requires c = (let accepted : let s = c in refusal_of (kernel_judged true (border_of s.args.mode) (to_z w64 (of_z w64 s.args.origin)) s.args.sides.now s.args.weights.now s.args.shape.now s.args.«data».now (length s.args.out.now)) ≡ 0 = let s = c in let e : to_z w64 (of_z w64 s.args.origin) ≡ s.args.origin = search rules in ap (λ (o : ℤ). refusal_of (kernel_judged true (border_of s.args.mode) o s.args.sides.now s.args.weights.now s.args.shape.now s.args.«data».now (length s.args.out.now))) e ∙ sym ((let judged : let s = c in c.judge_kernel-refusal.result ≡ refusal_of (kernel_judged true (border_of s.args.mode) s.args.origin s.args.sides.now s.args.weights.now s.args.shape.now s.args.«data».now (length s.args.out.now)) = let s = c in let e : to_z w64 (of_z w64 s.args.origin) ≡ s.args.origin = search rules in c.judge_kernel-refusal.ensures ∙ ap (λ (o : ℤ). refusal_of (kernel_judged true (border_of s.args.mode) o s.args.sides.now s.args.weights.now s.args.shape.now s.args.«data».now (length s.args.out.now))) e in judged)) ∙ c.if-refusal-ne0.false in accepted)
 
 pub returns : goal.returns
 returns c =
     let a = c.args in
     let e : to_z w64 (of_z w64 a.origin) ≡ a.origin = search rules in
-    let turned = kernel_convolves (border_of a.mode) (to_z w64 (of_z w64 a.origin)) a.sides.now a.weights.now a.shape.now a.«data».now (length a.out.now) in
-    answers_accepted _ _ _ _ ((let judged : let s = c in c.judge_kernel-refusal.result ≡ refusal_of (kernel_judged true (border_of s.args.mode) s.args.origin s.args.sides.now s.args.weights.now s.args.shape.now s.args.«data».now (length s.args.out.now)) = let s = c in let e : to_z w64 (of_z w64 s.args.origin) ≡ s.args.origin = search rules in c.judge_kernel-refusal.ensures ∙ ap (λ (o : ℤ). refusal_of (kernel_judged true (border_of s.args.mode) o s.args.sides.now s.args.weights.now s.args.shape.now s.args.«data».now (length s.args.out.now))) e in judged)) c.if-refusal-ne0.false
-    (c.correlate_cells.ensures ∙ sym (turned.levels ((let accepted : let s = c in refusal_of (kernel_judged true (border_of s.args.mode) (to_z w64 (of_z w64 s.args.origin)) s.args.sides.now s.args.weights.now s.args.shape.now s.args.«data».now (length s.args.out.now)) ≡ 0 = let s = c in let e : to_z w64 (of_z w64 s.args.origin) ≡ s.args.origin = search rules in ap (λ (o : ℤ). refusal_of (kernel_judged true (border_of s.args.mode) o s.args.sides.now s.args.weights.now s.args.shape.now s.args.«data».now (length s.args.out.now))) e ∙ sym ((let judged : let s = c in c.judge_kernel-refusal.result ≡ refusal_of (kernel_judged true (border_of s.args.mode) s.args.origin s.args.sides.now s.args.weights.now s.args.shape.now s.args.«data».now (length s.args.out.now)) = let s = c in let e : to_z w64 (of_z w64 s.args.origin) ≡ s.args.origin = search rules in c.judge_kernel-refusal.ensures ∙ ap (λ (o : ℤ). refusal_of (kernel_judged true (border_of s.args.mode) o s.args.sides.now s.args.weights.now s.args.shape.now s.args.«data».now (length s.args.out.now))) e in judged)) ∙ c.if-refusal-ne0.false in accepted)))
-    ∙ ap (λ (o : ℤ). convolve_z (border_of a.mode) o a.sides.now a.weights.now a.shape.now a.«data».now) e)
+    let judged = rw e at c.in_ok-judge_kernel.ensures in
+    let turned = kernel_convolves (border_of a.mode) a.origin a.sides.now a.weights.now a.shape.now a.«data».now (length a.out.now) in
+    fills _ _ _ judged ((rw e at c.correlate_cells.ensures) ∙ sym (turned.levels (sym judged)))

@@ -1,23 +1,27 @@
--- `bad_kernel` meets its contract: each return has the answers of the tests on its way, and the product is that of an accepted shape.
-use mathlib.Core.Path.{◌≡◌, ap, ◌∙◌}
-use Prim.Native.Nat.{ℕ}
-use Rattle.numbers.specs.Lists.{any_of}
-use Rattle.numbers.proofs.Tests.{condition_is}
-use Rattle.correlate_spec.specs.Kernel.{side_of_lem}
-use Rattle.correlate_judge_spec.specs.KernelJudge.{bad_side}
+-- `bad_kernel` meets its contract: the first test that holds decides, and the product is that of an accepted shape.
+use mathlib.Core.Path.{sym, ◌∙◌}
+use borrow.Author.Tests.{eqb-true, not-false}
+use lib.ListN.{length}
 use Rattle.correlate_judge_spec.proofs.Equal.{axes_differ, side_differs, count_asked}
 use Rattle.correlate_conditions.proofs.kernel_sides.bad_kernel.Goals as goal
-
-pub returns-then-sides-shape : goal.returns-then-sides-shape
-returns-then-sides-shape c = let a = c.args in axes_differ a.shape.now a.sides.now a.count c.if-sides-shape.true
+use Rattle.correlate_conditions.proofs.kernel_sides.bad_kernel.Goals.{then-sides-shape, else-sides-shape}
 
 pub returns-then-bad_sides : goal.returns-then-bad_sides
 returns-then-bad_sides c =
     let a = c.args in
-    side_differs a.shape.now a.sides.now a.count c.if-sides-shape.false (condition_is ((let sides_told : let a = c.args in c.bad_sides.result ≡ any_of (bad_side (side_of_lem a.sides.now)) a.sides.now = let a = c.args in c.bad_sides.ensures ∙ ap (λ (n : ℕ). any_of (bad_side n) a.sides.now) c.len_of-first.ensures in sides_told)) c.if-bad_sides.true)
+    elim c.if-sides-shape.branch [
+      then-sides-shape w ↦ c.if-bad_sides.true ∙ axes_differ a.shape.now a.sides.now a.count w.if-sides-shape.true
+    | else-sides-shape w ↦
+        c.if-bad_sides.true ∙ side_differs a.shape.now a.sides.now a.count w.if-sides-shape.false
+        (sym (rw w.len_of.ensures at w.bad_sides.ensures) ∙ sym w.value-is ∙ c.if-bad_sides.true)
+    ]
 
-pub returns : goal.returns
-returns c =
-    let s = c in
-    count_asked s.args.shape.now s.args.sides.now s.args.count c.if-sides-shape.false s.requires
-    (condition_is ((let sides_told : let a = c.args in c.bad_sides.result ≡ any_of (bad_side (side_of_lem a.sides.now)) a.sides.now = let a = c.args in c.bad_sides.ensures ∙ ap (λ (n : ℕ). any_of (bad_side n) a.sides.now) c.len_of-first.ensures in sides_told)) c.if-bad_sides.false) c.bad_length.ensures
+pub returns-else-bad_sides : goal.returns-else-bad_sides
+returns-else-bad_sides c =
+    let a = c.args in
+    elim c.if-sides-shape.branch [
+      then-sides-shape w ↦ absurd (w.if-sides-shape.true (eqb-true (length a.sides.now) (length a.shape.now) (not-false _ (sym w.value-is ∙ c.if-bad_sides.false))))
+    | else-sides-shape w ↦
+        count_asked a.shape.now a.sides.now a.count w.if-sides-shape.false c.requires
+        (sym (rw w.len_of.ensures at w.bad_sides.ensures) ∙ sym w.value-is ∙ c.if-bad_sides.false) c.bad_length.ensures
+    ]

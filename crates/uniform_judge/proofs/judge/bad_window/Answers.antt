@@ -4,6 +4,3 @@ use Rattle.uniform_judge.proofs.judge.bad_window.Goals as goal
 
 pub bad_reach-requires : goal.bad_reach-requires
 bad_reach-requires c = origin_in c.args.size c.requires
-
-pub returns : goal.returns
-returns c = c.bad_reach.ensures
