@@ -5,8 +5,8 @@ use mathlib.Core.Bool.{Bool, true, false, ◌&&◌, not, cond, and-false}
 use mathlib.Core.List.{List, ◌++◌}
 use Prim.Native.Nat.{ℕ, ◌+◌, ◌*◌, ◌≤◌, ◌<◌}
 use native.Mathlib.Omega.{arith}
-use borrow.Author.Tests.{le-leb, lt-leb, leb-true}
-use lib.Dec.{leb}
+use borrow.Author.Tests.{le-leb, leb-true, eqb-true, eqb-false}
+use lib.Dec.{eqb, leb}
 use lib.ListN.{length, drop}
 use Rattle.numbers.specs.Windows.{window_of}
 use Rattle.numbers.proofs.Tests.{and_true, cond_yes, cond_no, condition_is}
@@ -20,15 +20,13 @@ use Rattle.border.specs.Reach.{bad_pad}
 use Rattle.pad_line.proofs.Padded.{length-padded}
 
 -- ---- a lane that is inside, and a padded line that is short enough
-pub too_long : (n s l count total room : ℕ) → room < total → false ≡ lane_inside n s l count && leb total room
-too_long n s l count total room h = sym (ap (λ t. lane_inside n s l count && t) (lt-leb total room h) ∙ and-false (lane_inside n s l count))
-
-module _ (n s l count r : ℕ) (e : r ≡ cond (lane_inside n s l count) (lane_base n s l) count) where
-  pub lane_out : r ≡ count → (t : Bool) → false ≡ lane_inside n s l count && t
-  lane_out q t = sym (ap (λ i. i && t) (place_none n s l count r e q))
-
-  pub lane_in : (r ≡ count → ⊥) → (total room : ℕ) → total ≤ room → true ≡ lane_inside n s l count && leb total room
-  lane_in q total room h = sym (λ j. place_some n s l count r e q j && le-leb total room h j)
+module _ (n s l count : ℕ) {r : ℕ} (e : r ≡ cond (lane_inside n s l count) (lane_base n s l) count) (total room : ℕ) (h : total ≤ room) where
+  pub lane_test : not (eqb r count) ≡ lane_inside n s l count && leb total room
+  lane_test = go (eqb r count) refl
+    where
+      go : (t : Bool) → eqb r count ≡ t → not t ≡ lane_inside n s l count && leb total room
+      go true q = sym (ap (λ i. i && leb total room) (place_none n s l count r e (eqb-true r count q)))
+      go false q = sym (λ j. place_some n s l count r e (eqb-false r count q) j && le-leb total room h j)
 
 -- ---- the line stays as it was
 no_left : (i r : Bool) → i && not true && not r ≡ false

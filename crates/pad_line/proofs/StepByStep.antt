@@ -6,9 +6,9 @@ use Prim.Native.Nat.{ℕ, ◌+◌, ◌-◌, ◌*◌, ◌≤◌, ◌<◌}
 use native.Mathlib.Omega.{arith}
 use lib.Dec.{eqb}
 use lib.ListN.{length, get_or, set}
-use Rattle.numbers.proofs.Stored.{Stored, stored_none, stored_one, stored_then, stored_table, table_stored}
+use Rattle.numbers.proofs.Stored.{Stored, stored_one, stored_then, stored_table, table_stored}
 use Rattle.numbers.proofs.Tests.{cond_no}
-use Rattle.lanes.proofs.Part.{on_row, row_no, row_empty, row_longer}
+use Rattle.lanes.proofs.Part.{on_row, row_no, row_longer}
 use Rattle.pad_line.specs.Steps.{StepNeeds, step_set}
 
 -- ---- the places of one turn: those that it reads and stores are in the list, and it steps back no further than its start
@@ -28,9 +28,6 @@ module _ {A : Type 0} (d : A) where
   -- ---- g is g₀ with the first j cells stored
   pub record StepStored (up down from at : ℕ) (g₀ g : List A) (j : ℕ) : Type 0 where
     pub stored : Stored d (on_row at j) (stepped_cell up down from at g₀) g₀ g
-
-  pub step-none : (up down from at : ℕ) (g : List A) → StepStored up down from at g g 0
-  step-none up down from at g = record { stored = stored_none d (stepped_cell up down from at g) (on_row at 0) g (row_empty at) }
 
   pub step-all : {up down from at : ℕ} {g₀ g : List A} {j : ℕ} (count : ℕ) → j ≡ count → StepStored up down from at g₀ g j → g ≡ step_set d up down from at count g₀
   unfolding step_set

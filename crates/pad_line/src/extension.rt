@@ -14,16 +14,11 @@ fn extend_constant(c: i64, left: usize, n: usize, right: usize, line: &mut [i64]
     requires { left + n + right ≤ length line.old }
     ensures { line.new ≡ pad_middle (pos 0) (constant c) left n right line.old }
 {
-    let mut i = 0;
-    while i < left {
+    for i in 0..left {
         line[i] = c;
-        i += 1;
     }
-    let end = left + n + right;
-    let mut j = left + n;
-    while j < end {
+    for j in left + n..left + n + right {
         line[j] = c;
-        j += 1;
     }
 }
 

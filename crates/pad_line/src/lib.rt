@@ -36,19 +36,10 @@ pub fn lane_fits(
 ) -> bool
     ensures { result ≡ lane_inside n stride lane count && leb (left + n + right) room }
 {
-    if room < left {
-        return false;
-    }
-    if room - left < n {
-        return false;
-    }
-    if room - left - n < right {
-        return false;
-    }
-    if lanes::first_place(count, n, stride, lane) == count {
-        return false;
-    }
-    true
+    left <= room
+        && n <= room - left
+        && right <= room - left - n
+        && lanes::first_place(count, n, stride, lane) != count
 }
 
 // Reads the n cells of the grid from place base on, stride apart, into a lent line and extends them by the border. The

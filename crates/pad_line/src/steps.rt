@@ -8,29 +8,23 @@ ghost use Rattle.pad_line.specs.Steps.{StepNeeds, step_set};
 // is read moves `up` places on and `down` back.
 //
 // Supposes `StepNeeds`. Of 9 9 1 2 3, two places from 0 on, from place 3 and one back each: 2 1 1 2 3.
+#[tactic(auto, using(crate::proofs::StepByStep::step_turn))]
 pub fn copy_steps(up: usize, down: usize, from: usize, at: usize, count: usize, out: &mut [i64])
     requires { StepNeeds up down from at count (length out.old) }
     ensures { out.new ≡ step_set (pos 0) up down from at count out.old }
 {
-    let mut j = 0;
-    while j < count {
-        let v = out[from + up * j - down * j];
-        let to = at + j;
-        out[to] = v;
-        j += 1;
+    for j in 0..count {
+        out[at + j] = out[from + up * j - down * j];
     }
 }
 
 // As `copy_steps`, of floats.
+#[tactic(auto, using(crate::proofs::StepByStep::step_turn))]
 pub fn copy_steps_f64(up: usize, down: usize, from: usize, at: usize, count: usize, out: &mut [f64])
     requires { StepNeeds up down from at count (length out.old) }
     ensures { out.new ≡ step_set nan up down from at count out.old }
 {
-    let mut j = 0;
-    while j < count {
-        let v = out[from + up * j - down * j];
-        let to = at + j;
-        out[to] = v;
-        j += 1;
+    for j in 0..count {
+        out[at + j] = out[from + up * j - down * j];
     }
 }

@@ -14,16 +14,11 @@ fn extend_constant_f64(c: f64, left: usize, n: usize, right: usize, line: &mut [
     requires { left + n + right ≤ length line.old }
     ensures { line.new ≡ pad_middle nan (constant c) left n right line.old }
 {
-    let mut i = 0;
-    while i < left {
+    for i in 0..left {
         line[i] = c;
-        i += 1;
     }
-    let end = left + n + right;
-    let mut j = left + n;
-    while j < end {
+    for j in left + n..left + n + right {
         line[j] = c;
-        j += 1;
     }
 }
 

@@ -12,12 +12,8 @@ fn narrow(line: &[i64], levels: &mut [i32])
     requires levels_len { length levels.old ≡ length line.now }
     ensures { levels.new ≡ line.now }
 {
-    let n = line.len();
-    let mut k = 0;
-    while k < n {
-        let z = line[k];
-        levels[k] = z as i32;
-        k += 1;
+    for k in 0..line.len() {
+        levels[k] = line[k] as i32;
     }
 }
 
@@ -27,13 +23,10 @@ fn count_at_most(levels: &[i32], z: i32) -> u32
     ensures { result ≡ at_most le_z z levels.now }
 {
     let mut count: u32 = 0;
-    let mut j = 0;
-    while j < levels.len() {
-        let x = levels[j];
-        if x <= z {
+    for x in levels {
+        if *x <= z {
             count += 1;
         }
-        j += 1;
     }
     count
 }
@@ -77,10 +70,9 @@ fn level_of_rank(levels: &[i32], low: i64, high: i64, k: usize) -> i32
         let count = count_at_most(levels, z) as usize;
         if k < count {
             to = middle;
+        } else if count == k {
+            return least_above(levels, z, high as i32);
         } else {
-            if count == k {
-                return least_above(levels, z, high as i32);
-            }
             from = middle + 1;
         }
     }
@@ -92,10 +84,7 @@ fn nearer(least: i32, level: i32, z: i32, top: i32) -> i32
     ensures { result ≡ cond (le_z least (past le_z z top level)) least (past le_z z top level) }
 {
     let y = if level <= z { top } else { level };
-    if y < least {
-        return y;
-    }
-    least
+    least.min(y)
 }
 
 // The least level above z; `top` where there is none below it.
@@ -103,11 +92,8 @@ fn least_above(levels: &[i32], z: i32, top: i32) -> i32
     ensures { result ≡ least_above le_z z top levels.now }
 {
     let mut least = top;
-    let mut i = 0;
-    while i < levels.len() {
-        let x = levels[i];
-        least = nearer(least, x, z, top);
-        i += 1;
+    for x in levels {
+        least = nearer(least, *x, z, top);
     }
     least
 }

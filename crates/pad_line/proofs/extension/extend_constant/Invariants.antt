@@ -1,18 +1,11 @@
 -- `pad_line::extension::extend_constant` meets its contract: the two rims are filled with the constant, which belongs there.
-use Prim.Native.Nat.{◌+◌, ◌-◌, ◌≤◌}
 use lib.IntN.{pos}
 use Rattle.border.specs.Border.{constant}
 use Rattle.pad_line.proofs.Rims.{Filled}
 use Rattle.pad_line.proofs.extension.extend_constant.Given as goal
 
 abbrev pub invariant-loop-i : goal.invariant-loop-i
-invariant-loop-i l = (l.i ≤ l.left) × Filled (pos 0) (constant l.c) l.left l.n l.initial.line l.line l.i
-
-abbrev pub decreases-loop-i : goal.decreases-loop-i
-decreases-loop-i l = l.left - l.i
+invariant-loop-i l = Filled (pos 0) (constant l.c) l.left l.n l.initial.line l.line l.i
 
 abbrev pub invariant-loop-j : goal.invariant-loop-j
-invariant-loop-j l = (l.left + l.n ≤ l.j) × (l.j ≤ l.left + l.n + l.right) × Filled (pos 0) (constant l.c) l.left l.n l.initial.line l.line l.j
-
-abbrev pub decreases-loop-j : goal.decreases-loop-j
-decreases-loop-j l = l.left + l.n + l.right - l.j
+invariant-loop-j l = Filled (pos 0) (constant l.c) l.left l.n l.initial.line l.line l.j

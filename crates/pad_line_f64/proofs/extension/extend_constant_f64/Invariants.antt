@@ -6,13 +6,7 @@ use Rattle.pad_line.proofs.Rims.{Filled}
 use Rattle.pad_line_f64.proofs.extension.extend_constant_f64.Given as goal
 
 abbrev pub invariant-loop-i : goal.invariant-loop-i
-invariant-loop-i l = (l.i ≤ l.left) × Filled nan (constant l.c) l.left l.n l.initial.line l.line l.i
-
-abbrev pub decreases-loop-i : goal.decreases-loop-i
-decreases-loop-i l = l.left - l.i
+invariant-loop-i l = Filled nan (constant l.c) l.left l.n l.initial.line l.line l.i
 
 abbrev pub invariant-loop-j : goal.invariant-loop-j
-invariant-loop-j l = (l.left + l.n ≤ l.j) × (l.j ≤ l.left + l.n + l.right) × Filled nan (constant l.c) l.left l.n l.initial.line l.line l.j
-
-abbrev pub decreases-loop-j : goal.decreases-loop-j
-decreases-loop-j l = l.left + l.n + l.right - l.j
+invariant-loop-j l = Filled nan (constant l.c) l.left l.n l.initial.line l.line l.j

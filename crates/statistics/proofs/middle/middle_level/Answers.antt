@@ -1,8 +1,10 @@
 -- `middle_level` meets its contract: the level by rank, or the two by rank over 2.
 use Prim.Native.Nat.{ℕ, ◌+◌, ◌-◌, ◌/◌, ◌≤◌}
 use mathlib.Core.Path.{◌≡◌, ap, subst⁻¹, ◌∙◌}
+use mathlib.Core.Bool.{false}
+use mathlib.Core.List.{List}
 use native.Mathlib.Omega.{arith}
-use lib.IntN.{pos, nat_abs, ◌+ℤ◌}
+use lib.IntN.{ℤ, pos, nat_abs, ◌+ℤ◌}
 use lib.ListN.{length}
 use lib.Signed.{quot_z}
 use mir.Syntax.{w32, w64}
@@ -11,13 +13,16 @@ use mir.ValLaws.{to_z-of_z}
 use Rattle.numbers.proofs.Quotient.{quot_asked, quot_given}
 use Rattle.numbers.proofs.Read.{read_at_lem}
 use Rattle.numbers.proofs.Size.{size_add, fits_size}
-use Rattle.statistics_spec.specs.Statistics.{ranked}
+use Rattle.statistics_spec.specs.Statistics.{ranked, unserved}
 use Rattle.statistics_spec.proofs.Computed.{median_odd, median_even}
 use Rattle.statistics_spec.proofs.Offset.{level_fits, level-read}
 use Rattle.statistics_spec.proofs.Served.{served_sized}
 use Rattle.statistics_spec.proofs.Sizes.{size_ranked}
 use Rattle.statistics.proofs.middle.middle_level.Goals as goal
 use Rattle.statistics.proofs.middle.middle_level.Goals.{After-level_after-upper}
+
+ranked_size : (l : List ℤ) → unserved l ≡ false → (k : ℕ) → nat_abs (ranked l k) ≤ 2147483647
+ranked_size l served k = (size_ranked 2147483647 l (served_sized l served) k).size
 
 upper_is : (c : After-level_after-upper) → let l = c.args.levels.now in to_z w32 (of_z w32 c.level_after-upper.result) ≡ ranked l ((length l - 1) / 2 + 1)
 upper_is c = read_at_lem w32 c.level_after-upper.type_inv c.level_after-upper.ensures
@@ -31,42 +36,41 @@ level_of_rank-lower-requires c = record {
 }
 
 pub overflow_cast-result : goal.overflow_cast-result
-overflow_cast-result c = let s = c in level_fits w64 (omega arith) (ranked s.args.levels.now ((length s.args.levels.now - 1) / 2)) ((let ranked_size : (k : ℕ) → nat_abs (ranked s.args.levels.now k) ≤ 2147483647 = λ k. let l = s.args.levels.now in (size_ranked 2147483647 l (served_sized l s.requires.levels_value) k).size in ranked_size) _) ((let lower_is : let l = c.args.levels.now in to_z w32 (of_z w32 c.level_of_rank-lower.result) ≡ ranked l ((length l - 1) / 2) = read_at_lem w32 c.level_of_rank-lower.type_inv c.level_of_rank-lower.ensures in lower_is))
+overflow_cast-result c = level_fits w64 (omega arith) (ranked c.args.levels.now ((length c.args.levels.now - 1) / 2)) (ranked_size c.args.levels.now c.requires.levels_value _) (read_at_lem w32 c.level_of_rank-lower.type_inv c.level_of_rank-lower.ensures)
 
 pub returns-then-n-eq1 : goal.returns-then-n-eq1
 returns-then-n-eq1 c =
-    let s = c in
-    let l = s.args.levels.now in
-    level-read w64 (omega arith) (ranked l ((length l - 1) / 2)) ((let ranked_size : (k : ℕ) → nat_abs (ranked s.args.levels.now k) ≤ 2147483647 = λ k. let l = s.args.levels.now in (size_ranked 2147483647 l (served_sized l s.requires.levels_value) k).size in ranked_size) _) ((let lower_is : let l = c.args.levels.now in to_z w32 (of_z w32 c.level_of_rank-lower.result) ≡ ranked l ((length l - 1) / 2) = read_at_lem w32 c.level_of_rank-lower.type_inv c.level_of_rank-lower.ensures in lower_is)) ∙ median_odd l c.if-n-eq1.true
+    let l = c.args.levels.now in
+    level-read w64 (omega arith) (ranked l ((length l - 1) / 2)) (ranked_size c.args.levels.now c.requires.levels_value _) (read_at_lem w32 c.level_of_rank-lower.type_inv c.level_of_rank-lower.ensures) ∙ median_odd l c.if-n-eq1.true
 
 pub level_after-upper-requires : goal.level_after-upper-requires
 level_after-upper-requires c = record {
   levels_value = c.requires.levels_value;
   k_in_bounds = omega (arith, c.if-n-eq1.false);
-  lower_value = (let lower_is : let l = c.args.levels.now in to_z w32 (of_z w32 c.level_of_rank-lower.result) ≡ ranked l ((length l - 1) / 2) = read_at_lem w32 c.level_of_rank-lower.type_inv c.level_of_rank-lower.ensures in lower_is);
+  lower_value = read_at_lem w32 c.level_of_rank-lower.type_inv c.level_of_rank-lower.ensures;
   high_value = to_z-of_z w64 _ c.ranges.high ∙ c.requires.high_value;
 }
 
 pub overflow_cast-result-2 : goal.overflow_cast-result-2
-overflow_cast-result-2 c = let s = c in level_fits w64 (omega arith) (ranked s.args.levels.now ((length s.args.levels.now - 1) / 2)) ((let ranked_size : (k : ℕ) → nat_abs (ranked s.args.levels.now k) ≤ 2147483647 = λ k. let l = s.args.levels.now in (size_ranked 2147483647 l (served_sized l s.requires.levels_value) k).size in ranked_size) _)
-    ((let lower_is : let l = c.args.levels.now in to_z w32 (of_z w32 c.level_of_rank-lower.result) ≡ ranked l ((length l - 1) / 2) = read_at_lem w32 c.level_of_rank-lower.type_inv c.level_of_rank-lower.ensures in lower_is))
+overflow_cast-result-2 c = level_fits w64 (omega arith) (ranked c.args.levels.now ((length c.args.levels.now - 1) / 2)) (ranked_size c.args.levels.now c.requires.levels_value _)
+    (read_at_lem w32 c.level_of_rank-lower.type_inv c.level_of_rank-lower.ensures)
 
 pub overflow_cast-result-3 : goal.overflow_cast-result-3
-overflow_cast-result-3 c = let s = c in level_fits w64 (omega arith) (ranked s.args.levels.now ((length s.args.levels.now - 1) / 2 + 1)) ((let ranked_size : (k : ℕ) → nat_abs (ranked s.args.levels.now k) ≤ 2147483647 = λ k. let l = s.args.levels.now in (size_ranked 2147483647 l (served_sized l s.requires.levels_value) k).size in ranked_size) _) (upper_is c)
+overflow_cast-result-3 c = level_fits w64 (omega arith) (ranked c.args.levels.now ((length c.args.levels.now - 1) / 2 + 1)) (ranked_size c.args.levels.now c.requires.levels_value _) (upper_is c)
 
 -- the sum of the two, which fits
 middles : (c : After-level_after-upper) → let l = c.args.levels.now in
     to_z w64 (of_z w64 (to_z w32 (of_z w32 c.level_of_rank-lower.result))) +ℤ to_z w64 (of_z w64 (to_z w32 (of_z w32 c.level_after-upper.result)))
     ≡ ranked l ((length l - 1) / 2) +ℤ ranked l ((length l - 1) / 2 + 1)
-middles c = let s = c in
-    let l = s.args.levels.now in
-    (λ i. level-read w64 (omega arith) (ranked l ((length l - 1) / 2)) ((let ranked_size : (k : ℕ) → nat_abs (ranked s.args.levels.now k) ≤ 2147483647 = λ k. let l = s.args.levels.now in (size_ranked 2147483647 l (served_sized l s.requires.levels_value) k).size in ranked_size) _) ((let lower_is : let l = c.args.levels.now in to_z w32 (of_z w32 c.level_of_rank-lower.result) ≡ ranked l ((length l - 1) / 2) = read_at_lem w32 c.level_of_rank-lower.type_inv c.level_of_rank-lower.ensures in lower_is)) i
-    +ℤ level-read w64 (omega arith) (ranked l ((length l - 1) / 2 + 1)) ((let ranked_size : (k : ℕ) → nat_abs (ranked s.args.levels.now k) ≤ 2147483647 = λ k. let l = s.args.levels.now in (size_ranked 2147483647 l (served_sized l s.requires.levels_value) k).size in ranked_size) _) (upper_is c) i)
+middles c =
+    let l = c.args.levels.now in
+    (λ i. level-read w64 (omega arith) (ranked l ((length l - 1) / 2)) (ranked_size c.args.levels.now c.requires.levels_value _) (read_at_lem w32 c.level_of_rank-lower.type_inv c.level_of_rank-lower.ensures) i
+    +ℤ level-read w64 (omega arith) (ranked l ((length l - 1) / 2 + 1)) (ranked_size c.args.levels.now c.requires.levels_value _) (upper_is c) i)
 
 pub overflow_add-result : goal.overflow_add-result
-overflow_add-result c = let s = c in
-    let l = s.args.levels.now in
-    let size = size_ranked 2147483647 l (served_sized l s.requires.levels_value) in
+overflow_add-result c =
+    let l = c.args.levels.now in
+    let size = size_ranked 2147483647 l (served_sized l c.requires.levels_value) in
     subst⁻¹ (SFits w64) (middles c) (fits_size (size_add (size ((length l - 1) / 2)) (size ((length l - 1) / 2 + 1))) (omega arith))
 
 pub nonzero_div-result : goal.nonzero_div-result

@@ -1,33 +1,38 @@
--- `narrow` meets its contract: the levels are stored from the front, and each fits 32 bits. The measure is what is left of the line.
-use Prim.Native.Nat.{◌≤◌, ◌-◌}
-use mathlib.Core.Path.{refl, ap, ◌∙◌}
+-- `narrow` meets its contract: the levels are stored from the front, and each fits 32 bits.
+use Prim.Native.Nat.{ℕ, ◌≤◌}
+use mathlib.Core.Path.{◌≡◌, refl, ap, ◌∙◌}
+use mathlib.Core.Bool.{false}
+use mathlib.Core.List.{List}
 use native.Mathlib.Omega.{arith}
 use borrow.Author.Rules.{rules}
-use lib.IntN.{pos, nat_abs}
+use lib.IntN.{ℤ, pos, nat_abs}
 use lib.ListN.{get_or}
 use mir.Syntax.{w32}
 use Rattle.numbers.proofs.Read.{read}
 use Rattle.numbers.proofs.Size.{member_sized}
-use Rattle.numbers.proofs.Stored.{front-none, front-more, front-all}
+use Rattle.numbers.proofs.Stored.{front-more, front-all}
 use Rattle.numbers.proofs.Tabulate.{tabulate_members}
 use Rattle.numbers.specs.Lists.{tabulate}
+use Rattle.statistics_spec.specs.Statistics.{unserved}
 use Rattle.statistics_spec.proofs.Offset.{level_fits, level-read}
 use Rattle.statistics_spec.proofs.Served.{served_sized}
 use Rattle.statistics.proofs.middle.narrow.Goals as goal
 
-pub loop-k-init : goal.loop-k-init
-loop-k-init c = (search rules, search rules, front-none (pos 0) _ _)
+level_size : (l : List ℤ) (k : ℕ) → unserved l ≡ false → nat_abs (get_or l k (pos 0)) ≤ 2147483647
+level_size l k served = (member_sized 2147483647 l (served_sized l served) k).size
 
 pub overflow_cast-levels : goal.overflow_cast-levels
-overflow_cast-levels c = let k = c in level_fits w32 (omega arith) (get_or k.args.line.now k.loop-k.k (pos 0)) ((let level_size : nat_abs (get_or k.args.line.now k.loop-k.k (pos 0)) ≤ 2147483647 = let l = k.args.line.now in (member_sized 2147483647 l (served_sized l k.requires.line_value) k.loop-k.k).size in level_size)) (read c.z-1.given refl)
+overflow_cast-levels c =
+    let l = c.args.line.now in
+    let k = c.loop-k.k in
+    level_fits w32 (omega arith) (get_or l k (pos 0)) (level_size l k c.requires.line_value) (read (search rules) refl)
 
 pub loop-k-preserved : goal.loop-k-preserved
 loop-k-preserved c =
-    let k = c in
-    (search rules, k.loop-k.invariant.1, front-more (pos 0) _ _ (search rules) k.loop-k.invariant.2 (level-read w32 (omega arith) _ ((let level_size : nat_abs (get_or k.args.line.now k.loop-k.k (pos 0)) ≤ 2147483647 = let l = k.args.line.now in (member_sized 2147483647 l (served_sized l k.requires.line_value) k.loop-k.k).size in level_size)) (read c.z-1.given refl)))
+    front-more (pos 0) _ _ (search rules) c.loop-k.invariant
+    (level-read w32 (omega arith) _ (level_size c.args.line.now c.loop-k.k c.requires.line_value) (read (search rules) refl))
 
 pub returns : goal.returns
 returns c =
-    let s = c in
-    let l = s.args.line.now in
-    front-all (pos 0) (λ k. get_or l k (pos 0)) (search rules) c.loop-k.invariant.2 ∙ ap (tabulate (λ k. get_or l k (pos 0)) 0) s.requires.levels_len ∙ tabulate_members (pos 0) l
+    let l = c.args.line.now in
+    front-all (pos 0) (λ k. get_or l k (pos 0)) (search rules) c.loop-k.invariant ∙ ap (tabulate (λ k. get_or l k (pos 0)) 0) c.requires.levels_len ∙ tabulate_members (pos 0) l

@@ -1,38 +1,27 @@
--- `nearer` meets its contract: `y` is the level or the top, and is taken where it is below `least`.
-use mathlib.Core.Bool.{not}
-use mathlib.Core.Path.{◌≡◌, sym, ap, ◌∙◌}
+-- `nearer` meets its contract: `y` is the level or the top, and the lesser of it and `least` is taken.
+use mathlib.Core.Path.{◌≡◌, sym, ◌∙◌}
 use lib.Signed.{le_z}
 use mir.Syntax.{w32}
-use mir.Val.{to_z}
+use mir.Val.{to_z, of_z}
 use mir.ValLaws.{to_z-of_z}
-use Rattle.numbers.proofs.IntOrder.{le_z_not_lt_z}
+use Rattle.numbers.proofs.Lesser.{lesser}
+use Rattle.numbers.proofs.Read.{read_at_lem}
 use Rattle.numbers.proofs.Tests.{cond_yes, cond_no}
+use Rattle.statistics_extremes.proofs.Running.{min_is}
 use Rattle.statistics_spec.specs.Sorting.{past}
 use Rattle.statistics.proofs.middle.nearer.Goals as goal
 use Rattle.statistics.proofs.middle.nearer.Goals.{then-level-z, else-level-z}
 
-pub returns-then-y-least : goal.returns-then-y-least
-returns-then-y-least c =
-    let y_is : to_z w32 c.if-level-z.y-bits ≡ past le_z c.args.z c.args.top c.args.level =
-    elim c.if-level-z.branch [
-      | then-level-z w ↦
-          ap (to_z w32) w.y-is-bits ∙ to_z-of_z w32 _ c.ranges.top
-          ∙ sym (cond_yes _ c.args.top c.args.level (rw (to_z-of_z w32 _ c.ranges.level, to_z-of_z w32 _ c.ranges.z) at w.if-level-z.true))
-      | else-level-z w ↦
-          ap (to_z w32) w.y-is-bits ∙ to_z-of_z w32 _ c.ranges.level
-          ∙ sym (cond_no _ c.args.top c.args.level (rw (to_z-of_z w32 _ c.ranges.level, to_z-of_z w32 _ c.ranges.z) at w.if-level-z.false))
-    ] in
-    y_is ∙ sym (cond_no _ c.args.least _ (le_z_not_lt_z c.args.least _ ∙ ap not (rw (y_is, to_z-of_z w32 _ c.ranges.least) at c.if-y-least.true)))
-
 pub returns : goal.returns
 returns c =
-    let y_is : to_z w32 c.if-level-z.y-bits ≡ past le_z c.args.z c.args.top c.args.level =
+    let a = c.args in
+    let level_is = to_z-of_z w32 _ c.ranges.level in
+    let z_is = to_z-of_z w32 _ c.ranges.z in
+    let y_is : to_z w32 c.if-level-z.y-bits ≡ past le_z a.z a.top a.level =
     elim c.if-level-z.branch [
-      | then-level-z w ↦
-          ap (to_z w32) w.y-is-bits ∙ to_z-of_z w32 _ c.ranges.top
-          ∙ sym (cond_yes _ c.args.top c.args.level (rw (to_z-of_z w32 _ c.ranges.level, to_z-of_z w32 _ c.ranges.z) at w.if-level-z.true))
-      | else-level-z w ↦
-          ap (to_z w32) w.y-is-bits ∙ to_z-of_z w32 _ c.ranges.level
-          ∙ sym (cond_no _ c.args.top c.args.level (rw (to_z-of_z w32 _ c.ranges.level, to_z-of_z w32 _ c.ranges.z) at w.if-level-z.false))
+      | then-level-z w ↦ w.y-is ∙ to_z-of_z w32 _ c.ranges.top ∙ sym (cond_yes _ a.top a.level (rw (level_is, z_is) at w.if-level-z.true))
+      | else-level-z w ↦ w.y-is ∙ level_is ∙ sym (cond_no _ a.top a.level (rw (level_is, z_is) at w.if-level-z.false))
     ] in
-    to_z-of_z w32 _ c.ranges.least ∙ sym (cond_yes _ c.args.least _ (le_z_not_lt_z c.args.least _ ∙ ap not (rw (y_is, to_z-of_z w32 _ c.ranges.least) at c.if-y-least.false)))
+    read_at_lem w32 c.min.type_inv
+    (c.min.ensures.value ∙ min_is (to_z w32 (of_z w32 a.least)) (to_z w32 c.if-level-z.y-bits)
+    ∙ (λ j. lesser le_z (to_z-of_z w32 _ c.ranges.least j) (y_is j)))

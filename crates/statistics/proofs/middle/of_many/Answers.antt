@@ -8,7 +8,7 @@ pub slice_bounds-room-end : goal.slice_bounds-room-end
 slice_bounds-room-end c = served_length c.args.line.now c.requires.line_value
 
 pub slice_bounds-median_in-end : goal.slice_bounds-median_in-end
-slice_bounds-median_in-end c = sym (length-take-le _ _ ((served_length c.args.line.now c.requires.line_value)))
+slice_bounds-median_in-end c = sym (length-take-le _ _ (served_length c.args.line.now c.requires.line_value))
 
 pub median_in-requires : goal.median_in-requires
-median_in-requires c = let s = c in record { line_value = s.requires.line_value; line_nonzero = s.requires.line_nonzero; levels_len = sym (slice_bounds-median_in-end c) }
+median_in-requires c = record { line_value = c.requires.line_value; line_nonzero = c.requires.line_nonzero; levels_len = sym (slice_bounds-median_in-end c) }
