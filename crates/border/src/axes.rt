@@ -14,10 +14,7 @@ use crate::BorderMode;
 pub fn mode_on(modes: [BorderMode; 3], axis: usize) -> BorderMode
     ensures { result ≡ mode_on modes axis }
 {
-    if axis < 2 {
-        return modes[axis];
-    }
-    modes[2]
+    modes[axis.min(2)]
 }
 
 // Condition 9 of a grid call: whether the border of some axis carries a level that condition 3 would refuse.
@@ -29,13 +26,11 @@ pub fn mode_on(modes: [BorderMode; 3], axis: usize) -> BorderMode
 pub fn bad_constant_any(modes: [BorderMode; 3], shape: &[usize]) -> bool
     ensures { result ≡ bad_constants bad_level (borders_of modes) shape.now }
 {
-    let mut a = 0;
-    while a < shape.len() {
+    for a in 0..shape.len() {
         let mode = mode_on(modes, a);
         if crate::constant::bad_constant(mode) {
             return true;
         }
-        a += 1;
     }
     false
 }

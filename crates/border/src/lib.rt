@@ -109,16 +109,6 @@ impl BorderMode {
     }
 }
 
-// a - b, and 0 where b is over a.
-fn saturating_sub(a: usize, b: usize) -> usize
-    ensures { result ≡ a - b }
-{
-    if a < b {
-        return 0;
-    }
-    a - b
-}
-
 // The cell that a border reads for the place k before cell 0.
 //
 // * `along` - the border.
@@ -132,8 +122,8 @@ pub fn cell_before(along: CellBorder, n: usize, k: usize) -> usize
     match along {
         CellBorder::Nearest => 0,
         CellBorder::Mirror => k,
-        CellBorder::Reflect => saturating_sub(k, 1),
-        CellBorder::Wrap => saturating_sub(n, k),
+        CellBorder::Reflect => k.saturating_sub(1),
+        CellBorder::Wrap => n.saturating_sub(k),
     }
 }
 
@@ -143,10 +133,10 @@ pub fn cell_after(along: CellBorder, n: usize, k: usize) -> usize
     ensures { result ≡ cell_after along n k }
 {
     match along {
-        CellBorder::Nearest => saturating_sub(n, 1),
-        CellBorder::Mirror => saturating_sub(saturating_sub(n, 1), k),
-        CellBorder::Reflect => saturating_sub(n, k),
-        CellBorder::Wrap => saturating_sub(k, 1),
+        CellBorder::Nearest => n.saturating_sub(1),
+        CellBorder::Mirror => n.saturating_sub(1).saturating_sub(k),
+        CellBorder::Reflect => n.saturating_sub(k),
+        CellBorder::Wrap => k.saturating_sub(1),
     }
 }
 

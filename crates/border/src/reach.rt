@@ -17,14 +17,8 @@ pub fn bad_along(along: CellBorder, n: usize, pad: usize) -> bool
 {
     match along {
         CellBorder::Nearest => false,
-        CellBorder::Mirror => {
-            if n < 1 {
-                return 0 < pad;
-            }
-            n - 1 < pad
-        }
-        CellBorder::Reflect => n < pad,
-        CellBorder::Wrap => n < pad,
+        CellBorder::Mirror => n.saturating_sub(1) < pad,
+        CellBorder::Reflect | CellBorder::Wrap => n < pad,
     }
 }
 

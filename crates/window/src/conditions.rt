@@ -12,10 +12,7 @@ use window_spec::Origin;
 pub fn bad_size(size: usize) -> bool
     ensures { result ≡ bad_size size }
 {
-    if size < 1 {
-        return true;
-    }
-    numbers::LONGEST_WINDOW < size
+    !(1..=numbers::LONGEST_WINDOW).contains(&size)
 }
 
 // Condition 7: a window of more than one cell refuses the origin.
@@ -23,20 +20,14 @@ pub fn bad_size(size: usize) -> bool
 pub fn bad_window_origin(size: usize, origin: isize) -> bool
     ensures { result ≡ bad_window_origin size origin }
 {
-    if size == 1 {
-        return false;
-    }
-    crate::origin::bad_origin(size, origin)
+    size != 1 && crate::origin::bad_origin(size, origin)
 }
 
 // Whether the border cannot fill one of two pads of a lane of n cells.
 fn bad_pads(mode: BorderMode, left: usize, right: usize, n: usize) -> bool
     ensures { result ≡ bad_either_pad (border_of mode) left right n }
 {
-    if border::bad_pad(mode, n, left) {
-        return true;
-    }
-    border::bad_pad(mode, n, right)
+    border::bad_pad(mode, n, left) || border::bad_pad(mode, n, right)
 }
 
 // The same of the lanes of some axis, each with its own border.
@@ -48,14 +39,12 @@ pub(crate) fn bad_pads_any(
 ) -> bool
     ensures { result ≡ any_axis (λ b. bad_either_pad b left right) (borders_of modes) shape.now }
 {
-    let mut a = 0;
-    while a < shape.len() {
+    for a in 0..shape.len() {
         let mode = border::mode_on(modes, a);
         let n = shape[a];
         if bad_pads(mode, left, right, n) {
             return true;
         }
-        a += 1;
     }
     false
 }

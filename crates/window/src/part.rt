@@ -14,10 +14,7 @@ pub fn window(line: &[i64], i: usize, len: usize) -> &[i64]
     ensures { result.now ≡ window_of line.now i len }
 {
     let n = line.len();
-    if n < len {
-        return &line[..0];
-    }
-    if n - len < i {
+    if n < len || n - len < i {
         return &line[..0];
     }
     let e = i + len;
@@ -29,10 +26,7 @@ pub fn window_f64(line: &[f64], i: usize, len: usize) -> &[f64]
     ensures { result.now ≡ window_of line.now i len }
 {
     let count = line.len();
-    if count < len {
-        return &line[..0];
-    }
-    if count - len < i {
+    if count < len || count - len < i {
         return &line[..0];
     }
     let end = i + len;

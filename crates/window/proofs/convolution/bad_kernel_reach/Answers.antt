@@ -14,12 +14,6 @@ use Rattle.window_spec.proofs.Changed.{applied_range}
 use borrow.Author.Rules.{rules}
 use Rattle.window.proofs.convolution.bad_kernel_reach.Goals as goal
 
-pub applied_origin-applied-requires : goal.applied_origin-applied-requires
-applied_origin-applied-requires c =
-    let s = c in
-    let e : to_z w64 (of_z w64 s.args.origin) ≡ s.args.origin = search rules in
-    ap (bad_origin s.args.side) e ∙ s.requires
-
 pub returns-in-Refused : goal.returns-in-Refused
 returns-in-Refused c =
     let s = c in
