@@ -3,7 +3,7 @@
 use Prim.Native.Nat.{ℕ, ◌+◌, ◌-◌, ◌*◌, ◌≤◌, ◌<◌, min}
 use native.Mathlib.Omega.{arith}
 use mathlib.Core.Path.{◌≡◌, refl, sym, ap, ◌∙◌}
-use mathlib.Core.Bool.{Bool, true, false, ◌&&◌, ◌||◌, cond}
+use mathlib.Core.Bool.{true, false, ◌&&◌, ◌||◌, cond}
 use borrow.Author.Tests.{le-ltb, lt-ltb, lt-leb, ne_eqb, leb-true, ltb-true}
 use lib.Dec.{leb, ltb, eqb}
 use Rattle.numbers.proofs.Tests.{or_none, or_no, and_true}

@@ -5,7 +5,4 @@ mod plain;
 mod word;
 
 pub use plain::{is_plain, plain_byte};
-pub use word::{
-    capped_at, capped_size, either, is_broken, is_empty, is_gap, is_out, is_wrong, next_byte,
-    no_word,
-};
+pub use word::{capped_size, is_broken, is_empty, is_gap, is_out, is_wrong, next_byte, no_word};

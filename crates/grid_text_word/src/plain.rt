@@ -10,28 +10,12 @@ const SMALL_SIZE: u64 = 10000000000000000;
 // So many digits need none with one more.
 const FEW_DIGITS: u8 = 18;
 
-// A byte as a number of 64 bits.
-fn wide(byte: u8) -> u64
-    ensures { result ≡ byte }
-{
-    byte as u64
-}
-
 // Whether a byte is a digit that lengthens a word without reaching a cap. No is never wrong: the longer way serves all.
 pub fn is_plain(word: TextWord, byte: u8) -> bool
     ensures { result ≡ leb 48 byte && (ltb byte 58 && (ltb word.digits 18
         && ltb word.size 10000000000000000)) }
 {
-    if byte < 48 {
-        return false;
-    }
-    if byte >= 58 {
-        return false;
-    }
-    if word.digits >= FEW_DIGITS {
-        return false;
-    }
-    word.size < SMALL_SIZE
+    (b'0'..=b'9').contains(&byte) && word.digits < FEW_DIGITS && word.size < SMALL_SIZE
 }
 
 // The word after such a digit.
@@ -39,11 +23,9 @@ pub fn plain_byte(word: TextWord, byte: u8) -> TextWord
     requires { (48 ≤ byte) × (byte < 58) × (word.digits < 18) × (word.size < 10000000000000000) }
     ensures { result ≡ next_byte word byte }
 {
-    let d = wide(byte) - 48;
     TextWord {
-        minus: word.minus,
-        odd: word.odd,
         digits: word.digits + 1,
-        size: word.size * 10 + d,
+        size: word.size * 10 + u64::from(byte - b'0'),
+        ..word
     }
 }

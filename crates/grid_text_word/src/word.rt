@@ -1,5 +1,5 @@
 // A word of the text, byte by byte: a minus or none, then digits.
-ghost use Rattle.std.specs.Prelude.{◌≡◌, ◌||◌, ◌+◌, min};
+ghost use Rattle.std.specs.Prelude.{◌≡◌, ◌+◌, min};
 ghost use Rattle.grid_text_spec.specs.Words.{gap_byte};
 ghost use Rattle.grid_text_spec.specs.Machine.{digit_cap, capped, empty_word, is_empty, starts_minus, next_byte};
 ghost use Rattle.grid_text_spec.specs.Machine.{broken_word, wrong_word, out_word};
@@ -15,41 +15,18 @@ const MOST_DIGITS: u8 = 18;
 // One over that: no longer number need be told apart.
 const DIGIT_CAP: u8 = MOST_DIGITS + 1;
 
-// Whether one of two tests holds.
-pub fn either(a: bool, b: bool) -> bool
-    ensures { result ≡ a || b }
-{
-    if a {
-        return true;
-    }
-    b
-}
-
-// The lesser of a number and a cap.
-pub fn capped_at(n: u64, most: u64) -> u64
-    ensures { result ≡ min n most }
-{
-    if n < most {
-        return n;
-    }
-    most
-}
-
 // A size, at most 10^18.
 pub fn capped_size(size: u64) -> u64
     ensures { result ≡ capped size }
 {
-    capped_at(size, SIZE_CAP)
+    size.min(SIZE_CAP)
 }
 
 // Whether a byte stands between words: a space or a line feed.
 pub fn is_gap(byte: u8) -> bool
     ensures { result ≡ gap_byte byte }
 {
-    if byte == 32 {
-        return true;
-    }
-    byte == 10
+    byte == b' ' || byte == b'\n'
 }
 
 // The word of which no byte was read.
@@ -68,88 +45,63 @@ pub fn no_word() -> TextWord
 pub fn is_empty(word: TextWord) -> bool
     ensures { result ≡ is_empty word }
 {
-    if word.minus {
-        return false;
-    }
-    word.digits == 0
+    !word.minus && word.digits == 0
 }
 
 // Whether a byte is the minus before a word.
 fn starts_minus(word: TextWord, byte: u8) -> bool
     ensures { result ≡ starts_minus word byte }
 {
-    if byte != 45 {
-        return false;
-    }
-    is_empty(word)
+    byte == b'-' && is_empty(word)
 }
 
 // One digit more, at most 19.
 fn more_digits(digits: u8) -> u8
     ensures { result ≡ min (digits + 1) digit_cap }
 {
-    if digits < DIGIT_CAP {
-        return digits + 1;
-    }
-    DIGIT_CAP
+    digits.saturating_add(1).min(DIGIT_CAP)
 }
 
 // The word after one byte more.
+#[tactic(auto, unfolding(grid_text_spec::specs::Machine::next_byte))]
 pub fn next_byte(word: TextWord, byte: u8) -> TextWord
     ensures { result ≡ next_byte word byte }
 {
     if starts_minus(word, byte) {
         return TextWord {
             minus: true,
-            odd: word.odd,
-            digits: word.digits,
-            size: word.size,
+            ..word
         };
     }
     let d = text::digit(byte);
-    let odd = either(word.odd, 10 <= d);
-    let digits = more_digits(word.digits);
-    let size = capped_size(capped_size(word.size) * 10 + d);
     TextWord {
         minus: word.minus,
-        odd,
-        digits,
-        size,
+        odd: word.odd || 10 <= d,
+        digits: more_digits(word.digits),
+        size: capped_size(capped_size(word.size) * 10 + d),
     }
 }
 
 // Whether a word is no number.
+#[tactic(auto, unfolding(grid_text_spec::specs::Machine::broken_word))]
 pub fn is_broken(word: TextWord) -> bool
     ensures { result ≡ broken_word word }
 {
-    if word.odd {
-        return true;
-    }
-    word.digits == 0
+    word.odd || word.digits == 0
 }
 
 // Whether a word is no number, or has over 18 digits.
+#[tactic(auto, unfolding(grid_text_spec::specs::Machine::wrong_word))]
 pub fn is_wrong(word: TextWord) -> bool
     ensures { result ≡ wrong_word word }
 {
-    if is_broken(word) {
-        return true;
-    }
-    MOST_DIGITS < word.digits
+    is_broken(word) || MOST_DIGITS < word.digits
 }
 
 // Whether a word is a number outside `lo` to `hi`.
+#[tactic(auto, unfolding(grid_text_spec::specs::Machine::out_word))]
 pub fn is_out(lo: u64, hi: u64, word: TextWord) -> bool
     ensures { result ≡ out_word lo hi word }
 {
-    if is_broken(word) {
-        return false;
-    }
-    if word.minus {
-        return true;
-    }
-    if word.size < lo {
-        return true;
-    }
-    hi < word.size
+    !is_broken(word) && (word.minus || !(lo..=hi).contains(&word.size))
 }

@@ -27,10 +27,7 @@ use pad_spec::Pair;
 pub fn lent(n: usize, most: usize) -> usize
     ensures { result ≡ min n most }
 {
-    if n < most {
-        return n;
-    }
-    most
+    n.min(most)
 }
 
 // n counts from a place on, or what is there.
@@ -82,10 +79,7 @@ pub fn bytes(cells: &[u8], from: usize, n: usize) -> &[u8]
 fn level(cells: &[i64], at: usize) -> i64
     ensures { result ≡ get_or cells.now at (pos 0) }
 {
-    if at >= cells.len() {
-        return 0;
-    }
-    cells[at]
+    cells.get(at).copied().unwrap_or(0)
 }
 
 // The lengths of the axes.
@@ -155,10 +149,7 @@ pub fn recipe_count(state: &State) -> u8
 fn as_code(n: usize) -> u8
     ensures { result ≡ as_code n }
 {
-    if n > 255 {
-        return 255;
-    }
-    n as u8
+    n.min(255) as u8
 }
 
 // The code that a word was read as.
@@ -238,70 +229,45 @@ pub fn pads_of(state: &State) -> [Pair; 3]
 pub fn most_out(request: usize) -> usize
     ensures { result ≡ most_out request }
 {
-    if request == PAD {
-        return 32769;
+    match request {
+        PAD | PAD_TO => 32769,
+        _ => 8193,
     }
-    if request == PAD_TO {
-        return 32769;
-    }
-    8193
 }
 
 // Whether a request has an output of whole levels.
 pub fn is_whole(request: usize, form: usize) -> bool
     ensures { result ≡ is_whole request form }
 {
-    if form == 1 {
-        return false;
-    }
-    request < SYMMETRY
+    form != 1 && request < SYMMETRY
 }
 
 // 1 for true, 0 for false.
 pub fn digit(mark: bool) -> i64
     ensures { result ≡ level_of_mark mark }
 {
-    if mark {
-        return 1;
-    }
-    0
+    i64::from(mark)
 }
 
 // Whether a level is neither 0 nor 1.
 fn bad_mark(z: i64) -> bool
     ensures { result ≡ bad_mark z }
 {
-    if z < 0 {
-        return true;
-    }
-    if 1 < z {
-        return true;
-    }
-    false
+    !(0..=1).contains(&z)
 }
 
 // Whether some level of a mask is neither 0 nor 1.
 pub fn bad_marks(levels: &[i64]) -> bool
     ensures { result ≡ any_of bad_mark levels.now }
 {
-    let mut i = 0;
-    while i < levels.len() {
-        if bad_mark(levels[i]) {
-            return true;
-        }
-        i += 1;
-    }
-    false
+    levels.iter().any(|&z| bad_mark(z))
 }
 
 // Whether a level stands for true.
 fn is_marked(z: i64) -> bool
     ensures { result ≡ lt_z (pos 0) z }
 {
-    if 0 < z {
-        return true;
-    }
-    false
+    0 < z
 }
 
 // Sets marks by as many levels; where there are not as many, nothing.
@@ -312,10 +278,8 @@ pub fn mark(levels: &[i64], marks: &mut [bool])
     if levels.len() != n {
         return;
     }
-    let mut i = 0;
-    while i < n {
+    for i in 0..n {
         marks[i] = is_marked(levels[i]);
-        i += 1;
     }
 }
 
@@ -327,10 +291,8 @@ pub fn unmark(marks: &[bool], levels: &mut [i64])
     if marks.len() != n {
         return;
     }
-    let mut i = 0;
-    while i < n {
+    for i in 0..n {
         levels[i] = digit(marks[i]);
-        i += 1;
     }
 }
 
@@ -340,11 +302,8 @@ pub fn fill_kernel(kernel: Kernel3d, levels: &mut [i64])
     ensures { levels.new ≡ kernel_levels kernel }
 {
     let cells = kernel.generate();
-    let mut i = 0;
-    while i < 27 {
-        let cell = cells[i / 9][i / 3 % 3][i % 3];
-        levels[i] = digit(cell);
-        i += 1;
+    for i in 0..27 {
+        levels[i] = digit(cells[i / 9][i / 3 % 3][i % 3]);
     }
 }
 

@@ -1,5 +1,5 @@
 // What is read for a part of a request.
-ghost use Rattle.std.specs.Prelude.{◌≡◌, ◌*◌, min};
+ghost use Rattle.std.specs.Prelude.{◌≡◌};
 ghost use Rattle.words.specs.Words.{place_in};
 ghost use Rattle.ndimage_spec.specs.Parts.{part_of, times_of, is_float, slot_of, words_for, last_after};
 ghost use Rattle.ndimage_spec.specs.Faults.{fault_of};
@@ -10,12 +10,12 @@ use crate::state::{
     RECIPE_COUNT, SECOND, SIDES, SIZE, STEPS, STEPS_AT, WEIGHTS_AT,
 };
 use ndimage_spec::{Kind, Part, Times};
-use words::Found;
 
 // No slot: beyond every array.
-const NOWHERE: usize = 18446744073709551615;
+const NOWHERE: usize = usize::MAX;
 
 // What is read for a part, by its letter; of a letter that names none, a number that is not kept.
+#[tactic(auto, unfolding(ndimage_spec::specs::Parts::part_of))]
 pub fn part_of(letter: u8) -> Part
     ensures { result ≡ part_of letter }
 {
@@ -53,24 +53,6 @@ pub fn part_of(letter: u8) -> Part
     }
 }
 
-fn twice(n: usize) -> usize
-    ensures { result ≡ min (2 * n) 18446744073709551615 }
-{
-    if n > 9223372036854775807 {
-        return NOWHERE;
-    }
-    2 * n
-}
-
-fn six_times(n: usize) -> usize
-    ensures { result ≡ min (6 * n) 18446744073709551615 }
-{
-    if n > 3074457345618258602 {
-        return NOWHERE;
-    }
-    6 * n
-}
-
 // How many tokens a part has.
 pub fn times(rule: Times, last: usize) -> usize
     ensures { result ≡ times_of rule last }
@@ -78,8 +60,8 @@ pub fn times(rule: Times, last: usize) -> usize
     match rule {
         Times::Once => 1,
         Times::Last => last,
-        Times::TwiceLast => twice(last),
-        Times::SixLast => six_times(last),
+        Times::TwiceLast => last.saturating_mul(2),
+        Times::SixLast => last.saturating_mul(6),
     }
 }
 
@@ -87,16 +69,7 @@ pub fn times(rule: Times, last: usize) -> usize
 pub fn is_float(kind: Kind, form: usize) -> bool
     ensures { result ≡ is_float kind form }
 {
-    match kind {
-        Kind::Form => false,
-        Kind::Border => false,
-        Kind::Padding => false,
-        Kind::Kernel => false,
-        Kind::Count => false,
-        Kind::Whole => false,
-        Kind::Level => form == 1,
-        Kind::Bytes => false,
-    }
+    matches!(&kind, Kind::Level) && form == 1
 }
 
 // Where number i of a part goes.
@@ -106,14 +79,12 @@ pub fn slot_of(start: usize, most: usize, i: usize) -> usize
     if i >= most {
         return NOWHERE;
     }
-    if start > NOWHERE - i {
-        return NOWHERE;
-    }
-    start + i
+    start.saturating_add(i)
 }
 
 // The code of a word, by the kind of its part.
-pub fn code_of(kind: Kind, token: &[u8]) -> Found
+#[tactic(auto, unfolding(words::specs::Words::column_from, words::specs::Words::place_in))]
+pub fn code_of(kind: Kind, token: &[u8]) -> Option<usize>
     ensures { result ≡ place_in (words_for kind) token.now }
 {
     match kind {
@@ -121,10 +92,7 @@ pub fn code_of(kind: Kind, token: &[u8]) -> Found
         Kind::Border => codes::border_code(token),
         Kind::Padding => codes::pad_code(token),
         Kind::Kernel => codes::kernel_code(token),
-        Kind::Count => Found::Nothing,
-        Kind::Whole => Found::Nothing,
-        Kind::Level => Found::Nothing,
-        Kind::Bytes => Found::Nothing,
+        Kind::Count | Kind::Whole | Kind::Level | Kind::Bytes => None,
     }
 }
 
@@ -134,12 +102,9 @@ pub fn fault_of(kind: Kind) -> usize
 {
     match kind {
         Kind::Form => ndimage_write::FORM,
-        Kind::Border => ndimage_write::MODE,
-        Kind::Padding => ndimage_write::MODE,
+        Kind::Border | Kind::Padding => ndimage_write::MODE,
         Kind::Kernel => ndimage_write::KERNEL,
-        Kind::Count => ndimage_write::NUMBER,
-        Kind::Whole => ndimage_write::NUMBER,
-        Kind::Level => ndimage_write::NUMBER,
+        Kind::Count | Kind::Whole | Kind::Level => ndimage_write::NUMBER,
         Kind::Bytes => ndimage_write::BYTES,
     }
 }
@@ -148,8 +113,5 @@ pub fn fault_of(kind: Kind) -> usize
 pub fn last_after(code: usize) -> usize
     ensures { result ≡ last_after code }
 {
-    if code == 0 {
-        return 1;
-    }
-    0
+    usize::from(code == 0)
 }

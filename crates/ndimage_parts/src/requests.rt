@@ -45,6 +45,7 @@ pub const WRITE_RECIPE: usize = 19;
 pub const HELP: usize = 20;
 
 // A line for each request: its word, and the letters of its parts in the order of reading, which parts.rt explains.
+#[tactic(auto, unfolding(words::specs::Words::column_from))]
 pub fn table() -> [u8; 435]
     ensures { RequestTable result }
 {

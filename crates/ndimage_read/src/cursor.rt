@@ -20,9 +20,6 @@ const INPUT_END: usize = 3;
 
 const LONGEST: usize = 1000000;
 
-// What `advance` answers where it took no byte.
-const NONE: usize = 256;
-
 // Goes on with the next line.
 pub(crate) fn begin_line(state: &mut State) {
     state[LINE] = 0;
@@ -41,18 +38,14 @@ pub fn over(state: &State) -> bool
 pub fn past(state: &State) -> bool
     ensures { result ≡ no_line state.now }
 {
-    if state[STAGE] != INPUT_END {
-        return false;
-    }
-    state[LINE] == 0
+    state[STAGE] == INPUT_END && state[LINE] == 0
 }
 
 // Notes a fault; the first one stays.
 pub(crate) fn faulty(state: &mut State, fault: usize) {
-    if state[FAULT] != 0 {
-        return;
+    if state[FAULT] == 0 {
+        state[FAULT] = fault;
     }
-    state[FAULT] = fault;
 }
 
 // Reads behind the token: how many bytes.
@@ -60,10 +53,7 @@ fn bring(input: &mut impl Read, buffer: &mut [u8]) -> usize {
     if buffer.len() < KEPT {
         return 0;
     }
-    match input.read(&mut buffer[KEPT..]) {
-        Ok(n) => n,
-        Err(_) => 0,
-    }
+    input.read(&mut buffer[KEPT..]).unwrap_or(0)
 }
 
 // More bytes, or the end of the input.
@@ -81,97 +71,77 @@ fn fill(input: &mut impl Read, buffer: &mut Buffer, state: &mut State) {
 fn behind(n: usize) -> usize
     ensures { result ≡ end_behind n }
 {
-    if n > 65536 {
-        return KEPT;
-    }
-    KEPT + n
+    if n > 65536 { KEPT } else { KEPT + n }
 }
 
 // Counts a byte of the line; its end does not count.
 fn lengthen(state: &mut State, byte: u8) {
     let line = state[LINE];
-    if byte == 10 {
-        return;
+    if byte != b'\n' && line <= LONGEST {
+        state[LINE] = line + 1;
     }
-    if line > LONGEST {
-        return;
-    }
-    state[LINE] = line + 1;
 }
 
-fn wide(byte: u8) -> usize
-    ensures { result ≡ byte }
-{
-    byte as usize
-}
-
-// The next byte; NONE where more bytes had to be brought into the buffer first, or the input has ended.
-fn advance(input: &mut impl Read, buffer: &mut Buffer, state: &mut State) -> usize {
+// The next byte; None where more bytes had to be brought into the buffer first, or the input has ended.
+fn advance(input: &mut impl Read, buffer: &mut Buffer, state: &mut State) -> Option<u8> {
     let at = state[AT];
     if at >= state[END] {
         fill(input, buffer, state);
-        return NONE;
+        return None;
     }
-    if at >= 65792 {
+    if at >= buffer.len() {
         state[STAGE] = INPUT_END;
-        return NONE;
+        return None;
     }
     state[AT] = at + 1;
     let byte = buffer[at];
     lengthen(state, byte);
-    wide(byte)
+    Some(byte)
 }
 
 // Keeps a byte of the token where there is buffer.
-fn keep(buffer: &mut Buffer, n: usize, byte: usize) {
-    if n >= KEPT {
-        return;
+fn keep(buffer: &mut Buffer, n: usize, byte: u8) {
+    if n < KEPT {
+        buffer[n] = byte;
     }
-    buffer[n] = (byte % 256) as u8;
 }
 
 // What a byte does; after a fault only the end of the line counts.
-fn take(buffer: &mut Buffer, state: &mut State, byte: usize) {
+fn take(buffer: &mut Buffer, state: &mut State, byte: u8) {
     let len = state[LEN];
-    if byte == 10 {
+    if byte == b'\n' {
         state[STAGE] = LINE_END;
         return;
     }
     if state[FAULT] != 0 {
         return;
     }
-    if byte == 32 {
-        if len == 0 {
-            return;
+    if byte == b' ' {
+        if len != 0 {
+            state[STAGE] = SPACE;
         }
-        state[STAGE] = SPACE;
         return;
     }
-    if len > KEPT {
-        return;
+    if len <= KEPT {
+        keep(buffer, len, byte);
+        state[LEN] = len + 1;
     }
-    keep(buffer, len, byte);
-    state[LEN] = len + 1;
 }
 
 // One byte, or more bytes into the buffer.
 fn turn(input: &mut impl Read, buffer: &mut Buffer, state: &mut State) {
-    let byte = advance(input, buffer, state);
-    if byte == NONE {
-        return;
+    if let Some(byte) = advance(input, buffer, state) {
+        take(buffer, state, byte);
     }
-    take(buffer, state, byte);
 }
 
 // Reads on to a stage or a later one.
 fn run(input: &mut impl Read, buffer: &mut Buffer, state: &mut State, stage: usize) {
-    let mut turns = u64::MAX;
-    while turns > 0 {
+    for _ in 0..u64::MAX {
         if state[STAGE] >= stage {
             break;
         }
         turn(input, buffer, state);
-        turns -= 1;
     }
 }
 
@@ -190,19 +160,17 @@ fn expect_end(input: &mut impl Read, buffer: &mut Buffer, state: &mut State) {
         return;
     }
     next(input, buffer, state);
-    if state[LEN] == 0 {
-        return;
+    if state[LEN] != 0 {
+        faulty(state, EXTRA);
     }
-    faulty(state, EXTRA);
 }
 
 // A line that is too long is a fault that counts before every other.
 fn measure(state: &mut State) {
-    if state[LINE] <= LONGEST {
-        return;
+    if state[LINE] > LONGEST {
+        state[LEN] = 0;
+        state[FAULT] = LONG;
     }
-    state[LEN] = 0;
-    state[FAULT] = LONG;
 }
 
 // The end of the request.

@@ -8,37 +8,21 @@ ghost use Rattle.ndimage_spec.specs.Hexadecimal.{is_dash, bad_bytes, byte_count,
 fn is_dash(token: &[u8]) -> bool
     ensures { result ≡ is_dash token.now }
 {
-    if token.len() != 1 {
-        return false;
-    }
-    token[0] == 45
+    matches!(token, b"-")
 }
 
 // Whether a byte of a token is no hexadecimal digit.
 fn bad_digits(token: &[u8]) -> bool
     ensures { result ≡ any_of (no_digit 16) token.now }
 {
-    let mut i = 0;
-    while i < token.len() {
-        if text::digit(token[i]) >= 16 {
-            return true;
-        }
-        i += 1;
-    }
-    false
+    token.iter().any(|&byte| text::digit(byte) >= 16)
 }
 
 // Whether a token stands for no bytes.
 pub(crate) fn bad_bytes(token: &[u8]) -> bool
     ensures { result ≡ bad_bytes token.now }
 {
-    if is_dash(token) {
-        return false;
-    }
-    if token.len() % 2 != 0 {
-        return true;
-    }
-    bad_digits(token)
+    !is_dash(token) && (token.len() % 2 != 0 || bad_digits(token))
 }
 
 // How many bytes a token stands for.
@@ -62,14 +46,8 @@ fn byte_at(token: &[u8], k: usize) -> u8
 pub(crate) fn fill_bytes(token: &[u8], out: &mut [u8])
     ensures { out.new ≡ bytes_over token.now out.old }
 {
-    let n = token.len() / 2;
-    let mut k = 0;
-    while k < out.len() {
-        if k >= n {
-            break;
-        }
-        let byte = byte_at(token, k);
-        out[k] = byte;
-        k += 1;
+    let n = byte_count(token).min(out.len());
+    for k in 0..n {
+        out[k] = byte_at(token, k);
     }
 }

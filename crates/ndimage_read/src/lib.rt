@@ -10,7 +10,6 @@
 use ndimage_parts::state::{Buffer, FAULT, FORM, File, Floats, LAST, LEN, Levels, REQUEST, State};
 use ndimage_spec::{Kind, Part};
 use std::io::Read;
-use words::Found;
 
 pub mod cursor;
 mod hexadecimal;
@@ -18,26 +17,18 @@ mod number;
 
 // No part was read.
 fn clear(state: &mut State) {
-    let mut i = FORM;
-    while i < 48 {
-        state[i] = 0;
-        i += 1;
-    }
+    state[FORM..].fill(0);
 }
 
 // The request that the line's first token names.
 fn begin(buffer: &[u8], state: &mut State, table: &[u8]) {
     let len = state[LEN];
     clear(state);
-    if let Found::At(request) = words::find_word(number::shown(buffer, len), table) {
-        state[REQUEST] = request;
-        return;
+    match words::find_word(number::shown(buffer, len), table) {
+        Some(request) => state[REQUEST] = request,
+        None if len == 0 => cursor::faulty(state, ndimage_write::EMPTY),
+        None => cursor::faulty(state, ndimage_write::UNKNOWN),
     }
-    if len == 0 {
-        cursor::faulty(state, ndimage_write::EMPTY);
-        return;
-    }
-    cursor::faulty(state, ndimage_write::UNKNOWN);
 }
 
 // The line's request.
@@ -57,13 +48,11 @@ fn take(
     at: usize,
 ) {
     match kind {
-        Kind::Form => number::take_word(buffer, state, kind, at),
-        Kind::Border => number::take_word(buffer, state, kind, at),
-        Kind::Padding => number::take_word(buffer, state, kind, at),
-        Kind::Kernel => number::take_word(buffer, state, kind, at),
+        Kind::Form | Kind::Border | Kind::Padding | Kind::Kernel => {
+            number::take_word(buffer, state, kind, at)
+        }
         Kind::Count => number::take_count(buffer, state, at),
-        Kind::Whole => number::take_level(buffer, state, levels, at),
-        Kind::Level => number::take_level(buffer, state, levels, at),
+        Kind::Whole | Kind::Level => number::take_level(buffer, state, levels, at),
         Kind::Bytes => number::take_bytes(buffer, state, file, at),
     }
 }
@@ -105,13 +94,11 @@ fn read_part(
 ) {
     let rule = part.1;
     let times = ndimage_parts::times(rule, state[LAST]);
-    let mut i = 0;
-    while i < times {
+    for i in 0..times {
         if state[FAULT] != 0 {
             break;
         }
         read_token(input, buffer, state, levels, floats, file, part, i);
-        i += 1;
     }
 }
 
@@ -125,21 +112,12 @@ fn read_parts(
     file: &mut File,
     letters: &[u8],
 ) {
-    let mut i = 0;
-    while i < letters.len() {
+    for &letter in letters {
         if state[FAULT] != 0 {
             break;
         }
-        read_part(
-            input,
-            buffer,
-            state,
-            levels,
-            floats,
-            file,
-            ndimage_parts::part_of(letters[i]),
-        );
-        i += 1;
+        let part = ndimage_parts::part_of(letter);
+        read_part(input, buffer, state, levels, floats, file, part);
     }
 }
 

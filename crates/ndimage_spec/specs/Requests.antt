@@ -5,10 +5,9 @@
 --   request_of t      the number of the request that the token t names
 --   parts_of n        the letters of the parts of request n
 --   RequestTable t   a line for each request in the bytes t: the word and the parts of each are those of the table
-use Rattle.std.specs.Prelude.{ℕ, ◌≡◌, List, [], ◌∷◌, map, get_or}
+use Rattle.std.specs.Prelude.{ℕ, ◌≡◌, List, [], ◌∷◌, map, get_or, Option}
 use Prim.Native.String.{String}
 use Rattle.words.specs.Words.{bytes_of, words_of, rests_of, place_in}
-use Rattle.words.specs.declared.Found.{Found}
 
 abbrev pub request_table : List (String × String)
 request_table =
@@ -41,7 +40,7 @@ request_words = map (λ r. bytes_of r.0) request_table
 abbrev pub request_parts : List (List ℕ)
 request_parts = map (λ r. bytes_of r.1) request_table
 
-abbrev pub request_of : List ℕ → Found
+abbrev pub request_of : List ℕ → Option ℕ
 request_of t = place_in request_words t
 
 abbrev pub parts_of : ℕ → List ℕ

@@ -1,9 +1,8 @@
 -- Worked rows about requests.
 --   NdimageSpecRows   the rows, of the requests, their parts and faults
-use Rattle.std.specs.Prelude.{◌≡◌, true, false, [], ◌∷◌, replicate}
+use Rattle.std.specs.Prelude.{◌≡◌, true, false, [], ◌∷◌, Some, None, replicate}
 use Prim.Native.Char.{code}
 use Rattle.words.specs.Words.{bytes_of, place_in}
-use Rattle.words.specs.declared.Found.TheVariants.{At, Nothing}
 use Rattle.ndimage_spec.specs.Requests.{request_of, parts_of}
 use Rattle.ndimage_spec.specs.Parts.{nowhere, part, part_of, times_of, is_float, slot_of, words_for, last_after}
 use Rattle.ndimage_spec.specs.Reading.{token_in, end_behind, no_line}
@@ -15,30 +14,30 @@ use Rattle.ndimage_spec.specs.declared.Times.TheVariants.{Once, Last, TwiceLast,
 
 pub record NdimageSpecRows : Type 0 where
   -- the number of a request; no word but those names one, and nothing names none
-  pub correlate : request_of (bytes_of "correlate") ≡ At 0
-  pub convolve : request_of (bytes_of "convolve") ≡ At 1
-  pub correlate1d : request_of (bytes_of "correlate1d") ≡ At 2
-  pub convolve1d : request_of (bytes_of "convolve1d") ≡ At 3
-  pub minimum1d : request_of (bytes_of "minimum_filter1d") ≡ At 4
-  pub maximum1d : request_of (bytes_of "maximum_filter1d") ≡ At 5
-  pub minimum : request_of (bytes_of "minimum_filter") ≡ At 6
-  pub maximum : request_of (bytes_of "maximum_filter") ≡ At 7
-  pub uniform : request_of (bytes_of "uniform_filter") ≡ At 8
-  pub uniform1d : request_of (bytes_of "uniform_filter1d") ≡ At 9
-  pub prewitt : request_of (bytes_of "prewitt") ≡ At 10
-  pub sobel : request_of (bytes_of "sobel") ≡ At 11
-  pub pad : request_of (bytes_of "pad") ≡ At 12
-  pub pad_to : request_of (bytes_of "pad_to") ≡ At 13
-  pub median : request_of (bytes_of "median_filter") ≡ At 14
-  pub play : request_of (bytes_of "play") ≡ At 15
-  pub symmetry : request_of (bytes_of "symmetry") ≡ At 16
-  pub kernel3d : request_of (bytes_of "kernel3d") ≡ At 17
-  pub read_recipe : request_of (bytes_of "read_recipe") ≡ At 18
-  pub write_recipe : request_of (bytes_of "write_recipe") ≡ At 19
-  pub help : request_of (bytes_of "help") ≡ At 20
-  pub parts_no_word : request_of (bytes_of "FCD") ≡ Nothing
-  pub longer : request_of (bytes_of "pads") ≡ Nothing
-  pub nothing : request_of [] ≡ Nothing
+  pub correlate : request_of (bytes_of "correlate") ≡ Some 0
+  pub convolve : request_of (bytes_of "convolve") ≡ Some 1
+  pub correlate1d : request_of (bytes_of "correlate1d") ≡ Some 2
+  pub convolve1d : request_of (bytes_of "convolve1d") ≡ Some 3
+  pub minimum1d : request_of (bytes_of "minimum_filter1d") ≡ Some 4
+  pub maximum1d : request_of (bytes_of "maximum_filter1d") ≡ Some 5
+  pub minimum : request_of (bytes_of "minimum_filter") ≡ Some 6
+  pub maximum : request_of (bytes_of "maximum_filter") ≡ Some 7
+  pub uniform : request_of (bytes_of "uniform_filter") ≡ Some 8
+  pub uniform1d : request_of (bytes_of "uniform_filter1d") ≡ Some 9
+  pub prewitt : request_of (bytes_of "prewitt") ≡ Some 10
+  pub sobel : request_of (bytes_of "sobel") ≡ Some 11
+  pub pad : request_of (bytes_of "pad") ≡ Some 12
+  pub pad_to : request_of (bytes_of "pad_to") ≡ Some 13
+  pub median : request_of (bytes_of "median_filter") ≡ Some 14
+  pub play : request_of (bytes_of "play") ≡ Some 15
+  pub symmetry : request_of (bytes_of "symmetry") ≡ Some 16
+  pub kernel3d : request_of (bytes_of "kernel3d") ≡ Some 17
+  pub read_recipe : request_of (bytes_of "read_recipe") ≡ Some 18
+  pub write_recipe : request_of (bytes_of "write_recipe") ≡ Some 19
+  pub help : request_of (bytes_of "help") ≡ Some 20
+  pub parts_no_word : request_of (bytes_of "FCD") ≡ None
+  pub longer : request_of (bytes_of "pads") ≡ None
+  pub nothing : request_of [] ≡ None
   -- the parts of a request in the order of reading: the border, its constant, the origin, the output
   pub correlate_parts : parts_of 0 ≡ bytes_of "ALCDSKNWBVOE"
   pub minimum1d_parts : parts_of 4 ≡ bytes_of "ALCDZXBVOE"
@@ -84,9 +83,9 @@ pub record NdimageSpecRows : Type 0 where
   pub fourth_length : slot_of 20 4 3 ≡ 23
   pub fifth_length : slot_of 20 4 4 ≡ nowhere
   -- words by the part's kind
-  pub form_f : place_in (words_for Form) (bytes_of "f") ≡ At 1
-  pub mirror_border : place_in (words_for Border) (bytes_of "mirror") ≡ At 1
-  pub mirror_mode : place_in (words_for Padding) (bytes_of "mirror") ≡ Nothing
+  pub form_f : place_in (words_for Form) (bytes_of "f") ≡ Some 1
+  pub mirror_border : place_in (words_for Border) (bytes_of "mirror") ≡ Some 1
+  pub mirror_mode : place_in (words_for Padding) (bytes_of "mirror") ≡ None
   -- what is wrong, in words
   pub unknown : text_of 1 ≡ bytes_of "unknown request"
   pub missing : text_of 2 ≡ bytes_of "missing token"

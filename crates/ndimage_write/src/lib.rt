@@ -81,10 +81,7 @@ fn put(answer: &mut [u8], at: usize, byte: u8) -> usize
 fn sum(a: usize, b: usize) -> usize
     ensures { result ≡ cond (ltb (18446744073709551615 - b) a) a (a + b) }
 {
-    if a > 18446744073709551615 - b {
-        return a;
-    }
-    a + b
+    a.checked_add(b).unwrap_or(a)
 }
 
 fn put_level(rt: &impl Print, answer: &mut [u8], at: usize, z: i64) -> usize {
@@ -113,7 +110,7 @@ fn put_byte(rt: &impl Print, answer: &mut [u8], at: usize, byte: u8) -> usize {
     if here > answer.len() - 2 {
         return here;
     }
-    text::spell(byte as u64, 16, 2, &mut answer[here..]);
+    text::spell(u64::from(byte), 16, 2, &mut answer[here..]);
     sum(here, 2)
 }
 
@@ -123,13 +120,13 @@ fn between(rt: &impl Print, answer: &mut [u8], at: usize, i: usize) -> usize {
         return at;
     }
     let here = make_room(rt, answer, at);
-    put(answer, here, 32)
+    put(answer, here, b' ')
 }
 
 // The end of the line.
 fn end(rt: &impl Print, answer: &mut [u8], at: usize) {
     let here = make_room(rt, answer, at);
-    let whole = put(answer, here, 10);
+    let whole = put(answer, here, b'\n');
     flush(rt, answer, whole);
 }
 
@@ -137,11 +134,9 @@ fn end(rt: &impl Print, answer: &mut [u8], at: usize) {
 pub fn levels(rt: &impl Print, cells: &[i64]) {
     let mut answer = [0u8; 4096];
     let mut at = 0;
-    let mut i = 0;
-    while i < cells.len() {
+    for (i, &z) in cells.iter().enumerate() {
         at = between(rt, &mut answer, at, i);
-        at = put_level(rt, &mut answer, at, cells[i]);
-        i += 1;
+        at = put_level(rt, &mut answer, at, z);
     }
     end(rt, &mut answer, at);
 }
@@ -149,11 +144,9 @@ pub fn levels(rt: &impl Print, cells: &[i64]) {
 pub fn levels_f64(rt: &impl Print, cells: &[f64]) {
     let mut answer = [0u8; 4096];
     let mut at = 0;
-    let mut i = 0;
-    while i < cells.len() {
+    for (i, &x) in cells.iter().enumerate() {
         at = between(rt, &mut answer, at, i);
-        at = put_level_f64(rt, &mut answer, at, cells[i]);
-        i += 1;
+        at = put_level_f64(rt, &mut answer, at, x);
     }
     end(rt, &mut answer, at);
 }
@@ -162,10 +155,8 @@ pub fn levels_f64(rt: &impl Print, cells: &[f64]) {
 pub fn bytes(rt: &impl Print, cells: &[u8]) {
     let mut answer = [0u8; 4096];
     let mut at = 0;
-    let mut i = 0;
-    while i < cells.len() {
-        at = put_byte(rt, &mut answer, at, cells[i]);
-        i += 1;
+    for &byte in cells {
+        at = put_byte(rt, &mut answer, at, byte);
     }
     end(rt, &mut answer, at);
 }
@@ -185,34 +176,21 @@ pub fn refused(rt: &impl Print, number: u8) {
 fn visible(byte: u8) -> u8
     ensures { result ≡ visible_of byte }
 {
-    if byte < 33 {
-        return 63;
-    }
-    if byte > 126 {
-        return 63;
-    }
-    byte
+    if byte.is_ascii_graphic() { byte } else { b'?' }
 }
 
 // The token that is wrong, its first 40 bytes at most.
 fn echo(rt: &impl Print, token: &[u8], len: usize) {
     let mut answer = [0u8; 64];
     let mut at = 0;
-    let mut i = 0;
-    while i < token.len() {
-        if i >= len {
-            break;
-        }
-        if i >= 40 {
-            break;
-        }
-        at = put(&mut answer, at, visible(token[i]));
-        i += 1;
+    for &byte in token.iter().take(len.min(40)) {
+        at = put(&mut answer, at, visible(byte));
     }
     end(rt, &mut answer, at);
 }
 
 // The texts of the faults, a line each, from 0 on, which is no fault.
+#[tactic(auto, unfolding(words::specs::Words::column_from))]
 fn texts() -> [u8; 282]
     ensures { lines_of result ≡ fault_texts }
 {
@@ -239,11 +217,7 @@ a number of a step is beyond its field\n"
 fn shows_token(text: &[u8]) -> bool
     ensures { result ≡ shows_token text.now }
 {
-    let n = text.len();
-    if n == 0 {
-        return false;
-    }
-    text[n - 1] == 32
+    matches!(text, [.., b' '])
 }
 
 // What is wrong with a line, and the token where it is that.

@@ -1,5 +1,0 @@
--- `shape` meets its contract: what its callees ensure, put together.
-use Rattle.ndimage_arguments.proofs.shape.Goals as goal
-
-pub returns : goal.returns
-returns c = rw c.lent.ensures at c.counts.ensures

@@ -1,5 +1,0 @@
--- `step_numbers` meets its contract: what its callees ensure, put together.
-use Rattle.ndimage_arguments.proofs.step_numbers.Goals as goal
-
-pub returns : goal.returns
-returns c = rw c.lent.ensures at c.levels.ensures

@@ -1,8 +1,0 @@
--- `cursor::run` is safe and ends: the measure is the turns that are left.
-use Rattle.ndimage_read.proofs.cursor.run.Given as goal
-
-abbrev pub invariant-loop-turns : goal.invariant-loop-turns
-invariant-loop-turns g l = Unit {0}
-
-abbrev pub decreases-loop-turns : goal.decreases-loop-turns
-decreases-loop-turns g l = l.turns
