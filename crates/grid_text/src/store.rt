@@ -11,32 +11,31 @@ fn stored_level(word: TextWord) -> i64
 {
     let size = capped_size(word.size);
     if word.minus {
-        return -(size as i64);
+        -(size as i64)
+    } else {
+        size as i64
     }
-    size as i64
 }
 
 // The word stored as a length, where its place is that of one.
+#[tactic(auto, unfolding(grid_text_spec::specs::Machine::lengths_after))]
 pub(crate) fn store_length(shape: TextShape, word: TextWord, lengths: &mut [usize])
     ensures { lengths.new ≡ lengths_after shape word lengths.old }
 {
     let k = shape.words as usize;
     let n = shape.axes as usize;
     let size = word.size as usize;
-    if k == 0 {
-        return;
-    }
-    if n < k {
+    if k == 0 || n < k {
         return;
     }
     let at = k - 1;
-    if lengths.len() <= at {
-        return;
+    if at < lengths.len() {
+        lengths[at] = size;
     }
-    lengths[at] = size;
 }
 
 // The word stored as a level, where its place is that of one.
+#[tactic(auto, unfolding(grid_text_spec::specs::Machine::levels_after))]
 pub(crate) fn store_level(shape: TextShape, word: TextWord, levels: &mut [i64])
     ensures { levels.new ≡ levels_after shape word levels.old }
 {
@@ -47,8 +46,7 @@ pub(crate) fn store_level(shape: TextShape, word: TextWord, levels: &mut [i64])
         return;
     }
     let at = k - 1 - n;
-    if levels.len() <= at {
-        return;
+    if at < levels.len() {
+        levels[at] = level;
     }
-    levels[at] = level;
 }

@@ -12,7 +12,7 @@ fn put_line(z: i64, out: &mut [u8]) -> usize
     ensures out_after { out.new ≡ line_of z ++ drop (length (line_of z)) out.old }
 {
     let n = text::write_signed(z, out);
-    out[n] = 10;
+    out[n] = b'\n';
     n + 1
 }
 
@@ -32,12 +32,8 @@ pub fn write_lines(levels: &[i64], out: &mut [u8]) -> usize
         return 0;
     }
     let mut at = 0;
-    let mut i = 0;
-    while i < levels.len() {
-        let z = levels[i];
-        let n = put_line(z, &mut out[at..]);
-        at += n;
-        i += 1;
+    for &z in levels {
+        at += put_line(z, &mut out[at..]);
     }
     at
 }

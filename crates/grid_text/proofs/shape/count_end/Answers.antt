@@ -1,5 +1,0 @@
--- `count_end` meets its contract field by field.
-use Rattle.grid_text.proofs.shape.count_end.Goals as goal
-
-pub returns : goal.returns
-returns c = cc

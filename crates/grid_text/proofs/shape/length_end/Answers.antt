@@ -1,5 +1,0 @@
--- `length_end` meets its contract field by field.
-use Rattle.grid_text.proofs.shape.length_end.Goals as goal
-
-pub returns : goal.returns
-returns c = cc
