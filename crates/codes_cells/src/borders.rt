@@ -8,20 +8,14 @@ use border::BorderMode;
 fn code_at(codes: &[u8], axis: usize) -> u8
     ensures { result ≡ code_at codes.now axis }
 {
-    if axis < codes.len() {
-        return codes[axis];
-    }
-    255
+    codes.get(axis).copied().unwrap_or(255)
 }
 
 // The constant of an axis, and 0 where it is missing. Of 5 6 axis 1 has 6 and axis 2 has 0.
 fn constant_at(constants: &[i64], axis: usize) -> i64
     ensures { result ≡ get_or constants.now axis (pos 0) }
 {
-    if axis < constants.len() {
-        return constants[axis];
-    }
-    0
+    constants.get(axis).copied().unwrap_or(0)
 }
 
 // The mode of an axis. Of the codes 2 0 and the constants 7 5 axis 1 has Constant(5).
@@ -57,12 +51,5 @@ pub fn modes_of(codes: &[u8], constants: &[i64]) -> [BorderMode; 3]
 pub fn unknown_any(codes: &[u8], shape: &[usize]) -> bool
     ensures { result ≡ unknown_borders codes.now shape.now }
 {
-    let mut axis = 0;
-    while axis < shape.len() {
-        if 4 < code_at(codes, axis) {
-            return true;
-        }
-        axis += 1;
-    }
-    false
+    (0..shape.len()).any(|axis| 4 < code_at(codes, axis))
 }

@@ -5,8 +5,8 @@ ghost use Rattle.numbers.specs.Refusal.{Answers};
 ghost use Rattle.codes.specs.Codes.{kernel_of, unknown_kernel, coded};
 ghost use Rattle.codes_cells.specs.Cells.{kernel_cells, cells_judged};
 
-use numbers::Refusal;
 use kernel3d::Kernel3d;
+use numbers::Refusal;
 
 // Fills 27 cells with a kernel, the last axis fastest.
 fn fill_kernel(kernel: Kernel3d, out: &mut [bool])
@@ -14,11 +14,8 @@ fn fill_kernel(kernel: Kernel3d, out: &mut [bool])
     ensures { out.new ≡ kernel_cells kernel }
 {
     let cells = kernel.generate();
-    let mut i = 0;
-    while i < 27 {
-        let cell = cells[i / 9][i / 3 % 3][i % 3];
-        out[i] = cell;
-        i += 1;
+    for i in 0..27 {
+        out[i] = cells[i / 9][i / 3 % 3][i % 3];
     }
 }
 

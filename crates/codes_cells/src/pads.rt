@@ -8,10 +8,7 @@ use pad_spec::Pair;
 fn at_or_zero(places: &[usize], i: usize) -> usize
     ensures { result ≡ get_or places.now i 0 }
 {
-    if i < places.len() {
-        return places[i];
-    }
-    0
+    places.get(i).copied().unwrap_or(0)
 }
 
 // The pads at a place. Of the slices 1 and 2 3 place 1 has 0 and 3.

@@ -2,6 +2,7 @@
 // speak of it, as `io` does not; the file `stdout` of each program holds it. Nothing here is refused.
 #![tactic(auto)]
 
+use numbers::Refusal;
 use std::io::Print;
 
 // Writes a space.
@@ -25,13 +26,14 @@ pub fn line(rt: &impl Print, n: usize) {
     end(rt);
 }
 
+// Writes the number of an answer as a line: 0 where it was accepted.
+pub fn answer(rt: &impl Print, answer: Result<(), Refusal>) {
+    line(rt, usize::from(numbers::answer_number(answer)));
+}
+
 // Writes a line: 1 for yes, 0 for no.
 pub fn test(rt: &impl Print, answer: bool) {
-    if answer {
-        line(rt, 1);
-    } else {
-        line(rt, 0);
-    }
+    line(rt, usize::from(answer));
 }
 
 // Writes a level in decimal: −2 as -2.

@@ -12,25 +12,15 @@ use recipe_spec::Step;
 fn step_field(s: Step, j: usize) -> i64
     ensures { result ≡ get_or (step_fields s) j (pos 0) }
 {
-    if j == 0 {
-        return s.kind as i64;
+    match j {
+        0 => i64::from(s.kind),
+        1 => i64::from(s.axis),
+        2 => i64::from(s.length),
+        3 => i64::from(s.origin),
+        4 => i64::from(s.border),
+        5 => i64::from(s.constant),
+        _ => 0,
     }
-    if j == 1 {
-        return s.axis as i64;
-    }
-    if j == 2 {
-        return s.length as i64;
-    }
-    if j == 3 {
-        return s.origin as i64;
-    }
-    if j == 4 {
-        return s.border as i64;
-    }
-    if j == 5 {
-        return s.constant as i64;
-    }
-    0
 }
 
 // Number i of a recipe.
@@ -39,7 +29,7 @@ fn recipe_field(count: u8, steps: [Step; 16], i: usize) -> i64
     ensures { result ≡ get_or (recipe_fields count steps) i (pos 0) }
 {
     if i == 0 {
-        return count as i64;
+        return i64::from(count);
     }
     let j = i - 1;
     let s = steps[j / 6];
@@ -51,11 +41,8 @@ fn fill_fields(count: u8, steps: [Step; 16], out: &mut [i64])
     requires { length out.old ≡ 97 }
     ensures { out.new ≡ recipe_fields count steps }
 {
-    let mut i = 0;
-    while i < 97 {
-        let z = recipe_field(count, steps, i);
-        out[i] = z;
-        i += 1;
+    for i in 0..97 {
+        out[i] = recipe_field(count, steps, i);
     }
 }
 
@@ -72,16 +59,10 @@ pub fn read_fields(file: &[u8], out: &mut [i64]) -> Result<(), Refusal>
         (recipe_fields (read_of file.now).count (read_of file.now).steps) out.old (answer_number result)
         out.new }
 {
-    let recipe = recipe_file::read_recipe(file);
-    let number = recipe.number;
-    if number != 0 {
-        return number;
-    }
+    let recipe = recipe_file::read_recipe(file)?;
     if out.len() != 97 {
         return Err(Refusal::Length);
     }
-    let count = recipe.count;
-    let steps = recipe.steps;
-    fill_fields(count, steps, out);
+    fill_fields(recipe.count, recipe.steps, out);
     Ok(())
 }

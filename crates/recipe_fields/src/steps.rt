@@ -9,10 +9,7 @@ use recipe_spec::Step;
 pub(crate) fn number_at(fields: &[i64], at: usize) -> i64
     ensures { result ≡ get_or fields.now at (pos 0) }
 {
-    if at >= fields.len() {
-        return 0;
-    }
-    fields[at]
+    fields.get(at).copied().unwrap_or(0)
 }
 
 // The byte of the number at a place.
@@ -41,19 +38,13 @@ fn step_from(fields: &[i64], at: usize) -> Step
     requires { at < 96 }
     ensures { result ≡ step_from fields.now at }
 {
-    let kind = byte_at(fields, at);
-    let axis = byte_at(fields, at + 1);
-    let length = byte_at(fields, at + 2);
-    let origin = signed8_at(fields, at + 3);
-    let border = byte_at(fields, at + 4);
-    let constant = signed16_at(fields, at + 5);
     Step {
-        kind,
-        axis,
-        length,
-        origin,
-        border,
-        constant,
+        kind: byte_at(fields, at),
+        axis: byte_at(fields, at + 1),
+        length: byte_at(fields, at + 2),
+        origin: signed8_at(fields, at + 3),
+        border: byte_at(fields, at + 4),
+        constant: signed16_at(fields, at + 5),
     }
 }
 
@@ -61,13 +52,9 @@ fn step_from(fields: &[i64], at: usize) -> Step
 pub(crate) fn steps_from(fields: &[i64]) -> [Step; 16]
     ensures { result ≡ steps_from fields.now }
 {
-    let first = step_from(fields, 0);
-    let mut steps = [first; 16];
-    let mut k = 0;
-    while k < 16 {
-        let s = step_from(fields, 6 * k);
-        steps[k] = s;
-        k += 1;
+    let mut steps = [step_from(fields, 0); 16];
+    for k in 0..16 {
+        steps[k] = step_from(fields, 6 * k);
     }
     steps
 }

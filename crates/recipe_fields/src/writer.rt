@@ -5,22 +5,15 @@ ghost use Rattle.numbers.specs.Refusal.{Answers};
 ghost use Rattle.recipe_spec.specs.Recipes.{file_of};
 ghost use Rattle.recipe_fields.specs.Fields.{steps_from, bad_fields, numbers_judged};
 
-use numbers::Refusal;
 use crate::ranges::bad_field;
 use crate::steps::{number_at, steps_from};
+use numbers::Refusal;
 
 // Whether one of the first 96 numbers is one that its field cannot hold.
 fn bad_fields(fields: &[i64]) -> bool
     ensures { result ≡ bad_fields fields.now }
 {
-    let mut k = 0;
-    while k < 96 {
-        if bad_field(k % 6, number_at(fields, k)) {
-            return true;
-        }
-        k += 1;
-    }
-    false
+    (0..96).any(|k| bad_field(k % 6, number_at(fields, k)))
 }
 
 // Writes the file of a recipe of plain numbers to lent bytes.

@@ -10,74 +10,48 @@ use numbers::Refusal;
 use recipe_spec::Step;
 
 // Condition 13: under 6 bytes, or another mark or version than LKS and 1.
+#[tactic(auto, unfolding(recipe_spec::specs::Recipes::bad_mark))]
 pub(crate) fn bad_mark(file: &[u8]) -> bool
     ensures { result ≡ bad_mark file.now }
 {
-    if file.len() < 6 {
-        return true;
-    }
-    if file[0] != 76 {
-        return true;
-    }
-    if file[1] != 75 {
-        return true;
-    }
-    if file[2] != 83 {
-        return true;
-    }
-    if file[3] != 0 {
-        return true;
-    }
-    file[4] != 1
+    file.len() < 6
+        || file[0] != 76
+        || file[1] != 75
+        || file[2] != 83
+        || file[3] != 0
+        || file[4] != 1
 }
 
 // Condition 14: a count outside 1..16, or bytes of another length than 6 + 7 * count.
+#[tactic(auto, unfolding(recipe_spec::specs::Recipes::bad_step_count))]
 pub(crate) fn bad_step_count(count: u8, len: usize) -> bool
     ensures { result ≡ bad_step_count count len }
 {
-    if count < 1 {
-        return true;
-    }
-    if 16 < count {
-        return true;
-    }
-    len != 6 + 7 * (count as usize)
+    !(1..=16).contains(&count) || len != 6 + 7 * usize::from(count)
 }
 
 // A constant other than 0 under another border than constant.
+#[tactic(auto, unfolding(recipe_spec::specs::Recipes::bad_step_constant))]
 fn bad_step_constant(s: Step) -> bool
     ensures { result ≡ bad_step_constant s }
 {
-    if s.border == 0 {
-        return false;
-    }
-    s.constant != 0
+    s.border != 0 && s.constant != 0
 }
 
 // An origin other than 0 of a uniform step.
+#[tactic(auto, unfolding(recipe_spec::specs::Recipes::bad_step_origin))]
 fn bad_step_origin(s: Step) -> bool
     ensures { result ≡ bad_step_origin s }
 {
-    if s.kind != 2 {
-        return false;
-    }
-    s.origin != 0
+    s.kind == 2 && s.origin != 0
 }
 
 // Condition 15 of one step.
+#[tactic(auto, unfolding(recipe_spec::specs::Recipes::bad_step))]
 fn bad_step(s: Step) -> bool
     ensures { result ≡ bad_step s }
 {
-    if 2 < s.kind {
-        return true;
-    }
-    if 4 < s.border {
-        return true;
-    }
-    if bad_step_constant(s) {
-        return true;
-    }
-    bad_step_origin(s)
+    2 < s.kind || 4 < s.border || bad_step_constant(s) || bad_step_origin(s)
 }
 
 // Condition 15: some step of the first `count` is bad.
@@ -85,16 +59,7 @@ pub(crate) fn bad_steps(count: u8, steps: [Step; 16]) -> bool
     requires { count ≤ 16 }
     ensures { result ≡ any_of bad_step (take count steps) }
 {
-    let n = count as usize;
-    let mut k: usize = 0;
-    while k < n {
-        let s = steps[k];
-        if bad_step(s) {
-            return true;
-        }
-        k += 1;
-    }
-    false
+    steps[..usize::from(count)].iter().any(|s| bad_step(*s))
 }
 
 // The number that writing a recipe gets: `write_recipe` without its bytes.

@@ -1,7 +1,6 @@
 // Recipe files: the reader, the writer and its judge.
 #![tactic(auto)]
 
-mod bits;
 mod conditions;
 mod reader;
 mod writer;

@@ -4,37 +4,25 @@ ghost use Rattle.numbers.specs.Number.{answer_number};
 ghost use Rattle.numbers.specs.Refusal.{Answers};
 ghost use Rattle.recipe_spec.specs.Recipes.{step_bytes, file_of, recipe_judged};
 
-use numbers::Refusal;
-use crate::bits::{bits16, byte8};
 use crate::conditions::judge_recipe;
+use numbers::Refusal;
 use recipe_spec::Step;
 
 // Byte j of a step, 0 past the seventh.
 fn step_byte(s: Step, j: usize) -> u8
     ensures { result ≡ get_or (step_bytes s) j 0 }
 {
-    if j == 0 {
-        return s.kind;
+    let constant = s.constant.cast_unsigned();
+    match j {
+        0 => s.kind,
+        1 => s.axis,
+        2 => s.length,
+        3 => s.origin.cast_unsigned(),
+        4 => s.border,
+        5 => (constant / 256) as u8,
+        6 => (constant % 256) as u8,
+        _ => 0,
     }
-    if j == 1 {
-        return s.axis;
-    }
-    if j == 2 {
-        return s.length;
-    }
-    if j == 3 {
-        return byte8(s.origin);
-    }
-    if j == 4 {
-        return s.border;
-    }
-    if j == 5 {
-        return (bits16(s.constant) / 256) as u8;
-    }
-    if j == 6 {
-        return (bits16(s.constant) % 256) as u8;
-    }
-    0
 }
 
 // Byte i of the file of a recipe.
@@ -64,11 +52,8 @@ pub fn write_recipe(count: u8, steps: [Step; 16], out: &mut [u8]) -> Result<(), 
         out.old (answer_number result) out.new }
 {
     judge_recipe(count, steps, out.len())?;
-    let mut i = 0;
-    while i < out.len() {
-        let b = file_byte(count, steps, i);
-        out[i] = b;
-        i += 1;
+    for i in 0..out.len() {
+        out[i] = file_byte(count, steps, i);
     }
     Ok(())
 }

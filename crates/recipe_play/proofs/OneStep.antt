@@ -1,13 +1,12 @@
 -- One step by its kind: what its call refuses and fills.
 -- Assumes nothing.
 use Prim.Native.Nat.{ℕ}
-use mathlib.Core.Path.{◌≡◌, refl, sym, ap, ◌∙◌}
-use mathlib.Core.Bool.{cond}
+use mathlib.Core.Path.{◌≡◌, refl, ap, ◌∙◌}
 use mathlib.Core.List.{List, [], ◌∷◌, ◌++◌}
 use borrow.Author.Tests.{eq-eqb, ne_eqb}
 use lib.IntN.{ℤ}
 use lib.ListN.{length}
-use Rattle.numbers.specs.Refusal.{Judged, refusal_of}
+use Rattle.numbers.specs.Refusal.{refusal_of}
 use Rattle.array_spec.specs.Conditions.{grid_judged}
 use Rattle.border.specs.Modes.{border_of}
 use Rattle.min_max_spec.specs.Call.{first_in, window_judged, number_of}

@@ -24,22 +24,22 @@ mod steps;
 // Refuses: 13 (mark), 14 (count), 15 (step), then 1 (shape), 2 (length), 3 (level), then the number of the first step
 // that its call refuses: 5 (kernel), 7 (origin), 8 (axis), 11 (reach). 4 2 7 under the one step 0 0 2 0 2 0 0 gives
 // 4 2 2.
-pub fn play(file: &[u8], data: &[i64], shape: &[usize], out: &mut [i64], second: &mut [i64]) -> Result<(), Refusal>
+pub fn play(
+    file: &[u8],
+    data: &[i64],
+    shape: &[usize],
+    out: &mut [i64],
+    second: &mut [i64],
+) -> Result<(), Refusal>
     ensures { ScratchAnswers (pos 0) (play_judged file.now shape.now «data».now
         (length out.old) (length second.old))
         (played shape.now (recipe_steps file.now) «data».now) out.old
         (second.old ∷ []) (answer_number result) out.new (second.new ∷ []) }
 {
-    let recipe = recipe_file::read_recipe(file);
-    let number = recipe.number;
-    if number != 0 {
-        return number;
-    }
+    let recipe = recipe_file::read_recipe(file)?;
     array::judge_grid(data, shape, &[out.len(), second.len()])?;
-    let count = recipe.count;
-    let steps = recipe.steps;
-    steps::judge_steps(count, steps, shape)?;
-    steps::play_steps(count, steps, data, shape, second, out);
+    steps::judge_steps(recipe.count, recipe.steps, shape)?;
+    steps::play_steps(recipe.count, recipe.steps, data, shape, second, out);
     array::fill(second, 0);
     Ok(())
 }

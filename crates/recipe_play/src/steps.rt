@@ -6,8 +6,8 @@ ghost use Rattle.min_max_spec.specs.Call.{grid_number};
 ghost use Rattle.recipe_spec.specs.Player.{played};
 ghost use Rattle.recipe_spec.specs.Before.{windows_judged};
 
-use numbers::Refusal;
 use crate::step::{judge_step, step_pass};
+use numbers::Refusal;
 use recipe_spec::Step;
 
 // The number of the first step that is refused, or 0; no level is read.
@@ -15,12 +15,8 @@ pub(crate) fn judge_steps(count: u8, steps: [Step; 16], shape: &[usize]) -> Resu
     requires { count ≤ 16 }
     ensures { answer_number result ≡ refusal_of (windows_judged shape.now (take count steps)) }
 {
-    let n = count as usize;
-    let mut k: usize = 0;
-    while k < n {
-        let s = steps[k];
-        judge_step(s, shape)?;
-        k += 1;
+    for k in 0..usize::from(count) {
+        judge_step(steps[k], shape)?;
     }
     Ok(())
 }
@@ -41,14 +37,12 @@ fn first_steps(
     ensures { (result ≤ n) × ((n - result) % 2 ≡ 0) × (length second.new ≡ length «data».now)
         × (out.new ≡ played shape.now (take result (take n steps)) «data».now) }
 {
-    let s = steps[0];
     if n % 2 == 1 {
-        step_pass(s, data, shape, out);
+        step_pass(steps[0], data, shape, out);
         return 1;
     }
-    step_pass(s, data, shape, second);
-    let t = steps[1];
-    step_pass(t, second, shape, out);
+    step_pass(steps[0], data, shape, second);
+    step_pass(steps[1], second, shape, out);
     2
 }
 
@@ -66,13 +60,12 @@ pub(crate) fn play_steps(
         × (length second.old ≡ length «data».now) × (length out.old ≡ length «data».now) }
     ensures { out.new ≡ played shape.now (take count steps) «data».now }
 {
-    let n = count as usize;
+    let n = usize::from(count);
     let mut k = first_steps(n, steps, data, shape, second, out);
+    // Two steps a turn, by way of second; a for over every second place is no plainer.
     while k < n {
-        let s = steps[k];
-        step_pass(s, out, shape, second);
-        let t = steps[k + 1];
-        step_pass(t, second, shape, out);
+        step_pass(steps[k], out, shape, second);
+        step_pass(steps[k + 1], second, shape, out);
         k += 2;
     }
 }

@@ -14,9 +14,9 @@ use Rattle.numbers.specs.Lists.{any_of, Every}
 use Rattle.numbers.specs.Refusal.{Judged, refusal_of}
 use Rattle.numbers.proofs.Chain.{judged-all, judged-append}
 use Rattle.array_spec.specs.Conditions.{bad_shape, bad_length, bad_level, grid_judged}
-use Rattle.array_spec.proofs.Judged.{PassedGrid, grid_passed, grid_accepted, grid_ends}
+use Rattle.array_spec.proofs.Judged.{grid_accepted, grid_ends}
 use Rattle.lanes.proofs.AlongAxis.{length_along}
-use Rattle.border.specs.Modes.{border_of, bad_constant_by}
+use Rattle.border.specs.Modes.{border_of}
 use Rattle.min_max_spec.specs.Call.{window_judged, call_judged, grid_number}
 use Rattle.min_max_spec.specs.Run.{answer_of}
 use Rattle.min_max_spec.proofs.Passed.{length_answer, answer_in}
@@ -76,11 +76,11 @@ module _ (ns : List ℕ) (cells : List ℤ) (g : grid_number ns cells ≡ 0) whe
         ≡ refusal_of (uniform_along_judged (border_of (step_mode s)) s.length ns s.axis)
     mean_before =
         sym (grid_ends bad_level ns cells (length cells ∷ []) (uniform_along_judged (border_of (step_mode s)) s.length ns s.axis)
-        (bad_uniform_sums (border_of (step_mode s)) s.length ns s.axis cells) 12 (tt, (tt, (tt, (tt, tt)))) refl lent refl
+        (bad_uniform_sums (border_of (step_mode s)) s.length ns s.axis cells) 12 (tt, (tt, (tt, (tt, tt)))) (sym lent) refl
         (λ P E. no_bad_sums (border_of (step_mode s)) s.length ns cells P.levels E.1.1.0 E.0 s.axis))
 
     call-before : refusal_of (call_judged cells (step_call ns s cells)) ≡ refusal_of (window_judged (step_call ns s []))
-    call-before = sym (grid_accepted bad_level ns cells (length cells ∷ []) (window_judged (step_call ns s [])) refl lent refl)
+    call-before = sym (grid_accepted bad_level ns cells (length cells ∷ []) (window_judged (step_call ns s [])) (sym lent) refl)
 
     pub step-before : refusal_of (step_judged ns s cells) ≡ refusal_of (window_of_step ns s)
     step-before = go (is_mean s)

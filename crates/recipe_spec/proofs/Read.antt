@@ -18,14 +18,13 @@ use Rattle.numbers.specs.Refusal.{refusal_of}
 use Rattle.numbers.proofs.Chain.{judged-all}
 use Rattle.numbers.proofs.Tabulate.{length-tabulate, get_d_tabulate}
 use Rattle.numbers.proofs.Tests.{cond_yes}
-use Rattle.recipe_spec.specs.declared.Recipe.{Recipe}
-use Rattle.recipe_spec.specs.Recipes.{no_step, step_bytes, mark_of, file_of, step_at, sixteen, steps_of, bad_mark, bad_step_count, bad_step, file_judged, read_of}
+use Rattle.recipe_spec.specs.Recipes.{no_step, step_bytes, mark_of, file_of, step_at, sixteen, steps_of, bad_mark, bad_step_count, bad_step, file_judged, Handed, read_of}
 use Rattle.recipe_spec.specs.Back.{Reads}
 use Rattle.recipe_spec.proofs.Judge.{mark_is, count_is}
 use Rattle.recipe_spec.proofs.Steps.{file-mark, file-length, file_place}
 
 -- ---- the four answers
-abbrev none : ℕ → Recipe
+abbrev none : ℕ → Handed
 none n = record { number = n; count = 0; steps = sixteen 0 (λ k. no_step) }
 
 module _ (f : List ℕ) where
@@ -121,5 +120,5 @@ module _ (f : List ℕ) (g : (k : ℕ) → Fits w8 (get_or f k 0)) where
   pub accepted-file : refusal_of (file_judged f) ≡ 0 → f ≡ file_of (read_of f).count (read_of f).steps
   accepted-file e = rw e (accepted e)
 
-  pub reads : {r : Recipe} → r ≡ read_of f → Reads f r
-  reads {r} e = record { hands = e; file = λ z. rw e (accepted-file (sym (ap (λ (x : Recipe). x.number) e) ∙ z)) }
+  pub reads : {h : Handed} → h ≡ read_of f → Reads f h
+  reads {h} e = record { hands = e; file = λ z. rw e (accepted-file (sym (ap (λ (x : Handed). x.number) e) ∙ z)) }

@@ -4,10 +4,10 @@ use Prim.Native.Nat.{ℕ, ◌+◌, ◌*◌, ◌/◌, ◌≤◌, ◌<◌}
 use native.Mathlib.Nat.{add-zero, div-add-mod'}
 use native.Mathlib.Omega.{arith}
 use mathlib.Core.Path.{◌≡◌, refl, sym, ap, ◌∙◌}
-use mathlib.Core.Bool.{Bool, true, false, not, cond}
-use mathlib.Core.List.{List, [], ◌∷◌}
+use mathlib.Core.Bool.{Bool, true, false, cond}
+use mathlib.Core.List.{List}
 use borrow.Author.Tests.{lt-ltb, ltb-true}
-use lib.Dec.{eqb, ltb, lit<}
+use lib.Dec.{ltb, lit<}
 use lib.ListN.{length, get_or, take, length-take}
 use lib.Seq.{get_or-take}
 use mir.Syntax.{w8, w16}
@@ -21,10 +21,9 @@ use Rattle.numbers.proofs.Stored.{Stored, front-all}
 use Rattle.numbers.proofs.Tabulate.{tabulate_agree, tabulate_members, tabulate_unique, take-tabulate}
 use Rattle.numbers.proofs.Tests.{cond_yes}
 use Rattle.recipe_spec.specs.declared.Step.{Step}
-use Rattle.recipe_spec.specs.declared.Recipe.{Recipe}
 use Rattle.recipe_spec.specs.Recipes.{no_step, step_bytes, mark_of, file_of, step_at, sixteen, steps_of, bad_mark, bad_step_count, bad_step, recipe_judged, file_judged, read_of}
-use Rattle.recipe_spec.specs.Back.{Reads, Fitting}
-use Rattle.recipe_spec.proofs.Judge.{mark_good, count_is, count_good, count_known}
+use Rattle.recipe_spec.specs.Back.{Fitting}
+use Rattle.recipe_spec.proofs.Judge.{mark_good, count_is, count_good}
 use Rattle.recipe_spec.proofs.Steps.{file-mark, file-length, file-step}
 use Rattle.recipe_spec.proofs.Read.{read_0, accepted-file}
 

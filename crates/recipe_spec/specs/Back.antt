@@ -1,6 +1,6 @@
 -- The reader and the writer undo each other.
---   Reads f r    what the reader promises: it hands over read_of f, and a file that it accepts is the file of what it
---                hands over
+--   Reads f h    what the reader promises of what it hands over: it is read_of f, and a file that the reader accepts is
+--                the file of it
 --   Fitting s    the signed fields of s are numbers of 8 and 16 bits, as those of every step that is handed over
 --   RoundTrips   of every recipe that the writer accepts, and of every file that the reader accepts
 use Rattle.std.specs.Prelude.{ℕ, ◌<◌, ◌≡◌, List, length, get_or}
@@ -9,12 +9,11 @@ use Rattle.std.proofs.Common.{SFits}
 use Rattle.numbers.specs.Lists.{Every}
 use Rattle.numbers.specs.Refusal.{refusal_of}
 use Rattle.recipe_spec.specs.declared.Step.{Step}
-use Rattle.recipe_spec.specs.declared.Recipe.{Recipe}
-use Rattle.recipe_spec.specs.Recipes.{no_step, file_of, sixteen, recipe_judged, file_judged, read_of}
+use Rattle.recipe_spec.specs.Recipes.{no_step, file_of, sixteen, recipe_judged, file_judged, Handed, read_of}
 
-pub record Reads (f : List ℕ) (r : Recipe) : Type 0 where
-  pub hands : r ≡ read_of f
-  pub file : r.number ≡ 0 → f ≡ file_of r.count r.steps
+pub record Reads (f : List ℕ) (h : Handed) : Type 0 where
+  pub hands : h ≡ read_of f
+  pub file : h.number ≡ 0 → f ≡ file_of h.count h.steps
 
 abbrev pub Fitting : Step → Type 0
 Fitting s = SFits w8 s.origin × SFits w16 s.constant

@@ -16,14 +16,18 @@
 --   bad_step s                       15: one of these
 --   recipe_judged count steps len    14 and 15, of the first count steps and bytes of that length
 --   file_judged f                    13, 14 and 15
+--   Handed                           a number, a count and steps: what the reader hands over of any file
 --   handed_over r count steps        a recipe under the number r: on a refusal all else is 0
 --   read_of f                        what the reader hands over
-use Rattle.std.specs.Prelude.{ℕ, ◌+◌, ◌*◌, ◌/◌, ◌%◌, Bool, not, ◌&&◌, ◌||◌, cond, List, [], ◌∷◌, ◌++◌, ltb, eqb, pos, nat_abs, length, get_or, take}
+--   handed answer                    an answer of the reader as that: a refusal is its number, and all else 0
+use Rattle.std.specs.Prelude.{ℕ, ◌+◌, ◌*◌, ◌/◌, ◌%◌, Bool, not, ◌&&◌, ◌||◌, cond, List, [], ◌∷◌, ◌++◌, ltb, eqb, pos, nat_abs, length, get_or, take, Result, Ok, Err}
 use Rattle.std.specs.Int.{w8, w16}
 use Rattle.std.proofs.Common.{to_z, of_z}
 use Rattle.numbers.specs.Lists.{tabulate, any_of}
 use Rattle.numbers.specs.Ranges.{outside}
+use Rattle.numbers.specs.Number.{refusal_number}
 use Rattle.numbers.specs.Refusal.{Judged, refusal_of}
+use Rattle.numbers.specs.declared.Refusal.{Refusal}
 use Rattle.recipe_spec.specs.declared.Step.{Step}
 use Rattle.recipe_spec.specs.declared.Recipe.{Recipe}
 
@@ -94,12 +98,21 @@ abbrev pub file_judged : List ℕ → Judged
 file_judged f = (bad_mark f, 13) ∷ recipe_judged (get_or f 5 0) (steps_of f) (length f)
 
 -- ---- what the reader hands over
-abbrev pub handed_over : ℕ → ℕ → List Step → Recipe
+pub record Handed : Type 0 where
+  pub number : ℕ
+  pub count : ℕ
+  pub steps : List Step
+
+abbrev pub handed_over : ℕ → ℕ → List Step → Handed
 handed_over r count steps = record {
   number = r;
   count = cond (eqb r 0) count 0;
   steps = cond (eqb r 0) steps (sixteen 0 (λ k. no_step));
 }
 
-abbrev pub read_of : List ℕ → Recipe
+abbrev pub read_of : List ℕ → Handed
 read_of f = handed_over (refusal_of (file_judged f)) (get_or f 5 0) (steps_of f)
+
+abbrev pub handed : Result Recipe Refusal → Handed
+handed (Ok r) = record { number = 0; count = r.count; steps = r.steps }
+handed (Err e) = record { number = refusal_number e; count = 0; steps = sixteen 0 (λ k. no_step) }

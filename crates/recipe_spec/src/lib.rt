@@ -23,11 +23,9 @@ pub struct Step {
     pub constant: i16,
 }
 
-// What the reader hands over: the refusal number, how many steps there are, and the steps; past the count, and
-// throughout where the file is refused, they are all 0.
+// The recipe of a file: how many steps there are, and the steps; past the count they are all 0.
 #[derive(Clone, Copy)]
 pub struct Recipe {
-    pub number: u8,
     pub count: u8,
     pub steps: [Step; 16],
 }

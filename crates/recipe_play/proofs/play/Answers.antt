@@ -1,55 +1,49 @@
 -- `play` meets its contract: all is judged, then the steps are played and the second grid is cleared.
 use Prim.Native.Nat.{ℕ}
-use mathlib.Core.Path.{sym, ap, ◌∙◌}
+use mathlib.Core.Path.{refl, sym, ap, ◌∙◌}
 use mathlib.Core.List.{List, [], ◌∷◌}
 use lib.IntN.{ℤ, pos}
 use lib.ListN.{length, replicate}
-use Rattle.numbers.proofs.Chain.{scratch_refused, scratch_accepted}
+use Rattle.std.proofs.lemmas.Result.{err_from_is_err_and}
+use Rattle.numbers.proofs.Number.{number_some, scratch_keeps, scratch_fills}
 use Rattle.recipe_spec.specs.Player.{played}
-use Rattle.recipe_play.proofs.Called.{file_stops, steps_read, count_read, grid_stops, lent_passed, grid_number_lem, steps_number}
+use Rattle.recipe_play.proofs.Called.{steps_read, count_read, grid_stops, lent_passed, grid_number_lem, steps_number}
 use Rattle.recipe_play.proofs.play.Goals as goal
 
-pub returns-then-number-ne0 : goal.returns-then-number-ne0
-returns-then-number-ne0 c =
+pub returns-in_err-judge_grid : goal.returns-in_err-judge_grid
+returns-in_err-judge_grid c =
+    let p = err_from_is_err_and c.from_residual-in_err-judge_grid.result c.from_residual-in_err-judge_grid.ensures.1 in
     let a = c.args in
-    scratch_refused (pos 0) _ _ _ _ _ (file_stops a.file.now a.shape.now a.«data».now (length a.out.now) (length a.second.now) c.read_recipe-recipe.ensures
-    c.if-number-ne0.true) c.if-number-ne0.true
+    rw (p.1, p.2)
+    (scratch_keeps (pos 0) _ _ _ _ _
+    (grid_stops a.file.now a.shape.now a.«data».now (length a.out.now) (length a.second.now) c.in_ok-recipe.ensures refl
+    c.in_err-judge_grid.ensures (number_some _)))
 
-pub returns-then-refusal-ne0 : goal.returns-then-refusal-ne0
-returns-then-refusal-ne0 c =
+pub judge_steps-requires : goal.judge_steps-requires
+judge_steps-requires c =
     let a = c.args in
-    scratch_refused (pos 0) _ _ _ _ _
-    (grid_stops a.file.now a.shape.now a.«data».now (length a.out.now) (length a.second.now) c.read_recipe-recipe.ensures
-    c.if-number-ne0.false c.judge_grid-refusal.ensures c.if-refusal-ne0.true) c.if-refusal-ne0.true
+    (count_read a.file.now a.shape.now a.«data».now (length a.out.now) (length a.second.now) c.in_ok-recipe.ensures refl).1
 
-pub judge_steps-refused-requires : goal.judge_steps-refused-requires
-judge_steps-refused-requires c =
+pub returns-in_err-judge_steps : goal.returns-in_err-judge_steps
+returns-in_err-judge_steps c =
+    let p = err_from_is_err_and c.from_residual-in_err-judge_steps.result c.from_residual-in_err-judge_steps.ensures.1 in
     let a = c.args in
-    (count_read a.file.now a.shape.now a.«data».now (length a.out.now) (length a.second.now) c.read_recipe-recipe.ensures
-    c.if-number-ne0.false).1
-
-pub returns-then-refused-ne0 : goal.returns-then-refused-ne0
-returns-then-refused-ne0 c =
-    let a = c.args in
-    scratch_refused (pos 0) _ _ _ _ _
-    (steps_number a.file.now a.shape.now a.«data».now (length a.out.now) (length a.second.now)
-    c.read_recipe-recipe.ensures c.if-number-ne0.false
-    c.judge_grid-refusal.ensures c.if-refusal-ne0.false c.judge_steps-refused.ensures) c.if-refused-ne0.true
+    rw (p.1, p.2)
+    (scratch_keeps (pos 0) _ _ _ _ _
+    (steps_number a.file.now a.shape.now a.«data».now (length a.out.now) (length a.second.now) c.in_ok-recipe.ensures refl
+    c.in_ok-judge_grid.ensures refl c.in_err-judge_steps.ensures))
 
 pub play_steps-requires : goal.play_steps-requires
 play_steps-requires c =
     let a = c.args in
-    let R = c.read_recipe-recipe.ensures in
-    let z = c.if-number-ne0.false in
-    let e = c.judge_grid-refusal.ensures in
-    let y = c.if-refusal-ne0.false in
-    let n = count_read a.file.now a.shape.now a.«data».now (length a.out.now) (length a.second.now) R z in
-    let G = lent_passed a.file.now a.shape.now a.«data».now (length a.out.now) (length a.second.now) R z e y in (
+    let R = c.in_ok-recipe.ensures in
+    let e = c.in_ok-judge_grid.ensures in
+    let n = count_read a.file.now a.shape.now a.«data».now (length a.out.now) (length a.second.now) R refl in
+    let G = lent_passed a.file.now a.shape.now a.«data».now (length a.out.now) (length a.second.now) R refl e refl in (
       n.0,
       n.1,
-      grid_number_lem a.file.now a.shape.now a.«data».now (length a.out.now) (length a.second.now) R z e y,
-      sym
-          c.judge_steps-refused.ensures ∙ c.if-refused-ne0.false,
+      grid_number_lem a.file.now a.shape.now a.«data».now (length a.out.now) (length a.second.now) R refl e refl,
+      sym c.in_ok-judge_steps.ensures,
       G.lengths.1.0 ∙ sym G.count,
       G.lengths.0 ∙ sym G.count,
     )
@@ -57,13 +51,10 @@ play_steps-requires c =
 pub returns : goal.returns
 returns c =
     let a = c.args in
-    let R = c.read_recipe-recipe.ensures in
-    let j = steps_number a.file.now a.shape.now a.«data».now (length a.out.now) (length a.second.now) R
-    c.if-number-ne0.false
-    c.judge_grid-refusal.ensures
-    c.if-refusal-ne0.false
-    c.judge_steps-refused.ensures in
+    let R = c.in_ok-recipe.ensures in
+    let j = steps_number a.file.now a.shape.now a.«data».now (length a.out.now) (length a.second.now) R refl c.in_ok-judge_grid.ensures refl
+    c.in_ok-judge_steps.ensures in
     let p = c.play_steps in
-    scratch_accepted (pos 0) _ _ _ _ _ j c.if-refused-ne0.false (p.ensures ∙ ap (λ l. played a.shape.now l a.«data».now)
-    (steps_read a.file.now a.shape.now a.«data».now (length a.out.now) (length a.second.now) R))
+    scratch_fills (pos 0) _ _ _ _ j
+    (p.ensures ∙ ap (λ l. played a.shape.now l a.«data».now) (steps_read a.file.now a.shape.now a.«data».now (length a.out.now) (length a.second.now) R))
     (ap (λ (s : List ℤ). s ∷ []) (c.fill.ensures ∙ ap (λ (n : ℕ). replicate n (pos 0)) p.auto.second))

@@ -1,4 +1,4 @@
--- `codes_cells::kernel::write_kernel` meets its contract: 2, or the refusal of an unknown code, or the cells of the kernel.
+-- `write_kernel` meets its contract: 2, or the refusal of an unknown code, or the cells of the kernel.
 use mathlib.Core.Path.{refl, ap, ◌∙◌}
 use borrow.Author.Tests.{eq-eqb, ne_eqb}
 use lib.ListN.{length}
@@ -18,10 +18,8 @@ returns-then-code-gt2 c =
 
 pub returns : goal.returns
 returns c =
-    let k = c in
-    let n = length k.args.out.now in
-    answers_known _ 2 k.if-code-gt2.false
+    answers_known _ 2 c.if-code-gt2.false
     (record {
-      number = rw (eq-eqb n 27 k.if-out-ne27.false) refl;
-      cells = c.fill_kernel.ensures ∙ ap kernel_cells k.kernel_of.ensures;
+      number = rw (eq-eqb (length c.args.out.now) 27 c.if-out-ne27.false) refl;
+      cells = c.fill_kernel.ensures ∙ ap kernel_cells c.kernel_of.ensures;
     })

@@ -1,28 +1,15 @@
--- `signed16_of` meets its contract: 0, or the number itself.
-use mathlib.Core.Path.{sym, ◌∙◌}
-use lib.Dec.{lit<}
-use lib.IntN.{pos}
-use mir.Syntax.{w16}
-use Rattle.numbers.proofs.Tests.{cond_yes, cond_no}
-use Rattle.recipe_fields.specs.Fields.{bad_signed16, signed16_of}
-use Rattle.recipe_fields.proofs.Held.{answered, signed_casts, signed_is}
+-- `signed16_of` meets its contract: the number where 16 signed bits hold it, else 0.
+use mathlib.Core.Path.{ap, ◌∙◌}
+use mir.Syntax.{w16, w64}
+use mir.ValLaws.{to_z-of_z}
+use Rattle.recipe_fields.specs.Fields.{signed16_of}
+use Rattle.recipe_fields.proofs.Held.{held16}
 use Rattle.recipe_fields.proofs.ranges.signed16_of.Goals as goal
 
-pub returns-then-bad_signed16 : goal.returns-then-bad_signed16
-unfolding signed16_of
-returns-then-bad_signed16 c =
-    let s = c in
-    sym (cond_yes (bad_signed16 s.args.z) (pos 0) s.args.z (answered s.args.z s.ranges.z bad_signed16 c.bad_signed16.ensures c.if-bad_signed16.true))
-
-pub overflow_cast-result : goal.overflow_cast-result
-unfolding bad_signed16
-overflow_cast-result c =
-    let s = c in
-    signed_casts w16 32767 s.args.z s.ranges.z (lit< tt) (answered s.args.z s.ranges.z bad_signed16 c.bad_signed16.ensures c.if-bad_signed16.false)
-
 pub returns : goal.returns
-unfolding bad_signed16 signed16_of
 returns c =
-    let s = c in
-    let e = answered s.args.z s.ranges.z bad_signed16 c.bad_signed16.ensures c.if-bad_signed16.false in
-    signed_is w16 32767 s.args.z s.ranges.z (lit< tt) e ∙ sym (cond_no (bad_signed16 s.args.z) (pos 0) s.args.z e)
+    let u = c.unwrap_or in
+    to_z-of_z w16 u.result (record { sfits = u.type_inv })
+    ∙ u.ensures
+    ∙ held16 _ _ c.try_from.ensures
+    ∙ ap signed16_of (to_z-of_z w64 c.args.z c.ranges.z)

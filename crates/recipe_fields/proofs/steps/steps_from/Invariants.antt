@@ -1,5 +1,5 @@
 -- `steps_from` meets its contract: the steps are stored from the front.
-use Prim.Native.Nat.{◌-◌, ◌*◌, ◌≤◌}
+use Prim.Native.Nat.{◌*◌}
 use mathlib.Core.Path.{◌≡◌}
 use lib.Dec.{ltb}
 use lib.ListN.{length}
@@ -9,7 +9,4 @@ use Rattle.recipe_fields.specs.Fields.{step_from}
 use Rattle.recipe_fields.proofs.steps.steps_from.Given as goal
 
 abbrev pub invariant-loop-k : goal.invariant-loop-k
-invariant-loop-k l = (l.k ≤ 16) × (length l.initial.steps ≡ 16) × Stored no_step (λ j. ltb j l.k) (λ j. step_from l.fields (6 * j)) l.initial.steps l.steps
-
-abbrev pub decreases-loop-k : goal.decreases-loop-k
-decreases-loop-k l = 16 - l.k
+invariant-loop-k l = (length l.initial.steps ≡ 16) × Stored no_step (λ j. ltb j l.k) (λ j. step_from l.fields (6 * j)) l.initial.steps l.steps

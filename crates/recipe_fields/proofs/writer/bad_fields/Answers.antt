@@ -1,31 +1,27 @@
--- `bad_fields` meets its contract: the search goes on among the places that are left, whose count is the measure.
-use Prim.Native.Nat.{◌-◌, ◌%◌}
-use mathlib.Core.Path.{ap, ◌∙◌}
+-- `bad_fields` meets its contract: the closure computes the test of a place.
+use mathlib.Core.Path.{◌≡◌, refl, ap, ◌∙◌}
+use mathlib.Core.List.{◌∷◌}
+use Prim.Native.Nat.{ℕ, zero, suc, ◌+◌}
+use native.Mathlib.Omega.{arith}
 use borrow.Author.Rules.{rules}
-use mir.Syntax.{w64}
-use mir.ValLaws.{to_z-of_z}
-use Rattle.recipe_fields.specs.Fields.{bad_field}
-use Rattle.recipe_fields.proofs.Judge.{search_starts, field_hit, field_miss, fields_end}
+use borrow.Author.Tests.{tests}
+use Rattle.std.specs.List.{range_with_len}
+use Rattle.std.proofs.lemmas.Iterator.{YieldsList-from_range}
+use Rattle.std.proofs.lemmas.Iterator.Search.{any_from_yields_List}
+use Rattle.numbers.specs.Lists.{tabulate, any_of}
+use Rattle.recipe_fields.specs.Fields.{bad_fields}
+use Rattle.recipe_fields.proofs.Judge.{unheld}
 use Rattle.recipe_fields.proofs.writer.bad_fields.Goals as goal
 
-pub loop-k-init : goal.loop-k-init
-loop-k-init c = (search rules, search_starts _)
-
-pub returns-then-bad_field : goal.returns-then-bad_field
-returns-then-bad_field c =
-    let b = c.bad_field in
-    let z = c.number_at in
-    let l = c.loop-k in
-    let e = b.ensures ∙ ap (bad_field (l.k % 6)) (to_z-of_z w64 z.result (record { sfits = z.type_inv }) ∙ z.ensures) in
-    field_hit _ l.k c.loop-k-test.true l.invariant.1 e c.if-bad_field.true
-
-pub loop-k-preserved : goal.loop-k-preserved
-loop-k-preserved c =
-    let b = c.bad_field in
-    let z = c.number_at in
-    let l = c.loop-k in
-    let e = b.ensures ∙ ap (bad_field (l.k % 6)) (to_z-of_z w64 z.result (record { sfits = z.type_inv }) ∙ z.ensures) in
-    (search rules, field_miss _ l.k c.loop-k-test.true l.invariant.1 e c.if-bad_field.false)
+range_is : (m n : ℕ) → range_with_len m n ≡ tabulate (λ k. k) m n
+unfolding tabulate
+range_is m zero = refl
+range_is m (suc n) = let e : m + 1 ≡ suc m = omega arith in rw e (ap (λ l. m ∷ l) (range_is (suc m) n))
 
 pub returns : goal.returns
-returns c = fields_end _ c.loop-k.k c.loop-k-test.false c.loop-k.invariant.1
+unfolding bad_fields
+returns c =
+    let t = unheld c.args.fields.now in
+    any_from_yields_List t _ _ _ c.any.ensures.ran (YieldsList-from_range 0 96 96 refl (omega arith))
+    (λ x b q k. search (rules, tests))
+    ∙ ap (any_of t) (range_is 0 96)

@@ -6,25 +6,12 @@ use lib.ListN.{get_or, take}
 use Rattle.recipe_spec.specs.Recipes.{bad_step}
 use Rattle.recipe_spec.specs.declared.Step.{Step}
 use Rattle.numbers.specs.Lists.{any_of}
-use Rattle.recipe_spec.proofs.Read.{reads, read_13, read_14, read_15, read_0}
+use Rattle.recipe_spec.proofs.Read.{reads, read_0}
 use Rattle.recipe_spec.proofs.Judge.{mark_is, count_is}
 use Rattle.recipe_file.proofs.reader.read_recipe.Goals as goal
 
-pub returns-then-bad_mark : goal.returns-then-bad_mark
-returns-then-bad_mark c =
-    let s = c in
-    reads s.args.file.now c.shared_slice_known-1.given (c.refused.ensures ∙ read_13 s.args.file.now (sym c.bad_mark.ensures ∙ c.if-bad_mark.true))
-
 pub bounds-file-5 : goal.bounds-file-5
 bounds-file-5 c = (mark_is _ (sym c.bad_mark.ensures ∙ c.if-bad_mark.false)).0
-
-pub returns-then-bad_step_count : goal.returns-then-bad_step_count
-returns-then-bad_step_count c =
-    let d = c in
-    let s = d in
-    let f = s.args.file.now in
-    reads f c.shared_slice_known-2-1.given
-    (c.refused-then-bad_step_count.ensures ∙ read_14 f (sym d.bad_mark.ensures ∙ d.if-bad_mark.false) (sym c.bad_step_count.ensures ∙ c.if-bad_step_count.true))
 
 pub steps_of-steps-requires : goal.steps_of-steps-requires
 steps_of-steps-requires c = let a = count_is _ _ (sym c.bad_step_count.ensures ∙ c.if-bad_step_count.false) in record { count_in_bounds = omega arith; count_bound = a.1 }
@@ -32,22 +19,10 @@ steps_of-steps-requires c = let a = count_is _ _ (sym c.bad_step_count.ensures �
 pub bad_steps-requires : goal.bad_steps-requires
 bad_steps-requires c = (count_is _ _ (sym c.bad_step_count.ensures ∙ c.if-bad_step_count.false)).1
 
-pub returns-then-bad_steps : goal.returns-then-bad_steps
-returns-then-bad_steps c =
-    let b = c in
-    let d = b in
-    let f = d.args.file.now in
-    reads f b.shared_slice_known-2-1.given
-    (c.refused-then-bad_steps.ensures
-    ∙ read_15 f (sym d.bad_mark.ensures ∙ d.if-bad_mark.false) (sym b.bad_step_count.ensures ∙ b.if-bad_step_count.false)
-    (sym (c.bad_steps.ensures ∙ ap (λ l. any_of bad_step (take (get_or f 5 0) l)) c.steps_of-steps.ensures) ∙ c.if-bad_steps.true))
-
 pub returns : goal.returns
 returns c =
-    let b = c in
-    let d = b in
-    let f = d.args.file.now in
-    reads f b.shared_slice_known-2-1.given
+    let f = c.args.file.now in
+    reads f c.type_inv.file
     (ap (λ (l : List Step). record { number = 0; count = get_or f 5 0; steps = l }) c.steps_of-steps.ensures
-    ∙ read_0 f (sym d.bad_mark.ensures ∙ d.if-bad_mark.false) (sym b.bad_step_count.ensures ∙ b.if-bad_step_count.false)
+    ∙ read_0 f (sym c.bad_mark.ensures ∙ c.if-bad_mark.false) (sym c.bad_step_count.ensures ∙ c.if-bad_step_count.false)
     (sym (c.bad_steps.ensures ∙ ap (λ l. any_of bad_step (take (get_or f 5 0) l)) c.steps_of-steps.ensures) ∙ c.if-bad_steps.false))

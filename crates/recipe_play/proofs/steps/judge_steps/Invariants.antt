@@ -1,5 +1,4 @@
--- `judge_steps` meets its contract: the steps that are left decide. The measure is their count.
-use Prim.Native.Nat.{◌-◌, ◌≤◌}
+-- `judge_steps` meets its contract: the steps that are left decide.
 use mathlib.Core.Path.{◌≡◌}
 use lib.ListN.{take, drop}
 use Rattle.numbers.specs.Refusal.{refusal_of}
@@ -7,7 +6,4 @@ use Rattle.recipe_spec.specs.Before.{windows_judged}
 use Rattle.recipe_play.proofs.steps.judge_steps.Given as goal
 
 abbrev pub invariant-loop-k : goal.invariant-loop-k
-invariant-loop-k l = (l.k ≤ l.n) × (refusal_of (windows_judged l.shape (take l.count l.steps)) ≡ refusal_of (windows_judged l.shape (drop l.k (take l.count l.steps))))
-
-abbrev pub decreases-loop-k : goal.decreases-loop-k
-decreases-loop-k l = l.n - l.k
+invariant-loop-k l = refusal_of (windows_judged l.shape (take l.count l.steps)) ≡ refusal_of (windows_judged l.shape (drop l.k (take l.count l.steps)))

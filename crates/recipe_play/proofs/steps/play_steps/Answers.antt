@@ -1,5 +1,5 @@
 -- `play_steps` meets its contract: two steps a turn, by way of the second grid. The measure is how many are left.
-use Prim.Native.Nat.{◌+◌, ◌-◌, ◌≤◌, ◌<◌}
+use Prim.Native.Nat.{◌+◌, ◌≤◌, ◌<◌}
 use native.Mathlib.Omega.{arith}
 use mathlib.Core.Path.{◌≡◌, ap, ◌∙◌}
 use borrow.Author.Rules.{rules}
@@ -17,7 +17,8 @@ loop-k-init c =
     let few : a.count ≤ length a.steps = omega (arith, s.well_formed.1.0.1.0.1) in
     let f = c.first_steps-k in
     let e = f.ensures in
-    (search rules, e.0, e.1, e.2, ap length e.3 ∙ length-after a.shape.now a.steps a.count a.«data».now few f.result, e.3)
+    let p = rw c.from-n.ensures at e.3 in
+    (search rules, e.0, e.1, e.2, ap length p ∙ length-after a.shape.now a.steps a.count a.«data».now few f.result, p)
 
 pub step_pass-requires : goal.step_pass-requires
 step_pass-requires c =

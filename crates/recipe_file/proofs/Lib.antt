@@ -1,2 +1,0 @@
--- Laws of signed numbers in bytes.
-pub mod Complements
