@@ -46,7 +46,7 @@ pub extern "C" fn suvvokal_correlate(
 {
     let mode = codes::mode_of(code, constant);
     if 4 < code {
-        let refusal = correlate_judge::judge_kernel(
+        let judged = correlate_judge::judge_kernel(
             data,
             shape,
             weights,
@@ -56,9 +56,9 @@ pub extern "C" fn suvvokal_correlate(
             false,
             out.len(),
         );
-        return codes::unknown_after(refusal);
+        return numbers::answer_number(codes::unknown_after(judged));
     }
-    correlate::correlate(data, shape, weights, sides, mode, origin, out)
+    numbers::answer_number(correlate::correlate(data, shape, weights, sides, mode, origin, out))
 }
 
 // As `suvvokal_correlate` with the kernel reversed along every axis and the origin changed; the call `convolve`.
@@ -81,7 +81,7 @@ pub extern "C" fn suvvokal_convolve(
 {
     let mode = codes::mode_of(code, constant);
     if 4 < code {
-        let refusal = correlate_judge::judge_kernel(
+        let judged = correlate_judge::judge_kernel(
             data,
             shape,
             weights,
@@ -91,9 +91,9 @@ pub extern "C" fn suvvokal_convolve(
             true,
             out.len(),
         );
-        return codes::unknown_after(refusal);
+        return numbers::answer_number(codes::unknown_after(judged));
     }
-    correlate::convolve(data, shape, weights, sides, mode, origin, out)
+    numbers::answer_number(correlate::convolve(data, shape, weights, sides, mode, origin, out))
 }
 
 // The differences along an axis, smoothed along every other axis by 1 1 1; the call `prewitt`.
@@ -128,10 +128,10 @@ pub extern "C" fn suvvokal_prewitt(
 {
     let modes = codes_cells::modes_of(codes, constants);
     if codes_cells::unknown_any(codes, shape) {
-        let refusal = gradient::judge_gradient(data, shape, axis, modes, out.len(), second.len());
-        return codes::unknown_after(refusal);
+        let judged = gradient::judge_gradient(data, shape, axis, modes, out.len(), second.len());
+        return numbers::answer_number(codes::unknown_after(judged));
     }
-    gradient::prewitt(data, shape, axis, modes, second, out)
+    numbers::answer_number(gradient::prewitt(data, shape, axis, modes, second, out))
 }
 
 // As `suvvokal_prewitt`, smoothed by 1 2 1; the call `sobel`. Of the rows 1 2 / 3 4 along axis 0 under constant 0: 10
@@ -156,10 +156,10 @@ pub extern "C" fn suvvokal_sobel(
 {
     let modes = codes_cells::modes_of(codes, constants);
     if codes_cells::unknown_any(codes, shape) {
-        let refusal = gradient::judge_gradient(data, shape, axis, modes, out.len(), second.len());
-        return codes::unknown_after(refusal);
+        let judged = gradient::judge_gradient(data, shape, axis, modes, out.len(), second.len());
+        return numbers::answer_number(codes::unknown_after(judged));
     }
-    gradient::sobel(data, shape, axis, modes, second, out)
+    numbers::answer_number(gradient::sobel(data, shape, axis, modes, second, out))
 }
 
 // The means along every axis, in rising order, each pass cut toward zero; the call `uniform_filter`.
@@ -194,10 +194,10 @@ pub extern "C" fn suvvokal_uniform_filter(
 {
     let modes = codes_cells::modes_of(codes, constants);
     if codes_cells::unknown_any(codes, shape) {
-        let refusal = uniform::judge_uniform(data, shape, size, modes, out.len(), second.len());
-        return codes::unknown_after(refusal);
+        let judged = uniform::judge_uniform(data, shape, size, modes, out.len(), second.len());
+        return numbers::answer_number(codes::unknown_after(judged));
     }
-    uniform::uniform_filter(data, shape, size, modes, second, out)
+    numbers::answer_number(uniform::uniform_filter(data, shape, size, modes, second, out))
 }
 
 // The least level of each cell's box: the minimum along every axis; the call `minimum_filter`.
@@ -234,7 +234,7 @@ pub extern "C" fn suvvokal_minimum_filter(
 {
     let modes = codes_cells::modes_of(codes, constants);
     if codes_cells::unknown_any(codes, shape) {
-        let refusal = min_max_judge::judge_filter(
+        let judged = min_max_judge::judge_filter(
             data,
             shape,
             size,
@@ -243,9 +243,9 @@ pub extern "C" fn suvvokal_minimum_filter(
             out,
             second.len(),
         );
-        return codes::unknown_after(refusal);
+        return numbers::answer_number(codes::unknown_after(judged));
     }
-    min_max::minimum_filter(data, shape, size, modes, origin, second, out)
+    numbers::answer_number(min_max::minimum_filter(data, shape, size, modes, origin, second, out))
 }
 
 // As `suvvokal_minimum_filter`, with the greatest level; the call `maximum_filter`. Of the rows 5 3 / 4 9 with size 2
@@ -271,7 +271,7 @@ pub extern "C" fn suvvokal_maximum_filter(
 {
     let modes = codes_cells::modes_of(codes, constants);
     if codes_cells::unknown_any(codes, shape) {
-        let refusal = min_max_judge::judge_filter(
+        let judged = min_max_judge::judge_filter(
             data,
             shape,
             size,
@@ -280,7 +280,7 @@ pub extern "C" fn suvvokal_maximum_filter(
             out,
             second.len(),
         );
-        return codes::unknown_after(refusal);
+        return numbers::answer_number(codes::unknown_after(judged));
     }
-    min_max::maximum_filter(data, shape, size, modes, origin, second, out)
+    numbers::answer_number(min_max::maximum_filter(data, shape, size, modes, origin, second, out))
 }

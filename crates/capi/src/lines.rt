@@ -44,7 +44,7 @@ pub extern "C" fn suvvokal_correlate1d(
 {
     let mode = codes::mode_of(code, constant);
     if 4 < code {
-        let refusal = correlate_judge::judge_correlate(
+        let judged = correlate_judge::judge_correlate(
             data,
             shape,
             weights,
@@ -54,9 +54,9 @@ pub extern "C" fn suvvokal_correlate1d(
             false,
             out.len(),
         );
-        return codes::unknown_after(refusal);
+        return numbers::answer_number(codes::unknown_after(judged));
     }
-    correlate1d::correlate1d(data, shape, weights, axis, mode, origin, out)
+    numbers::answer_number(correlate1d::correlate1d(data, shape, weights, axis, mode, origin, out))
 }
 
 // As `suvvokal_correlate1d` with the weights reversed and the origin changed; the call `convolve1d`.
@@ -79,7 +79,7 @@ pub extern "C" fn suvvokal_convolve1d(
 {
     let mode = codes::mode_of(code, constant);
     if 4 < code {
-        let refusal = correlate_judge::judge_correlate(
+        let judged = correlate_judge::judge_correlate(
             data,
             shape,
             weights,
@@ -89,9 +89,9 @@ pub extern "C" fn suvvokal_convolve1d(
             true,
             out.len(),
         );
-        return codes::unknown_after(refusal);
+        return numbers::answer_number(codes::unknown_after(judged));
     }
-    correlate1d::convolve1d(data, shape, weights, axis, mode, origin, out)
+    numbers::answer_number(correlate1d::convolve1d(data, shape, weights, axis, mode, origin, out))
 }
 
 // As `suvvokal_correlate1d`, of floats; the call `correlate1d_f64`. 12 is never given.
@@ -114,7 +114,7 @@ pub extern "C" fn suvvokal_correlate1d_f64(
 {
     let mode = codes::mode_of_f64(code, constant);
     if 4 < code {
-        let refusal = correlate_judge::judge_correlate_f64(
+        let judged = correlate_judge::judge_correlate_f64(
             data,
             shape,
             weights,
@@ -124,9 +124,11 @@ pub extern "C" fn suvvokal_correlate1d_f64(
             false,
             out.len(),
         );
-        return codes::unknown_after(refusal);
+        return numbers::answer_number(codes::unknown_after(judged));
     }
-    correlate1d_f64::correlate1d_f64(data, shape, weights, axis, mode, origin, out)
+    numbers::answer_number(correlate1d_f64::correlate1d_f64(
+        data, shape, weights, axis, mode, origin, out,
+    ))
 }
 
 // As `suvvokal_convolve1d`, of floats; the call `convolve1d_f64`. 12 is never given.
@@ -149,7 +151,7 @@ pub extern "C" fn suvvokal_convolve1d_f64(
 {
     let mode = codes::mode_of_f64(code, constant);
     if 4 < code {
-        let refusal = correlate_judge::judge_correlate_f64(
+        let judged = correlate_judge::judge_correlate_f64(
             data,
             shape,
             weights,
@@ -159,9 +161,11 @@ pub extern "C" fn suvvokal_convolve1d_f64(
             true,
             out.len(),
         );
-        return codes::unknown_after(refusal);
+        return numbers::answer_number(codes::unknown_after(judged));
     }
-    correlate1d_f64::convolve1d_f64(data, shape, weights, axis, mode, origin, out)
+    numbers::answer_number(correlate1d_f64::convolve1d_f64(
+        data, shape, weights, axis, mode, origin, out,
+    ))
 }
 
 // The mean of each window along one axis, cut toward zero; the call `uniform_filter1d`.
@@ -192,10 +196,10 @@ pub extern "C" fn suvvokal_uniform_filter1d(
 {
     let mode = codes::mode_of(code, constant);
     if 4 < code {
-        let refusal = uniform::judge_uniform1d(data, shape, size, axis, mode, out.len());
-        return codes::unknown_after(refusal);
+        let judged = uniform::judge_uniform1d(data, shape, size, axis, mode, out.len());
+        return numbers::answer_number(codes::unknown_after(judged));
     }
-    uniform::uniform_filter1d(data, shape, size, axis, mode, out)
+    numbers::answer_number(uniform::uniform_filter1d(data, shape, size, axis, mode, out))
 }
 
 // The least level of each window along one axis; the call `minimum_filter1d`.
@@ -228,10 +232,10 @@ pub extern "C" fn suvvokal_minimum_filter1d(
 {
     let mode = codes::mode_of(code, constant);
     if 4 < code {
-        let refusal = min_max_judge::judge_call(data, shape, size, axis, mode, origin, out);
-        return codes::unknown_after(refusal);
+        let judged = min_max_judge::judge_call(data, shape, size, axis, mode, origin, out);
+        return numbers::answer_number(codes::unknown_after(judged));
     }
-    min_max::minimum_filter1d(data, shape, size, axis, mode, origin, out)
+    numbers::answer_number(min_max::minimum_filter1d(data, shape, size, axis, mode, origin, out))
 }
 
 // As `suvvokal_minimum_filter1d`, with the greatest level; the call `maximum_filter1d`. Of 2 1 4 3 5 with size 3 under
@@ -254,8 +258,8 @@ pub extern "C" fn suvvokal_maximum_filter1d(
 {
     let mode = codes::mode_of(code, constant);
     if 4 < code {
-        let refusal = min_max_judge::judge_call(data, shape, size, axis, mode, origin, out);
-        return codes::unknown_after(refusal);
+        let judged = min_max_judge::judge_call(data, shape, size, axis, mode, origin, out);
+        return numbers::answer_number(codes::unknown_after(judged));
     }
-    min_max::maximum_filter1d(data, shape, size, axis, mode, origin, out)
+    numbers::answer_number(min_max::maximum_filter1d(data, shape, size, axis, mode, origin, out))
 }

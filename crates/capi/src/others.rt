@@ -20,7 +20,7 @@ pub extern "C" fn suvvokal_median_filter(mask: &[bool], shape: &[usize], out: &m
         (length out.old)) (median_answer shape.now mask.now) out.old result
         out.new }
 {
-    median::median_filter(mask, shape, out)
+    numbers::answer_number(median::median_filter(mask, shape, out))
 }
 
 // The symmetry class of whole weights: 0 NonSymmetric, 1 Symmetric, 2 AntiSymmetric.
@@ -54,5 +54,5 @@ pub extern "C" fn suvvokal_kernel3d(code: u8, out: &mut [bool]) -> u8
     ensures { Answers (coded (cells_judged (length out.old)) (unknown_kernel code))
         (kernel_cells (kernel_of code)) out.old result out.new }
 {
-    codes_cells::write_kernel(code, out)
+    numbers::answer_number(codes_cells::write_kernel(code, out))
 }

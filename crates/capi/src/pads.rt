@@ -40,10 +40,10 @@ pub extern "C" fn suvvokal_pad(
     let mode = codes::pad_mode_of(code, constant);
     let pairs = codes_cells::pairs_of(lefts, rights);
     if 8 < code {
-        let refusal = pad_judge::judge(data, shape, pairs, count, mode, out.len());
-        return codes::unknown_after(refusal);
+        let judged = pad_judge::judge(data, shape, pairs, count, mode, out.len());
+        return numbers::answer_number(codes::unknown_after(judged));
     }
-    pad::pad(data, shape, pairs, count, mode, out)
+    numbers::answer_number(pad::pad(data, shape, pairs, count, mode, out))
 }
 
 // As `suvvokal_pad`, but under constant the rim keeps what was lent; the call `pad_to`.
@@ -69,8 +69,8 @@ pub extern "C" fn suvvokal_pad_to(
     let mode = codes::pad_mode_of(code, constant);
     let pairs = codes_cells::pairs_of(lefts, rights);
     if 8 < code {
-        let refusal = pad_judge::judge(data, shape, pairs, count, mode, out.len());
-        return codes::unknown_after(refusal);
+        let judged = pad_judge::judge(data, shape, pairs, count, mode, out.len());
+        return numbers::answer_number(codes::unknown_after(judged));
     }
-    pad::pad_to(data, shape, pairs, count, mode, out)
+    numbers::answer_number(pad::pad_to(data, shape, pairs, count, mode, out))
 }

@@ -19,7 +19,7 @@ pub extern "C" fn suvvokal_read_recipe(file: &[u8], fields: &mut [i64]) -> u8
         (recipe_fields (read_of file.now).count (read_of file.now).steps) fields.old result
         fields.new }
 {
-    recipe_fields::read_fields(file, fields)
+    numbers::answer_number(recipe_fields::read_fields(file, fields))
 }
 
 // Writes the file of a recipe of numbers to lent bytes; the call `write_fields`.
@@ -37,7 +37,7 @@ pub extern "C" fn suvvokal_write_recipe(count: u8, fields: &[i64], out: &mut [u8
     ensures { Answers (numbers_judged count fields.now (length out.old))
         (file_of count (steps_from fields.now)) out.old result out.new }
 {
-    recipe_fields::write_fields(count, fields, out)
+    numbers::answer_number(recipe_fields::write_fields(count, fields, out))
 }
 
 // Plays the recipe of a file over a grid: its steps one after the other, each the call of its kind; the call `play`.
@@ -64,5 +64,5 @@ pub extern "C" fn suvvokal_play(
         (played shape.now (recipe_steps file.now) «data».now) out.old
         (second.old ∷ []) result out.new (second.new ∷ []) }
 {
-    recipe_play::play(file, data, shape, out, second)
+    numbers::answer_number(recipe_play::play(file, data, shape, out, second))
 }

@@ -1,19 +1,19 @@
 // The examples of the judges of `correlate_judge`, `gradient`, `uniform` and `median`; those of the calls are requests
 // of `ndimage`.
 use border::BorderMode;
-use examples_print::{line, test};
+use examples_print::{answer, test};
 use std::io::Print;
 
 // A kernel under Wrap, correlated and convolved.
 fn kernels(rt: &impl Print, cells: &[i64], shape: &[usize], weights: &[i64], sides: &[usize]) {
     let wrap = BorderMode::Wrap;
-    line(
+    answer(
         rt,
-        correlate_judge::judge_kernel(cells, shape, weights, sides, wrap, 0, false, 1) as usize,
+        correlate_judge::judge_kernel(cells, shape, weights, sides, wrap, 0, false, 1),
     );
-    line(
+    answer(
         rt,
-        correlate_judge::judge_kernel(cells, shape, weights, sides, wrap, 0, true, 1) as usize,
+        correlate_judge::judge_kernel(cells, shape, weights, sides, wrap, 0, true, 1),
     );
 }
 
@@ -25,14 +25,8 @@ pub(crate) fn one_cell(rt: &impl Print) {
 // Both axes, the second under Mirror.
 fn axes(rt: &impl Print, cells: &[i64], shape: &[usize]) {
     let modes = [BorderMode::Nearest, BorderMode::Mirror, BorderMode::Nearest];
-    line(
-        rt,
-        gradient::judge_gradient(cells, shape, 0, modes, 4, 4) as usize,
-    );
-    line(
-        rt,
-        gradient::judge_gradient(cells, shape, 1, modes, 4, 4) as usize,
-    );
+    answer(rt, gradient::judge_gradient(cells, shape, 0, modes, 4, 4));
+    answer(rt, gradient::judge_gradient(cells, shape, 1, modes, 4, 4));
 }
 
 // An axis of one cell.
@@ -43,14 +37,8 @@ pub(crate) fn gradients(rt: &impl Print) {
 // Sizes 5 and 7 on a line under Mirror.
 fn sizes(rt: &impl Print, cells: &[i64], shape: &[usize]) {
     let mirror = BorderMode::Mirror;
-    line(
-        rt,
-        uniform::judge_uniform1d(cells, shape, 5, 0, mirror, 3) as usize,
-    );
-    line(
-        rt,
-        uniform::judge_uniform1d(cells, shape, 7, 0, mirror, 3) as usize,
-    );
+    answer(rt, uniform::judge_uniform1d(cells, shape, 5, 0, mirror, 3));
+    answer(rt, uniform::judge_uniform1d(cells, shape, 7, 0, mirror, 3));
 }
 
 // Sizes 3 and 5 on one cell under Nearest.
@@ -60,25 +48,19 @@ fn small_sizes(rt: &impl Print, cells: &[i64], shape: &[usize]) {
         BorderMode::Nearest,
         BorderMode::Nearest,
     ];
-    line(
-        rt,
-        uniform::judge_uniform(cells, shape, 3, modes, 1, 1) as usize,
-    );
-    line(
-        rt,
-        uniform::judge_uniform(cells, shape, 5, modes, 1, 1) as usize,
-    );
+    answer(rt, uniform::judge_uniform(cells, shape, 3, modes, 1, 1));
+    answer(rt, uniform::judge_uniform(cells, shape, 5, modes, 1, 1));
 }
 
 // Size 5 under two borders, and under the same exchanged.
 fn own_sizes(rt: &impl Print, cells: &[i64], shape: &[usize], first: BorderMode, next: BorderMode) {
-    line(
+    answer(
         rt,
-        uniform::judge_uniform(cells, shape, 5, [first, next, first], 18, 18) as usize,
+        uniform::judge_uniform(cells, shape, 5, [first, next, first], 18, 18),
     );
-    line(
+    answer(
         rt,
-        uniform::judge_uniform(cells, shape, 5, [next, first, first], 18, 18) as usize,
+        uniform::judge_uniform(cells, shape, 5, [next, first, first], 18, 18),
     );
 }
 
@@ -100,8 +82,8 @@ fn cubes(rt: &impl Print, two: &[usize], single: &[usize], whole: &[usize]) {
     test(rt, median::bad_axes(two));
     test(rt, median::bad_single(whole));
     test(rt, median::bad_single(single));
-    line(rt, median::judge_median(single, 5, 4) as usize);
-    line(rt, median::judge_median(single, 4, 4) as usize);
+    answer(rt, median::judge_median(single, 5, 4));
+    answer(rt, median::judge_median(single, 4, 4));
 }
 
 pub(crate) fn masks(rt: &impl Print) {

@@ -1,6 +1,6 @@
 // The examples of `correlate_judge`: weights at their limits, and the numbers of calls, whole and float.
 use border::{BorderMode, BorderModeF64};
-use examples_print::{line, test};
+use examples_print::{answer, test};
 use std::io::Print;
 
 pub(crate) fn weights(rt: &impl Print) {
@@ -12,13 +12,13 @@ pub(crate) fn weights(rt: &impl Print) {
 // Under Mirror, correlated and convolved.
 fn both(rt: &impl Print, cells: &[i64], shape: &[usize], weights: &[i64]) {
     let mirror = BorderMode::Mirror;
-    line(
+    answer(
         rt,
-        correlate_judge::judge_correlate(cells, shape, weights, 0, mirror, 0, false, 3) as usize,
+        correlate_judge::judge_correlate(cells, shape, weights, 0, mirror, 0, false, 3),
     );
-    line(
+    answer(
         rt,
-        correlate_judge::judge_correlate(cells, shape, weights, 0, mirror, 0, true, 3) as usize,
+        correlate_judge::judge_correlate(cells, shape, weights, 0, mirror, 0, true, 3),
     );
 }
 
@@ -35,9 +35,9 @@ pub(crate) fn judges(rt: &impl Print) {
 // One cell and one weight under Wrap.
 fn single(rt: &impl Print, cells: &[f64], weights: &[f64], shape: &[usize]) {
     let wrap = BorderModeF64::Wrap;
-    line(
+    answer(
         rt,
-        correlate_judge::judge_correlate_f64(cells, shape, weights, 0, wrap, 0, false, 1) as usize,
+        correlate_judge::judge_correlate_f64(cells, shape, weights, 0, wrap, 0, false, 1),
     );
 }
 

@@ -1,5 +1,5 @@
 // The examples of `array` and `lanes`.
-use examples_print::{levels, line, test};
+use examples_print::{answer, levels, line, test};
 use std::io::Print;
 
 fn counted(rt: &impl Print, shape: &[usize]) {
@@ -62,15 +62,15 @@ pub(crate) fn levels_outside(rt: &impl Print) {
 }
 
 pub(crate) fn judges(rt: &impl Print) {
-    line(rt, array::judge_grid(&[1, 2, 3], &[2, 2], &[4]) as usize);
-    line(rt, array::judge_grid_f64(&[0.0 / 0.0], &[1], &[1]) as usize);
-    line(rt, array::judge_grid_f64(&[-0.0], &[1], &[1]) as usize);
+    answer(rt, array::judge_grid(&[1, 2, 3], &[2, 2], &[4]));
+    answer(rt, array::judge_grid_f64(&[0.0 / 0.0], &[1], &[1]));
+    answer(rt, array::judge_grid_f64(&[-0.0], &[1], &[1]));
 }
 
 // Cells for a grid of 2 times 2; a refused call leaves the output.
 fn assigned(rt: &impl Print, cells: &[i64]) {
     let mut out = [7i64; 4];
-    line(rt, array::assign(cells, &[2, 2], &mut out) as usize);
+    answer(rt, array::assign(cells, &[2, 2], &mut out));
     levels(rt, &out);
 }
 

@@ -1,6 +1,6 @@
 // The examples of `min_max_judge`; those of `min_max` are requests of `ndimage`.
 use border::BorderMode;
-use examples_print::{line, test};
+use examples_print::{answer, test};
 use std::io::Print;
 
 fn grid_number(
@@ -11,9 +11,9 @@ fn grid_number(
     modes: [BorderMode; 3],
     second: usize,
 ) {
-    line(
+    answer(
         rt,
-        min_max_judge::judge_filter(cells, shape, size, modes, 0, cells, second) as usize,
+        min_max_judge::judge_filter(cells, shape, size, modes, 0, cells, second),
     );
 }
 
@@ -22,13 +22,13 @@ fn grid_number(
 fn numbers(rt: &impl Print, cells: &[i64], shape: &[usize]) {
     let nearest = BorderMode::Nearest;
     let mirror = BorderMode::Mirror;
-    line(
+    answer(
         rt,
-        min_max_judge::judge_call(cells, shape, 2, 0, nearest, 1, cells) as usize,
+        min_max_judge::judge_call(cells, shape, 2, 0, nearest, 1, cells),
     );
-    line(
+    answer(
         rt,
-        min_max_judge::judge_call(cells, shape, 2, 2, nearest, 0, cells) as usize,
+        min_max_judge::judge_call(cells, shape, 2, 2, nearest, 0, cells),
     );
     grid_number(rt, cells, shape, 5, [mirror, nearest, nearest], 4);
     grid_number(rt, cells, shape, 5, [nearest, mirror, nearest], 4);

@@ -220,7 +220,7 @@ fn calls(rt: &impl Print) {
     let mut out = [9i64; 8192];
     let mut second = [9i64; 8192];
     let state = read_text(b"1 3 4 2 7", 4, &mut lengths, &mut levels);
-    let number = play_text::answer(
+    let answer = play_text::answer(
         b"LKS\x00\x01\x01\x00\x00\x02\x00\x02\x00\x00",
         state,
         &lengths,
@@ -228,7 +228,7 @@ fn calls(rt: &impl Print) {
         &mut out,
         &mut second,
     );
-    examples_print::line(rt, number as usize);
+    examples_print::answer(rt, answer);
     first_four(rt, &out);
     first_four(rt, &second);
     let mut text = [0u8; 42];

@@ -9,9 +9,9 @@ ghost use Rattle.min_max_judge.specs.Judge.{grid_call_of, filter_judged};
 ghost use Rattle.min_max_axis.specs.Lane.{order_of};
 ghost use Rattle.min_max_spec.specs.Filters.{filter_answer};
 
-use numbers::Refusal;
 use border::BorderMode;
 use min_max_axis::Extreme;
+use numbers::Refusal;
 
 // Fills out with the answer of an accepted grid call; second holds what a pass between leaves.
 fn passes(

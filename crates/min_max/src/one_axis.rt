@@ -8,9 +8,9 @@ ghost use Rattle.min_max_spec.specs.Run.{answer_of};
 ghost use Rattle.min_max_judge.specs.Judge.{call_of};
 ghost use Rattle.min_max_axis.specs.Lane.{order_of};
 
-use numbers::Refusal;
 use border::BorderMode;
 use min_max_axis::Extreme;
+use numbers::Refusal;
 
 // Judges a one-axis call, and fills out where it is accepted.
 fn filter1d(

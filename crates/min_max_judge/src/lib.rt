@@ -8,8 +8,8 @@ ghost use Rattle.min_max_spec.specs.Call.{window_judged, call_judged};
 ghost use Rattle.min_max_judge.specs.Judge.{call_of, grid_call_of, size_judged, filter_axes_judged, filter_judged};
 ghost use Rattle.min_max_judge.specs.Rows.{MinMaxJudgeRows};
 
-use numbers::Refusal;
 use border::BorderMode;
+use numbers::Refusal;
 
 // Conditions 5 and 7, which every window has.
 fn judge_size(size: usize, origin: isize) -> Result<(), Refusal>
@@ -83,7 +83,12 @@ pub fn judge_call(
 }
 
 // Conditions 5, 7, 9 and 11 of a window along every axis, each with its own border.
-fn judge_axes(shape: &[usize], size: usize, modes: [BorderMode; 3], origin: isize) -> Result<(), Refusal>
+fn judge_axes(
+    shape: &[usize],
+    size: usize,
+    modes: [BorderMode; 3],
+    origin: isize,
+) -> Result<(), Refusal>
     ensures { answer_number result ≡ refusal_of (filter_axes_judged (grid_call_of shape.now size modes origin [])) }
 {
     judge_size(size, origin)?;

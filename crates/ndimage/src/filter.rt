@@ -1,9 +1,10 @@
-// The filters of whole levels: each calls the library on what was read, and answers the call's number.
+// The filters of whole levels: each calls the library on what was read, and answers what the call answers.
 use border::BorderMode;
 use ndimage_parts::requests::{
     CORRELATE, CORRELATE1D, MAXIMUM, MINIMUM, MINIMUM1D, PREWITT, UNIFORM,
 };
 use ndimage_parts::state::{AXIS, REQUEST, SECOND, SIZE, State};
+use numbers::Refusal;
 
 // Grid kernels.
 pub(crate) fn kernel(
@@ -12,7 +13,7 @@ pub(crate) fn kernel(
     data: &[i64],
     shape: &[usize],
     out: &mut [i64],
-) -> u8 {
+) -> Result<(), Refusal> {
     let weights = ndimage_arguments::weights(state, levels);
     let sides = ndimage_arguments::sides(state);
     let mode = ndimage_arguments::border_of(state, levels);
@@ -30,7 +31,7 @@ pub(crate) fn weigh(
     data: &[i64],
     shape: &[usize],
     out: &mut [i64],
-) -> u8 {
+) -> Result<(), Refusal> {
     let weights = ndimage_arguments::weights(state, levels);
     let mode = ndimage_arguments::border_of(state, levels);
     let origin = ndimage_arguments::origin_of(levels);
@@ -47,7 +48,7 @@ pub(crate) fn extreme1d(
     data: &[i64],
     shape: &[usize],
     out: &mut [i64],
-) -> u8 {
+) -> Result<(), Refusal> {
     let mode = ndimage_arguments::border_of(state, levels);
     let origin = ndimage_arguments::origin_of(levels);
     let size = state[SIZE];
@@ -65,7 +66,7 @@ pub(crate) fn uniform1d(
     data: &[i64],
     shape: &[usize],
     out: &mut [i64],
-) -> u8 {
+) -> Result<(), Refusal> {
     let mode = ndimage_arguments::border_of(state, levels);
     uniform::uniform_filter1d(data, shape, state[SIZE], state[AXIS], mode, out)
 }
@@ -80,7 +81,7 @@ fn extreme(
     origin: isize,
     second: &mut [i64],
     out: &mut [i64],
-) -> u8 {
+) -> Result<(), Refusal> {
     if request == MINIMUM {
         return min_max::minimum_filter(data, shape, size, modes, origin, second, out);
     }
@@ -95,7 +96,7 @@ fn gradient(
     modes: [BorderMode; 3],
     second: &mut [i64],
     out: &mut [i64],
-) -> u8 {
+) -> Result<(), Refusal> {
     if request == PREWITT {
         return gradient::prewitt(data, shape, axis, modes, second, out);
     }
@@ -111,7 +112,7 @@ fn two_grids(
     origin: isize,
     second: &mut [i64],
     out: &mut [i64],
-) -> u8 {
+) -> Result<(), Refusal> {
     let request = state[REQUEST];
     match request {
         UNIFORM => uniform::uniform_filter(data, shape, state[SIZE], modes, second, out),
@@ -136,7 +137,7 @@ pub(crate) fn every_axis(
     data: &[i64],
     shape: &[usize],
     out: &mut [i64],
-) -> u8 {
+) -> Result<(), Refusal> {
     let mut second = [0i64; 8193];
     let n = ndimage_arguments::lent(state[SECOND], 8193);
     let modes = ndimage_arguments::borders_of(state, levels);

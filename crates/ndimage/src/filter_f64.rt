@@ -2,10 +2,17 @@
 use border::BorderModeF64;
 use ndimage_parts::requests::CORRELATE1D;
 use ndimage_parts::state::{AXIS, Floats, OUT, REQUEST, State};
+use numbers::Refusal;
 use std::io::Print;
 
-// The call, and its number.
-fn apply(state: &State, floats: &[f64], mode: BorderModeF64, origin: i64, out: &mut [f64]) -> u8 {
+// The call, and its answer.
+fn apply(
+    state: &State,
+    floats: &[f64],
+    mode: BorderModeF64,
+    origin: i64,
+    out: &mut [f64],
+) -> Result<(), Refusal> {
     let shape = ndimage_arguments::shape(state);
     let data = ndimage_arguments::data_f64(state, floats);
     let weights = ndimage_arguments::weights_f64(state, floats);
@@ -24,24 +31,23 @@ fn apply(state: &State, floats: &[f64], mode: BorderModeF64, origin: i64, out: &
     correlate1d_f64::convolve1d_f64(data, shape, weights, axis, mode, origin as isize, out)
 }
 
-fn answered(rt: &impl Print, refusal: u8, out: &[f64]) {
-    if refusal != 0 {
-        ndimage_write::refused(rt, refusal);
-        return;
+fn answered(rt: &impl Print, answer: Result<(), Refusal>, out: &[f64]) {
+    match answer {
+        Ok(()) => ndimage_write::levels_f64(rt, out),
+        Err(refusal) => ndimage_write::refused(rt, refusal as u8),
     }
-    ndimage_write::levels_f64(rt, out);
 }
 
 // The call and its answer.
 fn answer(rt: &impl Print, state: &State, floats: &Floats, origin: i64, out: &mut [f64]) {
-    let refusal = apply(
+    let answer = apply(
         state,
         floats,
         ndimage_arguments::border_of_f64(state, floats),
         origin,
         out,
     );
-    answered(rt, refusal, out);
+    answered(rt, answer, out);
 }
 
 pub(crate) fn filter(rt: &impl Print, state: &State, floats: &Floats, origin: i64) {

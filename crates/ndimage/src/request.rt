@@ -5,10 +5,11 @@ use ndimage_parts::requests::{
     PAD, PAD_TO, PLAY, READ_RECIPE, SYMMETRY, UNIFORM1D, WRITE_RECIPE,
 };
 use ndimage_parts::state::{File, Floats, Levels, ORIGIN_AT, OUT, REQUEST, State};
+use numbers::Refusal;
 use std::io::Print;
 
-// The call, and its number.
-fn apply(state: &State, levels: &[i64], file: &File, out: &mut [i64]) -> u8 {
+// The call, and its answer.
+fn apply(state: &State, levels: &[i64], file: &File, out: &mut [i64]) -> Result<(), Refusal> {
     let shape = ndimage_arguments::shape(state);
     let data = ndimage_arguments::data(state, levels);
     let request = state[REQUEST];
@@ -18,29 +19,40 @@ fn apply(state: &State, levels: &[i64], file: &File, out: &mut [i64]) -> u8 {
         MINIMUM1D | MAXIMUM1D => crate::filter::extreme1d(state, levels, data, shape, out),
         UNIFORM1D => crate::filter::uniform1d(state, levels, data, shape, out),
         PAD | PAD_TO => crate::padding::padding(state, levels, data, shape, out),
-        MEDIAN => crate::mask::median(data, shape, out),
         PLAY => crate::recipe::play(state, file, data, shape, out),
         _ => crate::filter::every_axis(state, levels, data, shape, out),
     }
 }
 
-// A number or the levels; a fault where a mask has other levels than 0 and 1.
-fn answered(rt: &impl Print, refusal: u8, out: &[i64]) -> usize {
-    if refusal == crate::mask::ODD {
-        return ndimage_write::MASK;
+// The number of a refusal, or the levels.
+fn answered(rt: &impl Print, answer: Result<(), Refusal>, out: &[i64]) {
+    match answer {
+        Ok(()) => ndimage_write::levels(rt, out),
+        Err(refusal) => ndimage_write::refused(rt, refusal as u8),
     }
-    if refusal != 0 {
-        ndimage_write::refused(rt, refusal);
-        return 0;
-    }
-    ndimage_write::levels(rt, out);
-    0
 }
 
-// The call and its answer.
+// The median and its answer; a fault where the mask has other levels than 0 and 1.
+fn median(rt: &impl Print, state: &State, levels: &[i64], out: &mut [i64]) -> usize {
+    let shape = ndimage_arguments::shape(state);
+    let data = ndimage_arguments::data(state, levels);
+    match crate::mask::median(data, shape, out) {
+        Some(answer) => {
+            answered(rt, answer, out);
+            0
+        }
+        None => ndimage_write::MASK,
+    }
+}
+
+// The call and its answer; what is wrong with it, 0 for nothing.
 fn answer(rt: &impl Print, state: &State, levels: &[i64], file: &File, out: &mut [i64]) -> usize {
-    let refusal = apply(state, levels, file, out);
-    answered(rt, refusal, out)
+    if state[REQUEST] == MEDIAN {
+        return median(rt, state, levels, out);
+    }
+    let answer = apply(state, levels, file, out);
+    answered(rt, answer, out);
+    0
 }
 
 // A request with an output of whole levels; what is wrong with it, 0 for nothing.

@@ -11,8 +11,7 @@ use lib.ListN.{length, get_or, take}
 use lib.Seq.{take_all, get_or-take, length-take-le}
 use Rattle.numbers.specs.Refusal.{refusal_of}
 use Rattle.numbers.proofs.Chain.{judged-append}
-use Rattle.recipe_spec.specs.declared.Recipe.{Recipe}
-use Rattle.recipe_spec.specs.Recipes.{bad_mark, bad_step_count, file_judged, read_of}
+use Rattle.recipe_spec.specs.Recipes.{bad_mark, bad_step_count, file_judged, Handed, read_of}
 use Rattle.recipe_spec.specs.Player.{played, recipe_steps}
 use Rattle.recipe_spec.proofs.Judge.{count_is}
 use Rattle.recipe_spec.proofs.Read.{read_13, read_14}
@@ -70,7 +69,7 @@ module _ (f : List ℕ) where
       go false e = ap read_of (take_all (longest_file + 1) f (ltb-false (longest_file + 1) (length f) e))
 
   same_file : refusal_of (file_judged (take (longest_file + 1) f)) ≡ refusal_of (file_judged f)
-  same_file = ap (λ (r : Recipe). r.number) same_recipe
+  same_file = ap (λ (r : Handed). r.number) same_recipe
 
   same_steps : recipe_steps (take (longest_file + 1) f) ≡ recipe_steps f
   same_steps = (λ i. take (same_recipe i).count (same_recipe i).steps)

@@ -1,9 +1,11 @@
 // A file played over the grid of a text: the number and the levels.
 ghost use Rattle.std.specs.Prelude.{◌≡◌, ◌||◌, ltb};
+ghost use Rattle.numbers.specs.Number.{answer_number};
 ghost use Rattle.grid_text_spec.specs.Machine.{machine};
 ghost use Rattle.play_text.specs.PlayText.{PlayedFrom};
 
 use grid_text_spec::TextState;
+use numbers::Refusal;
 
 // Whether a lent length is too short for the axes or the cells of a grid.
 fn lacks_room(
@@ -16,16 +18,7 @@ fn lacks_room(
 ) -> bool
     ensures { result ≡ ltb lengths axes || (ltb levels cells || (ltb out cells || ltb second cells)) }
 {
-    if lengths < axes {
-        return true;
-    }
-    if levels < cells {
-        return true;
-    }
-    if out < cells {
-        return true;
-    }
-    second < cells
+    lengths < axes || levels < cells || out < cells || second < cells
 }
 
 // Plays a file over the grid of a text that was fed to the machine of `grid_text`, and one line feed after it.
@@ -47,19 +40,12 @@ pub fn answer(
     levels: &[i64],
     out: &mut [i64],
     second: &mut [i64],
-) -> u8
+) -> Result<(), Refusal>
     ensures { PlayedFrom file.now (machine state lengths.now levels.now)
-        out.old second.old result out.new second.new }
+        out.old second.old (answer_number result) out.new second.new }
 {
-    let recipe = recipe_file::read_recipe(file);
-    let number = recipe.number;
-    if number != 0 {
-        return number;
-    }
-    let refusal = numbers::answer_number(grid_text::finish(state));
-    if refusal != 0 {
-        return refusal;
-    }
+    recipe_file::read_recipe(file)?;
+    grid_text::finish(state)?;
     let shape = state.shape;
     let axes = shape.axes as usize;
     let cells = shape.cells as usize;
@@ -71,7 +57,7 @@ pub fn answer(
         out.len(),
         second.len(),
     ) {
-        return numbers::LENGTH;
+        return Err(Refusal::Length);
     }
     recipe_play::play(
         file,

@@ -12,7 +12,7 @@ fn write_number(number: u8, text: &mut [u8]) -> usize
     ensures value { result ≡ lines_count (pos number ∷ []) text.old }
     ensures text_after { text.new ≡ lines_in (pos number ∷ []) text.old }
 {
-    grid_text::write_lines(&[number as i64], text)
+    grid_text::write_lines(&[i64::from(number)], text)
 }
 
 // Plays a file over the grid of a text, as `answer` does, and writes what the program prints: one level a line, or the
@@ -37,7 +37,7 @@ pub fn respond(
         out.old second.old text.old result out.new second.new
         text.new }
 {
-    let number = answer(file, state, lengths, levels, out, second);
+    let number = numbers::answer_number(answer(file, state, lengths, levels, out, second));
     if number != 0 {
         return write_number(number, text);
     }

@@ -1,5 +1,5 @@
 -- `capi::grids::suvvokal_correlate` meets its contract: the library's answers, or the refusal of an unknown code.
-use mathlib.Core.Path.{◌≡◌}
+use mathlib.Core.Path.{◌≡◌, ◌∙◌}
 use mir.Syntax.{w64}
 use mir.Val.{to_z, of_z}
 use borrow.Author.Rules.{rules}
@@ -12,7 +12,7 @@ returns-then-code-gt4 c =
     let k : to_z w64 (of_z w64 a.constant) ≡ a.constant = search rules in
     let o : to_z w64 (of_z w64 a.origin) ≡ a.origin = search rules in
     let m = rw k at c.mode_of-mode.ensures in
-    answers_unknown _ 4 _ (tt, (tt, (tt, (tt, (tt, (tt, (tt, (tt, (tt, tt))))))))) c.if-code-gt4.true (rw (m, o) at c.judge_kernel-refusal.ensures) c.unknown_after.ensures
+    answers_unknown _ 4 _ (tt, (tt, (tt, (tt, (tt, (tt, (tt, (tt, (tt, tt))))))))) c.if-code-gt4.true (rw (m, o) at c.judge_kernel-judged.ensures) (c.answer_number.ensures ∙ c.unknown_after.ensures)
 
 pub returns : goal.returns
 returns c =
@@ -20,4 +20,4 @@ returns c =
     let k : to_z w64 (of_z w64 a.constant) ≡ a.constant = search rules in
     let o : to_z w64 (of_z w64 a.origin) ≡ a.origin = search rules in
     let m = rw k at c.mode_of-mode.ensures in
-    answers_known _ 4 c.if-code-gt4.false (rw (m, o) at c.correlate.ensures)
+    rw c.answer_number-2.ensures (answers_known _ 4 c.if-code-gt4.false (rw (m, o) at c.correlate.ensures))

@@ -1,5 +1,5 @@
 -- `capi::grids::suvvokal_minimum_filter` meets its contract: the library's answers, or the refusal of an unknown code.
-use mathlib.Core.Path.{◌≡◌}
+use mathlib.Core.Path.{◌≡◌, ◌∙◌}
 use mir.Syntax.{w64}
 use mir.Val.{to_z, of_z}
 use lib.IntN.{pos}
@@ -14,7 +14,7 @@ returns-then-unknown_any c =
     let a = c.args in
     let o : to_z w64 (of_z w64 a.origin) ≡ a.origin = search rules in
     let u = condition_is c.unknown_any.ensures c.if-unknown_any.true in
-    scratch_unknown (pos 0) _ _ (tt, (tt, (tt, (tt, (tt, (tt, (tt, tt))))))) u (rw (m, o) at c.judge_filter-refusal.ensures) c.unknown_after.ensures
+    scratch_unknown (pos 0) _ _ (tt, (tt, (tt, (tt, (tt, (tt, (tt, tt))))))) u (rw (m, o) at c.judge_filter-judged.ensures) (c.answer_number.ensures ∙ c.unknown_after.ensures)
 
 pub returns : goal.returns
 returns c =
@@ -22,4 +22,4 @@ returns c =
     let a = c.args in
     let o : to_z w64 (of_z w64 a.origin) ≡ a.origin = search rules in
     let u = condition_is c.unknown_any.ensures c.if-unknown_any.false in
-    scratch_known (pos 0) _ u (rw (m, o) at c.minimum_filter.ensures)
+    rw c.answer_number-2.ensures (scratch_known (pos 0) _ u (rw (m, o) at c.minimum_filter.ensures))

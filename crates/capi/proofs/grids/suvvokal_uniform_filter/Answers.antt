@@ -1,4 +1,5 @@
 -- `capi::grids::suvvokal_uniform_filter` meets its contract: the library's answers, or the refusal of an unknown code.
+use mathlib.Core.Path.{◌∙◌}
 use lib.IntN.{pos}
 use Rattle.numbers.proofs.Tests.{condition_is}
 use Rattle.codes.proofs.Coded.{scratch_known, scratch_unknown}
@@ -8,10 +9,10 @@ pub returns-then-unknown_any : goal.returns-then-unknown_any
 returns-then-unknown_any c =
     let m = c.modes_of-modes.ensures in
     let u = condition_is c.unknown_any.ensures c.if-unknown_any.true in
-    scratch_unknown (pos 0) _ _ (tt, (tt, (tt, (tt, (tt, (tt, (tt, tt))))))) u (rw m at c.judge_uniform-refusal.ensures) c.unknown_after.ensures
+    scratch_unknown (pos 0) _ _ (tt, (tt, (tt, (tt, (tt, (tt, (tt, tt))))))) u (rw m at c.judge_uniform-judged.ensures) (c.answer_number.ensures ∙ c.unknown_after.ensures)
 
 pub returns : goal.returns
 returns c =
     let m = c.modes_of-modes.ensures in
     let u = condition_is c.unknown_any.ensures c.if-unknown_any.false in
-    scratch_known (pos 0) _ u (rw m at c.uniform_filter.ensures)
+    rw c.answer_number-2.ensures (scratch_known (pos 0) _ u (rw m at c.uniform_filter.ensures))

@@ -1,5 +1,5 @@
 -- `capi::lines::suvvokal_convolve1d_f64` meets its contract: the library's answers, or the refusal of an unknown code.
-use mathlib.Core.Path.{◌≡◌}
+use mathlib.Core.Path.{◌≡◌, ◌∙◌}
 use mir.Syntax.{w64}
 use mir.Val.{to_z, of_z}
 use borrow.Author.Rules.{rules}
@@ -11,11 +11,11 @@ returns-then-code-gt4 c =
     let a = c.args in
     let o : to_z w64 (of_z w64 a.origin) ≡ a.origin = search rules in
     let m = c.mode_of_f64-mode.ensures in
-    answers_unknown _ 4 _ (tt, (tt, (tt, (tt, (tt, (tt, (tt, (tt, (tt, tt))))))))) c.if-code-gt4.true (rw (m, o) at c.judge_correlate_f64-refusal.ensures) c.unknown_after.ensures
+    answers_unknown _ 4 _ (tt, (tt, (tt, (tt, (tt, (tt, (tt, (tt, (tt, tt))))))))) c.if-code-gt4.true (rw (m, o) at c.judge_correlate_f64-judged.ensures) (c.answer_number.ensures ∙ c.unknown_after.ensures)
 
 pub returns : goal.returns
 returns c =
     let a = c.args in
     let o : to_z w64 (of_z w64 a.origin) ≡ a.origin = search rules in
     let m = c.mode_of_f64-mode.ensures in
-    answers_known _ 4 c.if-code-gt4.false (rw (m, o) at c.convolve1d_f64.ensures)
+    rw c.answer_number-2.ensures (answers_known _ 4 c.if-code-gt4.false (rw (m, o) at c.convolve1d_f64.ensures))

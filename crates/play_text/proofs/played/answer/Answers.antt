@@ -1,30 +1,37 @@
 -- `answer` meets its contract: the file's number, the text's, and what the player leaves at the front of what is lent.
-use mathlib.Core.Path.{sym, ap, ◌∙◌}
+use mathlib.Core.Path.{refl, sym, ap, ◌∙◌}
 use lib.ListN.{length}
 use lib.Seq.{length-take-le}
-use Rattle.recipe_spec.specs.declared.Recipe.{Recipe}
+use Rattle.std.proofs.lemmas.Result.{err_from_is_err_and}
+use Rattle.numbers.specs.Number.{answer_number}
+use Rattle.numbers.proofs.Number.{number_some}
+use Rattle.recipe_spec.specs.Recipes.{Handed}
 use Rattle.play_text.proofs.Fed.{room_is}
 use Rattle.play_text.proofs.FromText.{from_file, from_text, from_room, from_play}
 use Rattle.play_text.proofs.played.answer.Goals as goal
 
-pub returns-then-number-ne0 : goal.returns-then-number-ne0
-returns-then-number-ne0 c =
+pub returns-in_err-read_recipe : goal.returns-in_err-read_recipe
+returns-in_err-read_recipe c =
     let a = c.args in
-    from_file a.file.now a.state a.lengths.now a.levels.now a.out.now a.second.now (ap (λ (x : Recipe). x.number) c.read_recipe-recipe.ensures.hands) c.if-number-ne0.true
+    let p = err_from_is_err_and c.from_residual.result c.from_residual.ensures.1 in
+    rw (p.1, p.2)
+    (from_file a.file.now a.state a.lengths.now a.levels.now a.out.now a.second.now
+    (ap (λ (h : Handed). h.number) c.in_err-read_recipe.ensures.hands) (number_some _))
 
-pub returns-then-refusal-ne0 : goal.returns-then-refusal-ne0
-returns-then-refusal-ne0 c =
+pub returns-in_err-finish : goal.returns-in_err-finish
+returns-in_err-finish c =
     let a = c.args in
-    from_text a.file.now a.state a.lengths.now a.levels.now a.out.now a.second.now
-    (ap (λ (x : Recipe). x.number) c.read_recipe-recipe.ensures.hands) c.if-number-ne0.false c.finish-refusal.ensures c.if-refusal-ne0.true
+    let p = err_from_is_err_and c.from_residual-in_err-finish.result c.from_residual-in_err-finish.ensures.1 in
+    rw (p.1, p.2)
+    (from_text a.file.now a.state a.lengths.now a.levels.now a.out.now a.second.now
+    (ap (λ (h : Handed). h.number) c.in_ok-read_recipe.ensures.hands) refl c.in_err-finish.ensures (number_some _))
 
 pub returns-then-lacks_room : goal.returns-then-lacks_room
 returns-then-lacks_room c =
     let a = c.args in
     from_room a.file.now a.state a.lengths.now a.levels.now a.out.now a.second.now
-    (ap (λ (x : Recipe). x.number) c.read_recipe-recipe.ensures.hands)
-    c.if-number-ne0.false
-    c.finish-refusal.ensures c.if-refusal-ne0.false (sym c.lacks_room.ensures ∙ c.if-lacks_room.true)
+    (ap (λ (h : Handed). h.number) c.in_ok-read_recipe.ensures.hands) refl c.in_ok-finish.ensures refl
+    (sym c.lacks_room.ensures ∙ c.if-lacks_room.true)
 
 pub slice_bounds-play-end : goal.slice_bounds-play-end
 slice_bounds-play-end c =
@@ -67,7 +74,5 @@ returns c =
     let a = c.args in
     let p = c.play in
     from_play a.file.now a.state a.lengths.now a.levels.now a.out.now a.second.now
-    (ap (λ (x : Recipe). x.number) c.read_recipe-recipe.ensures.hands)
-    c.if-number-ne0.false
-    c.finish-refusal.ensures
-    c.if-refusal-ne0.false p.new.out p.new.second p.result p.ensures
+    (ap (λ (h : Handed). h.number) c.in_ok-read_recipe.ensures.hands) refl c.in_ok-finish.ensures refl
+    p.new.out p.new.second (answer_number p.result) p.ensures
