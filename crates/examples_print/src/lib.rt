@@ -55,23 +55,18 @@ pub fn level_line(rt: &impl Print, z: i64) {
 
 // Writes the levels on one line, each with a space after it: 4 2 7 1.
 pub fn levels(rt: &impl Print, cells: &[i64]) {
-    let mut i = 0;
-    while i < cells.len() {
-        let z = cells[i];
-        level(rt, z);
+    for z in cells {
+        level(rt, *z);
         space(rt);
-        i += 1;
     }
     end(rt);
 }
 
 // Writes a mask on one line, 1 for true and 0 for false, each with a space after it: 1 0 1.
 fn marks(rt: &impl Print, cells: &[bool]) {
-    let mut i = 0;
-    while i < cells.len() {
-        number(rt, cells[i] as usize);
+    for cell in cells {
+        number(rt, usize::from(*cell));
         space(rt);
-        i += 1;
     }
     end(rt);
 }

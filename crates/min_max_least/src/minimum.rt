@@ -30,6 +30,7 @@ fn minimum_cells(line: &[i64], len: usize, out: &mut [i64])
             count = 1;
         } else {
             let mut last = line[i - 1];
+            // A `while`: pairs leave the ring at its end, and no index is counted.
             while v <= last {
                 count -= 1;
                 let b = count - 1;
@@ -61,6 +62,7 @@ fn minimum_cells(line: &[i64], len: usize, out: &mut [i64])
             count = 1;
         } else {
             let mut last = line[i - 1];
+            // A `while`: pairs leave the ring at its end, and no index is counted.
             while v <= last {
                 count -= 1;
                 let b = place(start + count - 1);

@@ -73,8 +73,7 @@ fn main(rt: HostRuntime) {
     let mut file = [0u8; 128];
     let mut out = [0i64; 32769];
     let mut input = rt.stdin();
-    let mut turns = u64::MAX;
-    while turns > 0 {
+    for _ in 0..u64::MAX {
         serve(
             &rt,
             &mut input,
@@ -88,6 +87,5 @@ fn main(rt: HostRuntime) {
         if cursor::over(&state) {
             break;
         }
-        turns -= 1;
     }
 }

@@ -30,6 +30,7 @@ fn read_full(source: &mut impl Read, bytes: &mut [u8]) -> usize
     ensures prefix { result ≡ length (take result bytes.new) }
 {
     let mut done = 0;
+    // A `while`: a read moves on by as many bytes as it brings.
     while done < bytes.len() {
         let n = bring(source, &mut bytes[done..]);
         if n == 0 {
@@ -51,17 +52,6 @@ fn read_file<R: Files>(rt: &R, file: &mut [u8]) -> usize
     }
 }
 
-// How many parts more are read: none after a part of no bytes.
-fn turns_left(n: usize, turns: u64) -> u64
-    requires { 0 < turns }
-    ensures { result < turns }
-{
-    if n == 0 {
-        return 0;
-    }
-    turns - 1
-}
-
 // The state after standard input, part after part, and one line feed more.
 fn read_text(
     input: &mut impl Read,
@@ -70,11 +60,12 @@ fn read_text(
     levels: &mut [i64],
 ) -> TextState {
     let mut state = grid_text::start();
-    let mut turns = u64::MAX;
-    while turns > 0 {
+    for _ in 0..u64::MAX {
         let n = bring(input, part);
+        if n == 0 {
+            break;
+        }
         state = grid_text::feed(state, &part[..n], lengths, levels);
-        turns = turns_left(n, turns);
     }
     grid_text::feed(state, b"\n", lengths, levels)
 }

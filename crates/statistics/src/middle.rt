@@ -64,6 +64,7 @@ fn level_of_rank(levels: &[i32], low: i64, high: i64, k: usize) -> i32
 {
     let mut from = 0;
     let mut to = distance(low, high);
+    // A `while`: a bisection has no index to count.
     while from < to {
         let middle = from + (to - from) / 2;
         let z = above(low, middle);

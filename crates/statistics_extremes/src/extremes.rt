@@ -71,6 +71,7 @@ pub fn maximum(line: &[i64]) -> i64
     let mut b = a;
     let mut c = a;
     let mut d = a;
+    // A `while`, since `i` goes on to the levels that are left.
     let mut i = 1;
     while i + 3 < n {
         a = a.max(line[i]);
