@@ -36,18 +36,20 @@ fn differ_f64(right: f64, left: f64, turned: bool) -> bool
     above_epsilon(apart)
 }
 
-// `state`, unless a mirrored pair differs.
+// `state`, unless a mirrored pair differs: the loop is left at the first one that does.
 fn check_pairs_i64(weights: &[i64], turned: bool, state: SymmetryState) -> SymmetryState
     requires { length weights.now % 2 ≡ 1 }
     ensures { result ≡ cond (pair_differs (differ_z turned) (pos 0) weights.now) NonSymmetric state }
 {
     let half = weights.len() / 2;
+    let mut found = state;
     for i in 1..=half {
         if differ_i64(weights[half + i], weights[half - i], turned) {
-            return SymmetryState::NonSymmetric;
+            found = SymmetryState::NonSymmetric;
+            break;
         }
     }
-    state
+    found
 }
 
 // The same of floats, of the weights as they are applied.
@@ -62,14 +64,16 @@ fn check_pairs_f64(
         NonSymmetric state }
 {
     let middle = weights.len() / 2;
+    let mut found = state;
     for i in 1..=middle {
         let right = weight_at_f64(weights, backward, middle + i);
         let left = weight_at_f64(weights, backward, middle - i);
         if differ_f64(right, left, turned) {
-            return SymmetryState::NonSymmetric;
+            found = SymmetryState::NonSymmetric;
+            break;
         }
     }
-    state
+    found
 }
 
 // The symmetry class of whole weights.

@@ -1,4 +1,5 @@
--- `check_pairs_f64` meets its contract. The loop's invariant: no pair at a smaller distance differs.
+-- `check_pairs_f64` meets its contract. The loop's invariant: no pair at a smaller distance differs, and the state is the one
+-- handed in. The measure is how many distances are left.
 use mathlib.Core.Path.{◌≡◌, sym, ◌∙◌}
 use mathlib.Core.Bool.{Bool}
 use native.Mathlib.Omega.{arith}
@@ -20,21 +21,21 @@ loop-i-preserved c =
     let d = c in
     let l = d.loop-i in
     let a = d.args in
-    passed_more _ _ _ _ _ _ l.i l.invariant (omega arith)
+    passed_more _ _ _ _ _ l.found-1 l.i l.invariant (omega arith)
     (told a.turned d.weight_at_f64-right.ensures d.weight_at_f64-left.ensures d.differ_f64.ensures c.if-differ_f64.false)
 
 pub returns : goal.returns
 returns c =
     let a = c.args in
     let l = c.loop-i in
-    rw (directed-length a.backward a.weights.now) (passed_all _ _ _ _ _ _ l.i l.invariant (omega arith))
+    rw (directed-length a.backward a.weights.now) (passed_all _ _ _ _ _ l.found-1 l.i l.invariant (omega arith))
 
 pub returns-then-differ_f64 : goal.returns-then-differ_f64
 returns-then-differ_f64 c =
     let d = c in
     let l = d.loop-i in
     let a = d.args in
-    rw (directed-length a.backward a.weights.now) (passed_hit _ _ _ _ _ _ l.i l.invariant (omega arith)
+    rw (directed-length a.backward a.weights.now) (passed_hit _ _ _ _ _ l.found-1 l.i l.invariant (omega arith)
     (told a.turned d.weight_at_f64-right.ensures d.weight_at_f64-left.ensures d.differ_f64.ensures c.if-differ_f64.true))
 
 pub returns-else-differ_f64 : goal.returns-else-differ_f64
@@ -42,5 +43,5 @@ returns-else-differ_f64 c =
     let d = c in
     let l = d.loop-i in
     let a = d.args in
-    rw (directed-length a.backward a.weights.now) (passed_last _ _ _ _ _ _ l.i l.invariant (omega arith)
+    rw (directed-length a.backward a.weights.now) (passed_last _ _ _ _ _ l.found-1 l.i l.invariant (omega arith)
     (told a.turned d.weight_at_f64-right.ensures d.weight_at_f64-left.ensures d.differ_f64.ensures c.if-differ_f64.false))
