@@ -3,24 +3,12 @@
 // dropped unnoticed.
 #![tactic(auto)]
 
-ghost use Rattle.std.specs.Prelude.{◌≤◌};
-
 use grid_text_spec::TextState;
 use std::io::Print;
 
-// Where a text of n bytes is cut.
-fn cut_at(cut: usize, n: usize) -> usize
-    ensures { result ≤ n }
-{
-    if cut < n {
-        return cut;
-    }
-    n
-}
-
 // The state after a text that is fed in two parts, and one line feed more.
 fn read_text(text: &[u8], cut: usize, lengths: &mut [usize], levels: &mut [i64]) -> TextState {
-    let at = cut_at(cut, text.len());
+    let at = cut.min(text.len());
     let start = grid_text::start();
     let half = grid_text::feed(start, &text[..at], lengths, levels);
     let whole = grid_text::feed(half, &text[at..], lengths, levels);

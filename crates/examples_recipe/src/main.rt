@@ -61,14 +61,11 @@ fn writes(rt: &impl Print) {
     let mut out = [9; 13];
     let accepted = recipe_file::write_recipe(1, steps, &mut out);
     examples_print::answer(rt, accepted);
-    examples_print::test(
-        rt,
-        check::same(&out, &[76, 75, 83, 0, 1, 1, 0, 0, 2, 0, 2, 0, 0]),
-    );
+    examples_print::test(rt, out == [76, 75, 83, 0, 1, 1, 0, 0, 2, 0, 2, 0, 0]);
     let mut short = [9; 12];
     let refused = recipe_file::write_recipe(1, steps, &mut short);
     examples_print::answer(rt, refused);
-    examples_print::test(rt, check::same(&short, &[9; 12]));
+    examples_print::test(rt, short == [9; 12]);
     let enough = recipe_file::judge_recipe(1, steps, 13);
     examples_print::answer(rt, enough);
     let few = recipe_file::judge_recipe(1, steps, 12);
@@ -94,10 +91,7 @@ fn fields(rt: &impl Print) {
     let mut file = [9; 13];
     let written = recipe_fields::write_fields(1, &[0, 0, 2, 0, 2, 0], &mut file);
     examples_print::answer(rt, written);
-    examples_print::test(
-        rt,
-        check::same(&file, &[76, 75, 83, 0, 1, 1, 0, 0, 2, 0, 2, 0, 0]),
-    );
+    examples_print::test(rt, file == [76, 75, 83, 0, 1, 1, 0, 0, 2, 0, 2, 0, 0]);
     let unheld = recipe_fields::write_fields(1, &[256, 0, 2, 0, 2, 0], &mut file);
     examples_print::answer(rt, unheld);
 }

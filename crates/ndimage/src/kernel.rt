@@ -1,5 +1,6 @@
 // `symmetry` and `kernel3d`.
 use ndimage_parts::state::{CELLS, FORM, Floats, Levels, State};
+use ndimage_spec::Fault;
 use std::io::Print;
 use symmetry_spec::SymmetryState;
 
@@ -13,23 +14,28 @@ fn class(rt: &impl Print, state: SymmetryState) {
 }
 
 // The class of weights; more than can be held are a fault.
-pub(crate) fn symmetry(rt: &impl Print, state: &State, levels: &Levels, floats: &Floats) -> usize {
+pub(crate) fn symmetry(
+    rt: &impl Print,
+    state: &State,
+    levels: &Levels,
+    floats: &Floats,
+) -> Result<(), Fault> {
     let n = state[CELLS];
     if n > MOST {
-        return ndimage_write::WEIGHTS;
+        return Err(Fault::Weights);
     }
     if state[FORM] == 1 {
         class(
             rt,
             symmetry::symmetry_state_f64(ndimage_arguments::floats(floats, 0, n)),
         );
-        return 0;
+        return Ok(());
     }
     class(
         rt,
         symmetry::symmetry_state_i64(ndimage_arguments::levels(levels, 0, n)),
     );
-    0
+    Ok(())
 }
 
 // A kernel's cells.

@@ -5,8 +5,11 @@
 // (`apply`, `two_grids`, `every_axis`, `vote` and what is named after a call), or write the answer.
 #![tactic(auto)]
 
-use ndimage_parts::state::{Buffer, FAULT, FORM, File, Floats, LEN, Levels, REQUEST, State};
+use ndimage_parts::state::{
+    Buffer, FAULT, FORM, File, Floats, LEN, Levels, REQUEST, State, fault_in,
+};
 use ndimage_read::cursor;
+use ndimage_spec::Fault;
 use std::io::{Print, Read};
 
 mod filter;
@@ -19,7 +22,7 @@ mod request;
 
 type Out = [i64; 32769];
 
-// The answer to what was read; what is wrong with it, 0 for nothing.
+// The answer to what was read, or what is wrong with it.
 fn answer(
     rt: &impl Print,
     state: &State,
@@ -27,22 +30,14 @@ fn answer(
     floats: &Floats,
     file: &File,
     out: &mut Out,
-) -> usize {
-    if state[FAULT] != 0 {
-        return state[FAULT];
+) -> Result<(), Fault> {
+    if let Some(fault) = fault_in(state[FAULT]) {
+        return Err(fault);
     }
     if ndimage_arguments::is_whole(state[REQUEST], state[FORM]) {
         return request::whole(rt, state, levels, file, out);
     }
     request::other(rt, state, levels, floats, file)
-}
-
-// What is wrong with the line, where something is.
-fn report(rt: &impl Print, buffer: &[u8], state: &State, fault: usize) {
-    if fault == 0 {
-        return;
-    }
-    ndimage_write::error(rt, buffer, state[LEN], fault);
 }
 
 // A line: what it asks for, or what is wrong with it. Behind the last line feed there is none.
@@ -60,8 +55,9 @@ fn serve(
     if cursor::past(state) {
         return;
     }
-    let fault = answer(rt, state, levels, floats, file, out);
-    report(rt, buffer, state, fault);
+    if let Err(fault) = answer(rt, state, levels, floats, file, out) {
+        ndimage_write::error(rt, buffer, state[LEN], fault);
+    }
 }
 
 // The arrays are made once.

@@ -1,5 +1,6 @@
 // `play`, `read_recipe` and `write_recipe`.
 use ndimage_parts::state::{File, OUT, SECOND, STEPS, State};
+use ndimage_spec::Fault;
 use numbers::Refusal;
 use std::io::Print;
 
@@ -36,29 +37,29 @@ pub(crate) fn read(rt: &impl Print, state: &State, file: &File) {
     }
 }
 
-// The bytes, or the refusal; what is wrong with the steps, 0 for nothing.
-fn written(rt: &impl Print, answer: Result<(), Refusal>, out: &[u8]) -> usize {
+// The bytes, or the refusal; or what is wrong with the steps.
+fn written(rt: &impl Print, answer: Result<(), Refusal>, out: &[u8]) -> Result<(), Fault> {
     match answer {
         Ok(()) => ndimage_write::bytes(rt, out),
-        Err(Refusal::Unknown) => return ndimage_write::FIELD,
+        Err(Refusal::Unknown) => return Err(Fault::Field),
         Err(refusal) => ndimage_write::refused(rt, refusal as u8),
     }
-    0
+    Ok(())
 }
 
 // The call and its answer.
-fn write_in(rt: &impl Print, state: &State, levels: &[i64], out: &mut [u8]) -> usize {
+fn write_in(rt: &impl Print, state: &State, levels: &[i64], out: &mut [u8]) -> Result<(), Fault> {
     let count = ndimage_arguments::recipe_count(state);
     let fields = ndimage_arguments::step_numbers(state, levels);
     let answer = recipe_fields::write_fields(count, fields, out);
     written(rt, answer, out)
 }
 
-// The file of a count and steps, in as many bytes as were asked, or one more than any file has; what is wrong with the
-// steps, 0 for nothing.
-pub(crate) fn write(rt: &impl Print, state: &State, levels: &[i64]) -> usize {
+// The file of a count and steps, in as many bytes as were asked, or one more than any file has; or what is wrong with
+// the steps.
+pub(crate) fn write(rt: &impl Print, state: &State, levels: &[i64]) -> Result<(), Fault> {
     if state[STEPS] > 16 {
-        return ndimage_write::MANY_STEPS;
+        return Err(Fault::ManySteps);
     }
     let mut out = [0u8; 119];
     let n = ndimage_arguments::lent(state[OUT], 119);

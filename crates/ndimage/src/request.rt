@@ -5,6 +5,7 @@ use ndimage_parts::requests::{
     PAD, PAD_TO, PLAY, READ_RECIPE, SYMMETRY, UNIFORM1D, WRITE_RECIPE,
 };
 use ndimage_parts::state::{File, Floats, Levels, ORIGIN_AT, OUT, REQUEST, State};
+use ndimage_spec::Fault;
 use numbers::Refusal;
 use std::io::Print;
 
@@ -33,36 +34,38 @@ fn answered(rt: &impl Print, answer: Result<(), Refusal>, out: &[i64]) {
 }
 
 // The median and its answer; a fault where the mask has other levels than 0 and 1.
-fn median(rt: &impl Print, state: &State, levels: &[i64], out: &mut [i64]) -> usize {
+fn median(rt: &impl Print, state: &State, levels: &[i64], out: &mut [i64]) -> Result<(), Fault> {
     let shape = ndimage_arguments::shape(state);
     let data = ndimage_arguments::data(state, levels);
-    match crate::mask::median(data, shape, out) {
-        Some(answer) => {
-            answered(rt, answer, out);
-            0
-        }
-        None => ndimage_write::MASK,
-    }
+    let answer = crate::mask::median(data, shape, out).ok_or(Fault::Mask)?;
+    answered(rt, answer, out);
+    Ok(())
 }
 
-// The call and its answer; what is wrong with it, 0 for nothing.
-fn answer(rt: &impl Print, state: &State, levels: &[i64], file: &File, out: &mut [i64]) -> usize {
+// The call and its answer, or what is wrong with it.
+fn answer(
+    rt: &impl Print,
+    state: &State,
+    levels: &[i64],
+    file: &File,
+    out: &mut [i64],
+) -> Result<(), Fault> {
     if state[REQUEST] == MEDIAN {
         return median(rt, state, levels, out);
     }
     let answer = apply(state, levels, file, out);
     answered(rt, answer, out);
-    0
+    Ok(())
 }
 
-// A request with an output of whole levels; what is wrong with it, 0 for nothing.
+// A request with an output of whole levels, or what is wrong with it.
 pub(crate) fn whole(
     rt: &impl Print,
     state: &State,
     levels: &[i64],
     file: &File,
     out: &mut [i64],
-) -> usize {
+) -> Result<(), Fault> {
     let n = ndimage_arguments::lent(
         ndimage_arguments::lent(state[OUT], ndimage_arguments::most_out(state[REQUEST])),
         out.len(),
@@ -70,33 +73,22 @@ pub(crate) fn whole(
     answer(rt, state, levels, file, &mut out[0..n])
 }
 
-// Any other request; what is wrong with it, 0 for nothing.
+// Any other request, or what is wrong with it.
 pub(crate) fn other(
     rt: &impl Print,
     state: &State,
     levels: &Levels,
     floats: &Floats,
     file: &File,
-) -> usize {
+) -> Result<(), Fault> {
     let request = state[REQUEST];
     match request {
-        SYMMETRY => crate::kernel::symmetry(rt, state, levels, floats),
-        KERNEL3D => {
-            crate::kernel::show(rt, state);
-            0
-        }
-        READ_RECIPE => {
-            crate::recipe::read(rt, state, file);
-            0
-        }
-        WRITE_RECIPE => crate::recipe::write(rt, state, levels),
-        HELP => {
-            ndimage_write::show_help(rt);
-            0
-        }
-        _ => {
-            crate::filter_f64::filter(rt, state, floats, levels[ORIGIN_AT]);
-            0
-        }
+        SYMMETRY => crate::kernel::symmetry(rt, state, levels, floats)?,
+        KERNEL3D => crate::kernel::show(rt, state),
+        READ_RECIPE => crate::recipe::read(rt, state, file),
+        WRITE_RECIPE => crate::recipe::write(rt, state, levels)?,
+        HELP => ndimage_write::show_help(rt),
+        _ => crate::filter_f64::filter(rt, state, floats, levels[ORIGIN_AT]),
     }
+    Ok(())
 }

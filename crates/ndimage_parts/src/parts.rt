@@ -2,14 +2,14 @@
 ghost use Rattle.std.specs.Prelude.{◌≡◌};
 ghost use Rattle.words.specs.Words.{place_in};
 ghost use Rattle.ndimage_spec.specs.Parts.{part_of, times_of, is_float, slot_of, words_for, last_after};
-ghost use Rattle.ndimage_spec.specs.Faults.{fault_of};
+ghost use Rattle.ndimage_spec.specs.Faults.{fault_number, fault_of};
 
 use crate::state::{
     AXES, AXIS, BORDER, BORDER_1, BORDER_2, CELLS, CONSTANT_1_AT, CONSTANT_2_AT, CONSTANT_AT,
     COUNT, DATA_AT, FILE, FORM, HELD_AT, KERNEL_AT, LENGTHS_AT, ORIGIN_AT, OUT, PADS_AT, PAIRS,
     RECIPE_COUNT, SECOND, SIDES, SIZE, STEPS, STEPS_AT, WEIGHTS_AT,
 };
-use ndimage_spec::{Kind, Part, Times};
+use ndimage_spec::{Fault, Kind, Part, Times};
 
 // No slot: beyond every array.
 const NOWHERE: usize = usize::MAX;
@@ -97,15 +97,15 @@ pub fn code_of(kind: Kind, token: &[u8]) -> Option<usize>
 }
 
 // What is wrong with a token that is not of a kind.
-pub fn fault_of(kind: Kind) -> usize
-    ensures { result ≡ fault_of kind }
+pub fn fault_of(kind: Kind) -> Fault
+    ensures { fault_number result ≡ fault_of kind }
 {
     match kind {
-        Kind::Form => ndimage_write::FORM,
-        Kind::Border | Kind::Padding => ndimage_write::MODE,
-        Kind::Kernel => ndimage_write::KERNEL,
-        Kind::Count | Kind::Whole | Kind::Level => ndimage_write::NUMBER,
-        Kind::Bytes => ndimage_write::BYTES,
+        Kind::Form => Fault::Form,
+        Kind::Border | Kind::Padding => Fault::Mode,
+        Kind::Kernel => Fault::Kernel,
+        Kind::Count | Kind::Whole | Kind::Level => Fault::Number,
+        Kind::Bytes => Fault::Bytes,
     }
 }
 

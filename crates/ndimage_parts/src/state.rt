@@ -2,6 +2,11 @@
 // reader's state, numbers that say where reading stands and what was read. The constants name the slots of the state,
 // and the places where lists start.
 
+ghost use Rattle.std.specs.Prelude.{◌≡◌, cond, ltb};
+ghost use Rattle.ndimage_spec.specs.Faults.{fault_number, fault_slot};
+
+use ndimage_spec::Fault;
+
 // The token in front, what was read behind it.
 pub type Buffer = [u8; 65792];
 
@@ -31,7 +36,7 @@ pub const LEN: usize = 3;
 // OPEN, SPACE, LINE_END or INPUT_END of cursor.rt.
 pub const STAGE: usize = 4;
 
-// The first thing that is wrong with the line, 0 for nothing.
+// The number of the first fault of the line, 0 for none.
 pub const FAULT: usize = 5;
 
 // The number of the request.
@@ -99,3 +104,34 @@ pub const STEPS_AT: usize = 41308;
 pub const CONSTANT_1_AT: usize = 41404;
 
 pub const CONSTANT_2_AT: usize = 41405;
+
+// The number of a fault, as FAULT holds it.
+pub fn fault_number(fault: Fault) -> usize
+    ensures { result ≡ fault_number fault }
+{
+    fault as usize
+}
+
+// The fault that FAULT holds, where it holds one.
+pub fn fault_in(slot: usize) -> Option<Fault>
+    ensures { fault_slot result ≡ cond (ltb 15 slot) 0 slot }
+{
+    Some(match slot {
+        1 => Fault::Request,
+        2 => Fault::Missing,
+        3 => Fault::Extra,
+        4 => Fault::Number,
+        5 => Fault::Mode,
+        6 => Fault::Form,
+        7 => Fault::Kernel,
+        8 => Fault::Weights,
+        9 => Fault::Long,
+        10 => Fault::Mask,
+        11 => Fault::Empty,
+        12 => Fault::Bytes,
+        13 => Fault::ManyBytes,
+        14 => Fault::ManySteps,
+        15 => Fault::Field,
+        _ => return None,
+    })
+}

@@ -2,8 +2,8 @@
 ghost use Rattle.std.specs.Prelude.{◌≡◌};
 ghost use Rattle.ndimage_spec.specs.Reading.{input_ended, no_line, end_behind};
 
-use ndimage_parts::state::{AT, Buffer, END, FAULT, LEN, LINE, STAGE, State};
-use ndimage_write::{EXTRA, LONG};
+use ndimage_parts::state::{AT, Buffer, END, FAULT, LEN, LINE, STAGE, State, fault_number};
+use ndimage_spec::Fault;
 use std::io::Read;
 
 // How many bytes of a token are kept, in front of what was read.
@@ -42,9 +42,9 @@ pub fn past(state: &State) -> bool
 }
 
 // Notes a fault; the first one stays.
-pub(crate) fn faulty(state: &mut State, fault: usize) {
+pub(crate) fn faulty(state: &mut State, fault: Fault) {
     if state[FAULT] == 0 {
-        state[FAULT] = fault;
+        state[FAULT] = fault_number(fault);
     }
 }
 
@@ -161,7 +161,7 @@ fn expect_end(input: &mut impl Read, buffer: &mut Buffer, state: &mut State) {
     }
     next(input, buffer, state);
     if state[LEN] != 0 {
-        faulty(state, EXTRA);
+        faulty(state, Fault::Extra);
     }
 }
 
@@ -169,7 +169,7 @@ fn expect_end(input: &mut impl Read, buffer: &mut Buffer, state: &mut State) {
 fn measure(state: &mut State) {
     if state[LINE] > LONGEST {
         state[LEN] = 0;
-        state[FAULT] = LONG;
+        state[FAULT] = fault_number(Fault::Long);
     }
 }
 

@@ -8,7 +8,7 @@
 #![tactic(auto)]
 
 use ndimage_parts::state::{Buffer, FAULT, FORM, File, Floats, LAST, LEN, Levels, REQUEST, State};
-use ndimage_spec::{Kind, Part};
+use ndimage_spec::{Fault, Kind, Part};
 use std::io::Read;
 
 pub mod cursor;
@@ -26,8 +26,8 @@ fn begin(buffer: &[u8], state: &mut State, table: &[u8]) {
     clear(state);
     match words::find_word(number::shown(buffer, len), table) {
         Some(request) => state[REQUEST] = request,
-        None if len == 0 => cursor::faulty(state, ndimage_write::EMPTY),
-        None => cursor::faulty(state, ndimage_write::UNKNOWN),
+        None if len == 0 => cursor::faulty(state, Fault::Empty),
+        None => cursor::faulty(state, Fault::Request),
     }
 }
 
@@ -72,7 +72,7 @@ fn read_token(
     let at = ndimage_parts::slot_of(part.2, part.3, i);
     cursor::next(input, buffer, state);
     if state[LEN] == 0 {
-        cursor::faulty(state, ndimage_write::MISSING);
+        cursor::faulty(state, Fault::Missing);
         return;
     }
     if ndimage_parts::is_float(kind, state[FORM]) {

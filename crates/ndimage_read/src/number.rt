@@ -5,7 +5,7 @@ ghost use Rattle.ndimage_spec.specs.Reading.{token_in};
 
 use crate::{cursor, hexadecimal};
 use ndimage_parts::state::{File, Floats, LAST, LEN, Levels, State};
-use ndimage_spec::Kind;
+use ndimage_spec::{Fault, Kind};
 
 // The token's bytes; of one that is longer than what is kept, nothing, which is no word and no number.
 pub(crate) fn shown(buffer: &[u8], len: usize) -> &[u8]
@@ -26,7 +26,7 @@ fn keep(state: &mut State, at: usize, n: usize) {
 
 pub(crate) fn take_count(buffer: &[u8], state: &mut State, at: usize) {
     let Some(n) = text::read_unsigned(shown(buffer, state[LEN])) else {
-        cursor::faulty(state, ndimage_write::NUMBER);
+        cursor::faulty(state, Fault::Number);
         return;
     };
     state[LAST] = n as usize;
@@ -35,7 +35,7 @@ pub(crate) fn take_count(buffer: &[u8], state: &mut State, at: usize) {
 
 pub(crate) fn take_level(buffer: &[u8], state: &mut State, levels: &mut Levels, at: usize) {
     let Some(z) = text::read_signed(shown(buffer, state[LEN])) else {
-        cursor::faulty(state, ndimage_write::NUMBER);
+        cursor::faulty(state, Fault::Number);
         return;
     };
     if let Some(level) = levels.get_mut(at) {
@@ -45,7 +45,7 @@ pub(crate) fn take_level(buffer: &[u8], state: &mut State, levels: &mut Levels, 
 
 pub(crate) fn take_float(buffer: &[u8], state: &mut State, floats: &mut Floats, at: usize) {
     let Some(x) = text_f64::read_float(shown(buffer, state[LEN])) else {
-        cursor::faulty(state, ndimage_write::NUMBER);
+        cursor::faulty(state, Fault::Number);
         return;
     };
     if let Some(float) = floats.get_mut(at) {
@@ -57,12 +57,12 @@ pub(crate) fn take_float(buffer: &[u8], state: &mut State, floats: &mut Floats, 
 pub(crate) fn take_bytes(buffer: &[u8], state: &mut State, file: &mut File, at: usize) {
     let len = state[LEN];
     if len > 256 {
-        cursor::faulty(state, ndimage_write::MANY_BYTES);
+        cursor::faulty(state, Fault::ManyBytes);
         return;
     }
     let token = shown(buffer, len);
     if hexadecimal::bad_bytes(token) {
-        cursor::faulty(state, ndimage_write::BYTES);
+        cursor::faulty(state, Fault::Bytes);
         return;
     }
     hexadecimal::fill_bytes(token, file);

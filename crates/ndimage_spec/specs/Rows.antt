@@ -1,13 +1,14 @@
 -- Worked rows about requests.
 --   NdimageSpecRows   the rows, of the requests, their parts and faults
-use Rattle.std.specs.Prelude.{◌≡◌, true, false, [], ◌∷◌, Some, None, replicate}
+use Rattle.std.specs.Prelude.{◌≡◌, true, false, [], ◌∷◌, map, Some, None, replicate}
 use Prim.Native.Char.{code}
 use Rattle.words.specs.Words.{bytes_of, place_in}
 use Rattle.ndimage_spec.specs.Requests.{request_of, parts_of}
 use Rattle.ndimage_spec.specs.Parts.{nowhere, part, part_of, times_of, is_float, slot_of, words_for, last_after}
 use Rattle.ndimage_spec.specs.Reading.{token_in, end_behind, no_line}
 use Rattle.ndimage_spec.specs.Hexadecimal.{bad_bytes, byte_count, bytes_over}
-use Rattle.ndimage_spec.specs.Faults.{text_of, shows_token, fault_of, visible_of}
+use Rattle.ndimage_spec.specs.Faults.{fault_number, fault_slot, text_of, shows_token, fault_of, visible_of}
+use Rattle.ndimage_spec.specs.declared.Fault.TheVariants as Of
 use Rattle.ndimage_spec.specs.declared.Kind.TheVariants.{Form, Border, Padding, Kernel, Count}
 use Rattle.ndimage_spec.specs.declared.Kind.TheVariants.{Whole, Level, Bytes}
 use Rattle.ndimage_spec.specs.declared.Times.TheVariants.{Once, Last, TwiceLast, SixLast}
@@ -89,6 +90,9 @@ pub record NdimageSpecRows : Type 0 where
   -- what is wrong, in words
   pub unknown : text_of 1 ≡ bytes_of "unknown request"
   pub missing : text_of 2 ≡ bytes_of "missing token"
+  pub fault_slots : map fault_slot (None ∷ Some Of.Request ∷ Some Of.Field ∷ []) ≡ 0 ∷ 1 ∷ 15 ∷ []
+  pub missing_token : text_of (fault_number Of.Missing) ≡ bytes_of "missing token"
+  pub odd_mask : text_of (fault_number Of.Mask) ≡ bytes_of "a cell of a mask is neither 0 nor 1"
   pub no_number : text_of (fault_of Count) ≡ bytes_of "not a number: "
   pub no_mode : text_of (fault_of Border) ≡ bytes_of "unknown mode: "
   pub no_kernel : text_of (fault_of Kernel) ≡ bytes_of "unknown kernel: "

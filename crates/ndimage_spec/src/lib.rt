@@ -41,6 +41,34 @@ pub enum Times {
 #[derive(Clone, Copy)]
 pub struct Part(pub Kind, pub Times, pub usize, pub usize);
 
+// What can be wrong with a line. Its number is the place of its text.
+#[derive(Clone, Copy, PartialEq, Eq, Debug)]
+pub enum Fault {
+    // A word that names no request.
+    Request = 1,
+    // A token that the request needs or has no use for.
+    Missing = 2,
+    Extra = 3,
+    // A token that is no number, or no word of its kind.
+    Number = 4,
+    Mode = 5,
+    Form = 6,
+    Kernel = 7,
+    // More weights than are held; more bytes than a line may have.
+    Weights = 8,
+    Long = 9,
+    // A level of a mask that is neither 0 nor 1.
+    Mask = 10,
+    // No token on the line.
+    Empty = 11,
+    // A token that is no bytes in hexadecimal, or more than are kept; more steps than a file has.
+    Bytes = 12,
+    ManyBytes = 13,
+    ManySteps = 14,
+    // A number of a step that its field cannot hold.
+    Field = 15,
+}
+
 // Worked rows about requests.
 pub fn rows()
     ensures { NdimageSpecRows }

@@ -8,42 +8,12 @@ ghost use Rattle.std.specs.Prelude.{◌≡◌, cond, ◌+◌, ◌-◌, ltb, leng
 ghost use Rattle.words.specs.Words.{lines_of};
 ghost use Rattle.ndimage_spec.specs.Faults.{fault_texts, shows_token, visible_of};
 
+use ndimage_spec::Fault;
 use std::io::Print;
 
 mod help;
 
 pub use help::show_help;
-
-// What can be wrong with a line, each the number of its text.
-pub const UNKNOWN: usize = 1;
-
-pub const MISSING: usize = 2;
-
-pub const EXTRA: usize = 3;
-
-pub const NUMBER: usize = 4;
-
-pub const MODE: usize = 5;
-
-pub const FORM: usize = 6;
-
-pub const KERNEL: usize = 7;
-
-pub const WEIGHTS: usize = 8;
-
-pub const LONG: usize = 9;
-
-pub const MASK: usize = 10;
-
-pub const EMPTY: usize = 11;
-
-pub const BYTES: usize = 12;
-
-pub const MANY_BYTES: usize = 13;
-
-pub const MANY_STEPS: usize = 14;
-
-pub const FIELD: usize = 15;
 
 // Writes out the first `at` bytes.
 fn flush(rt: &impl Print, answer: &[u8], at: usize) {
@@ -221,9 +191,9 @@ fn shows_token(text: &[u8]) -> bool
 }
 
 // What is wrong with a line, and the token where it is that.
-pub fn error(rt: &impl Print, token: &[u8], len: usize, fault: usize) {
+pub fn error(rt: &impl Print, token: &[u8], len: usize, fault: Fault) {
     let table = texts();
-    let text = words::line_at(&table, fault);
+    let text = words::line_at(&table, fault as usize);
     say(rt, b"error ");
     say(rt, text);
     if shows_token(text) {

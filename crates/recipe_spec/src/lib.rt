@@ -13,6 +13,8 @@ ghost use Rattle.recipe_spec.specs.Rows.{RecipeSpecRows};
 // * `origin` - how far the window is moved; 0 of a uniform step.
 // * `border` - 0 constant, 1 mirror, 2 nearest, 3 reflect, 4 wrap.
 // * `constant` - 0 under every border but constant.
+//
+// `kind` and `border` are bytes and no enums: a step may hold any byte there, and writing it refuses those with 15.
 #[derive(Clone, Copy)]
 pub struct Step {
     pub kind: u8,
