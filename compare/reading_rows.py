@@ -9,7 +9,7 @@ import sys
 
 sys.dont_write_bytecode = True
 
-from reading import (MARK, NO_STEP, Step, bad_step, play, read_recipe, read_text, refused, step_bytes, step_levels,
+from reading import (MARK, NO_STEP, Step, bad_step, lines_of, play, read_recipe, read_text, refused, step_bytes, step_levels,
                      step_of, words_of, write_recipe)
 
 CRATES = pathlib.Path(__file__).resolve().parent.parent / "crates"
@@ -164,10 +164,12 @@ TEXT_ROWS = {
     "nineteen_fed": (of_text("1 1 " + "0" * 18 + "1"), 2),
     "too_few": (of_text("1 2 5"), 2),
     "too_many": (of_text("1 1 5 5"), 2),
+    "lines": (lines_of([-7, 0, 12]), b"-7\n0\n12\n"),
 }
 
-# What the machine holds half way through a text; the papers say nothing of it.
-INNER = {"fed_lengths", "fed-levels"}
+# What the machine holds half way through a text, and how lines stand in the bytes that are lent: the papers say nothing
+# of it.
+INNER = {"fed_lengths", "fed-levels", "lines_in_lem", "lines_count_lem", "lines_kept", "lines_no_room"}
 
 FILES = (("recipe_spec/specs/FileRows.antt", FILE_ROWS), ("recipe_spec/specs/PlayRows.antt", PLAY_ROWS),
          ("grid_text_spec/specs/Rows.antt", TEXT_ROWS))
