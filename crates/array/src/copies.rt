@@ -13,7 +13,9 @@ pub fn copy(from: &[i64], to: &mut [i64])
     ensures { to.new ≡ copied from.now to.old }
 {
     if from.len() == to.len() {
-        to.copy_from_slice(from);
+        for i in 0..to.len() {
+            to[i] = from[i];
+        }
     }
 }
 

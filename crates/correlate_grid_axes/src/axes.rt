@@ -84,7 +84,9 @@ fn count_up(out: &mut [i64])
     }
 }
 
-// Sets the table's places to the sources of the axis, by padding the numbers of its cells.
+// Sets the table's places to the sources of the axis, by padding the numbers of its cells. Out of line: taken into its
+// caller, twice, it makes LLVM (22) clear one table more a call.
+#[inline(never)]
 pub fn find_sources(mode: BorderMode, axis: Axis, table: &mut [i64])
     requires { Serves (border_of mode) axis × (length table.old ≡ longest_line) }
     ensures { Found (border_of mode) axis table.new }

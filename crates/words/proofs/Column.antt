@@ -3,7 +3,7 @@
 -- Assumes nothing.
 use Prim.Native.Nat.{ℕ, zero, suc, ◌+◌, ◌-◌, ◌≤◌, ◌<◌}
 use mathlib.Core.Path.{◌≡◌, refl, sym, ap, ◌∙◌}
-use mathlib.Core.Bool.{Bool, true, false, ◌&&◌, ◌||◌, cond, true≢false}
+use mathlib.Core.Bool.{Bool, true, false, not, ◌&&◌, ◌||◌, cond, true≢false}
 use mathlib.Core.List.{List, [], ◌∷◌, ◌++◌}
 use native.Mathlib.Omega.{arith}
 use native.Mathlib.Nat.{sub_self}
@@ -81,6 +81,14 @@ cond_more : (t : Bool) {n i : ℕ} → n ≤ i → cond t (n + 1) n ≤ i + 1
 cond_more true h = omega arith
 cond_more false h = omega arith
 
+no_yes : (t : Bool) → not t ≡ true → t ≡ false
+no_yes true e = absurd (true≢false (sym e))
+no_yes false e = refl
+
+no_no : (t : Bool) → not t ≡ false → t ≡ true
+no_no true e = refl
+no_no false e = absurd (true≢false e)
+
 -- what a search keeps: the token is looked for in what is left, its word so far from start on, and `place` words are behind
 pub record Looking (table token : List ℕ) (place start i : ℕ) : Type 0 where
   pub behind : start ≤ i
@@ -109,6 +117,16 @@ module _ {table token : List ℕ} {place start i : ℕ} (s : Looking table token
             s.found ∙ ap (λ ws. place_from place ws token) (column_step 32 10 table start i s.behind b)
             ∙ place_miss place (eqb (get_or table i 0) 32) (between start i table) (left 32 10 table start i s.behind b) token e;
       })
+
+  -- a byte that is no space, and ends no word
+  pub looking_on : i < length table → not (eqb (get_or table i 0) 32) ≡ true
+      → {n : ℕ} → n ≡ cond (eqb (get_or table i 0) 32 || eqb (get_or table i 0) 10) (i + 1) start → Looking table token place n (i + 1)
+  looking_on b e q = let s = no_yes _ e in looking_more b (rw s refl) {p = place} (rw s refl) q
+
+  -- a space, behind which a word begins
+  pub looking_end : i < length table → not (eqb (get_or table i 0) 32) ≡ false → eqb (get_or table i 0) 32 && same_bytes (between start i table) token ≡ false
+      → {p : ℕ} → p ≡ cond (eqb (get_or table i 0) 32) (place + 1) place → Looking table token p (i + 1) (i + 1)
+  looking_end b e m p = looking_more b m p (rw (no_no _ e) refl)
 
   pub looking_all : length table ≤ i → place_in (column_from 32 10 [] table) token ≡ None
   unfolding column_from

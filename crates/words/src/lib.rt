@@ -3,7 +3,7 @@
 // and its rule is proved once.
 #![tactic(auto)]
 
-ghost use Rattle.std.specs.Prelude.{◌≡◌, cond, ◌&&◌, ◌||◌, ◌+◌, ◌-◌, ◌≤◌, ◌<◌, [], eqb, length, get_or, take, drop};
+ghost use Rattle.std.specs.Prelude.{◌≡◌, cond, not, ◌&&◌, ◌||◌, ◌+◌, ◌-◌, ◌≤◌, ◌<◌, [], eqb, length, get_or, take, drop};
 ghost use Rattle.words.specs.Words.{column_from, words_of, rests_of, lines_of, place_in, same_bytes};
 ghost use Rattle.words.specs.Rows.{WordsRows};
 
@@ -47,6 +47,13 @@ fn start_behind(byte: u8, end: u8, other: u8, start: usize, i: usize) -> usize
     }
 }
 
+// Whether a byte is no space, and so ends no word.
+fn no_space(byte: u8) -> bool
+    ensures { result ≡ not (eqb byte 32) }
+{
+    byte != SPACE
+}
+
 // Where a token stands among the words of a table.
 //
 // * `token` - the bytes, whatever they are.
@@ -59,11 +66,15 @@ pub fn find_word(token: &[u8], table: &[u8]) -> Option<usize>
     let mut place = 0;
     let mut start = 0;
     for (i, &byte) in table.iter().enumerate() {
+        if no_space(byte) {
+            start = start_behind(byte, SPACE, LINE_FEED, start, i);
+            continue;
+        }
         if is_here(token, table, start, i) {
             return Some(place);
         }
         place = count_at(byte, SPACE, place);
-        start = start_behind(byte, SPACE, LINE_FEED, start, i);
+        start = i + 1;
     }
     None
 }
