@@ -56,7 +56,7 @@ pub extern "C" fn suvvokal_correlate(
             false,
             out.len(),
         );
-        return numbers::answer_number(codes::unknown_after(judged));
+        return codes::unknown_after(numbers::answer_number(judged));
     }
     numbers::answer_number(correlate::correlate(data, shape, weights, sides, mode, origin, out))
 }
@@ -91,7 +91,7 @@ pub extern "C" fn suvvokal_convolve(
             true,
             out.len(),
         );
-        return numbers::answer_number(codes::unknown_after(judged));
+        return codes::unknown_after(numbers::answer_number(judged));
     }
     numbers::answer_number(correlate::convolve(data, shape, weights, sides, mode, origin, out))
 }
@@ -129,7 +129,7 @@ pub extern "C" fn suvvokal_prewitt(
     let modes = codes_cells::modes_of(codes, constants);
     if codes_cells::unknown_any(codes, shape) {
         let judged = gradient::judge_gradient(data, shape, axis, modes, out.len(), second.len());
-        return numbers::answer_number(codes::unknown_after(judged));
+        return codes::unknown_after(numbers::answer_number(judged));
     }
     numbers::answer_number(gradient::prewitt(data, shape, axis, modes, second, out))
 }
@@ -157,7 +157,7 @@ pub extern "C" fn suvvokal_sobel(
     let modes = codes_cells::modes_of(codes, constants);
     if codes_cells::unknown_any(codes, shape) {
         let judged = gradient::judge_gradient(data, shape, axis, modes, out.len(), second.len());
-        return numbers::answer_number(codes::unknown_after(judged));
+        return codes::unknown_after(numbers::answer_number(judged));
     }
     numbers::answer_number(gradient::sobel(data, shape, axis, modes, second, out))
 }
@@ -195,7 +195,7 @@ pub extern "C" fn suvvokal_uniform_filter(
     let modes = codes_cells::modes_of(codes, constants);
     if codes_cells::unknown_any(codes, shape) {
         let judged = uniform::judge_uniform(data, shape, size, modes, out.len(), second.len());
-        return numbers::answer_number(codes::unknown_after(judged));
+        return codes::unknown_after(numbers::answer_number(judged));
     }
     numbers::answer_number(uniform::uniform_filter(data, shape, size, modes, second, out))
 }
@@ -243,7 +243,7 @@ pub extern "C" fn suvvokal_minimum_filter(
             out,
             second.len(),
         );
-        return numbers::answer_number(codes::unknown_after(judged));
+        return codes::unknown_after(numbers::answer_number(judged));
     }
     numbers::answer_number(min_max::minimum_filter(data, shape, size, modes, origin, second, out))
 }
@@ -280,7 +280,7 @@ pub extern "C" fn suvvokal_maximum_filter(
             out,
             second.len(),
         );
-        return numbers::answer_number(codes::unknown_after(judged));
+        return codes::unknown_after(numbers::answer_number(judged));
     }
     numbers::answer_number(min_max::maximum_filter(data, shape, size, modes, origin, second, out))
 }

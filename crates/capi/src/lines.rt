@@ -54,7 +54,7 @@ pub extern "C" fn suvvokal_correlate1d(
             false,
             out.len(),
         );
-        return numbers::answer_number(codes::unknown_after(judged));
+        return codes::unknown_after(numbers::answer_number(judged));
     }
     numbers::answer_number(correlate1d::correlate1d(data, shape, weights, axis, mode, origin, out))
 }
@@ -89,7 +89,7 @@ pub extern "C" fn suvvokal_convolve1d(
             true,
             out.len(),
         );
-        return numbers::answer_number(codes::unknown_after(judged));
+        return codes::unknown_after(numbers::answer_number(judged));
     }
     numbers::answer_number(correlate1d::convolve1d(data, shape, weights, axis, mode, origin, out))
 }
@@ -124,7 +124,7 @@ pub extern "C" fn suvvokal_correlate1d_f64(
             false,
             out.len(),
         );
-        return numbers::answer_number(codes::unknown_after(judged));
+        return codes::unknown_after(numbers::answer_number(judged));
     }
     numbers::answer_number(correlate1d_f64::correlate1d_f64(
         data, shape, weights, axis, mode, origin, out,
@@ -161,7 +161,7 @@ pub extern "C" fn suvvokal_convolve1d_f64(
             true,
             out.len(),
         );
-        return numbers::answer_number(codes::unknown_after(judged));
+        return codes::unknown_after(numbers::answer_number(judged));
     }
     numbers::answer_number(correlate1d_f64::convolve1d_f64(
         data, shape, weights, axis, mode, origin, out,
@@ -197,7 +197,7 @@ pub extern "C" fn suvvokal_uniform_filter1d(
     let mode = codes::mode_of(code, constant);
     if 4 < code {
         let judged = uniform::judge_uniform1d(data, shape, size, axis, mode, out.len());
-        return numbers::answer_number(codes::unknown_after(judged));
+        return codes::unknown_after(numbers::answer_number(judged));
     }
     numbers::answer_number(uniform::uniform_filter1d(data, shape, size, axis, mode, out))
 }
@@ -233,7 +233,7 @@ pub extern "C" fn suvvokal_minimum_filter1d(
     let mode = codes::mode_of(code, constant);
     if 4 < code {
         let judged = min_max_judge::judge_call(data, shape, size, axis, mode, origin, out);
-        return numbers::answer_number(codes::unknown_after(judged));
+        return codes::unknown_after(numbers::answer_number(judged));
     }
     numbers::answer_number(min_max::minimum_filter1d(data, shape, size, axis, mode, origin, out))
 }
@@ -259,7 +259,7 @@ pub extern "C" fn suvvokal_maximum_filter1d(
     let mode = codes::mode_of(code, constant);
     if 4 < code {
         let judged = min_max_judge::judge_call(data, shape, size, axis, mode, origin, out);
-        return numbers::answer_number(codes::unknown_after(judged));
+        return codes::unknown_after(numbers::answer_number(judged));
     }
     numbers::answer_number(min_max::maximum_filter1d(data, shape, size, axis, mode, origin, out))
 }

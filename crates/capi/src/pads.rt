@@ -41,7 +41,7 @@ pub extern "C" fn suvvokal_pad(
     let pairs = codes_cells::pairs_of(lefts, rights);
     if 8 < code {
         let judged = pad_judge::judge(data, shape, pairs, count, mode, out.len());
-        return numbers::answer_number(codes::unknown_after(judged));
+        return codes::unknown_after(numbers::answer_number(judged));
     }
     numbers::answer_number(pad::pad(data, shape, pairs, count, mode, out))
 }
@@ -70,7 +70,7 @@ pub extern "C" fn suvvokal_pad_to(
     let pairs = codes_cells::pairs_of(lefts, rights);
     if 8 < code {
         let judged = pad_judge::judge(data, shape, pairs, count, mode, out.len());
-        return numbers::answer_number(codes::unknown_after(judged));
+        return codes::unknown_after(numbers::answer_number(judged));
     }
     numbers::answer_number(pad::pad_to(data, shape, pairs, count, mode, out))
 }

@@ -118,9 +118,19 @@ pub fn class_words() -> [u8; 37]
     *b"NonSymmetric Symmetric AntiSymmetric "
 }
 
-// The answer of a call with an unknown code, which is judged last: what the call refuses, else Unknown. Of Reach it is
-// Reach, of an accepted call Unknown.
-pub fn unknown_after(judged: Result<(), Refusal>) -> Result<(), Refusal>
+// The number of a call with an unknown code, which is judged last. Of 11 it is 11, of 0 it is 100.
+pub fn unknown_after(refusal: u8) -> u8
+    ensures { result ≡ cond (eqb refusal 0) 100 refusal }
+{
+    if refusal == 0 {
+        Refusal::Unknown as u8
+    } else {
+        refusal
+    }
+}
+
+// The same of an answer: what the call refuses, else Unknown. Of Reach it is Reach, of an accepted call Unknown.
+pub fn or_unknown(judged: Result<(), Refusal>) -> Result<(), Refusal>
     ensures { answer_number result ≡ cond (eqb (answer_number judged) 0) 100 (answer_number judged) }
 {
     judged?;

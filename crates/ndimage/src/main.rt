@@ -6,7 +6,7 @@
 #![tactic(auto)]
 
 use ndimage_parts::state::{
-    Buffer, FAULT, FORM, File, Floats, LEN, Levels, REQUEST, State, fault_in,
+    Buffer, FAULT, FORM, File, Floats, LEN, Levels, REQUEST, State, fault_in, fault_number,
 };
 use ndimage_read::cursor;
 use ndimage_spec::Fault;
@@ -56,7 +56,7 @@ fn serve(
         return;
     }
     if let Err(fault) = answer(rt, state, levels, floats, file, out) {
-        ndimage_write::error(rt, buffer, state[LEN], fault);
+        ndimage_write::error(rt, buffer, state[LEN], fault_number(fault));
     }
 }
 

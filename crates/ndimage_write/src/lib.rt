@@ -8,7 +8,6 @@ ghost use Rattle.std.specs.Prelude.{◌≡◌, cond, ◌+◌, ◌-◌, ltb, leng
 ghost use Rattle.words.specs.Words.{lines_of};
 ghost use Rattle.ndimage_spec.specs.Faults.{fault_texts, shows_token, visible_of};
 
-use ndimage_spec::Fault;
 use std::io::Print;
 
 mod help;
@@ -191,9 +190,9 @@ fn shows_token(text: &[u8]) -> bool
 }
 
 // What is wrong with a line, and the token where it is that.
-pub fn error(rt: &impl Print, token: &[u8], len: usize, fault: Fault) {
+pub fn error(rt: &impl Print, token: &[u8], len: usize, fault: usize) {
     let table = texts();
-    let text = words::line_at(&table, fault as usize);
+    let text = words::line_at(&table, fault);
     say(rt, b"error ");
     say(rt, text);
     if shows_token(text) {

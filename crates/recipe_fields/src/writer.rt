@@ -33,7 +33,7 @@ pub fn write_fields(count: u8, fields: &[i64], out: &mut [u8]) -> Result<(), Ref
     let steps = steps_from(fields);
     if bad_fields(fields) {
         let judged = recipe_file::judge_recipe(count, steps, out.len());
-        return codes::unknown_after(judged);
+        return codes::or_unknown(judged);
     }
     recipe_file::write_recipe(count, steps, out)
 }

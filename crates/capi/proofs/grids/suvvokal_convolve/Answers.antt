@@ -12,7 +12,7 @@ returns-then-code-gt4 c =
     let k : to_z w64 (of_z w64 a.constant) ≡ a.constant = search rules in
     let o : to_z w64 (of_z w64 a.origin) ≡ a.origin = search rules in
     let m = rw k at c.mode_of-mode.ensures in
-    answers_unknown _ 4 _ (tt, (tt, (tt, (tt, (tt, (tt, (tt, (tt, (tt, tt))))))))) c.if-code-gt4.true (rw (m, o) at c.judge_kernel-judged.ensures) (c.answer_number.ensures ∙ c.unknown_after.ensures)
+    answers_unknown _ 4 _ (tt, (tt, (tt, (tt, (tt, (tt, (tt, (tt, (tt, tt))))))))) c.if-code-gt4.true (rw (m, o) at c.judge_kernel-judged.ensures) (rw c.answer_number.ensures at c.unknown_after.ensures)
 
 pub returns : goal.returns
 returns c =

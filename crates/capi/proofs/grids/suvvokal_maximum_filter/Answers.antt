@@ -14,7 +14,7 @@ returns-then-unknown_any c =
     let a = c.args in
     let o : to_z w64 (of_z w64 a.origin) ≡ a.origin = search rules in
     let u = condition_is c.unknown_any.ensures c.if-unknown_any.true in
-    scratch_unknown (pos 0) _ _ (tt, (tt, (tt, (tt, (tt, (tt, (tt, tt))))))) u (rw (m, o) at c.judge_filter-judged.ensures) (c.answer_number.ensures ∙ c.unknown_after.ensures)
+    scratch_unknown (pos 0) _ _ (tt, (tt, (tt, (tt, (tt, (tt, (tt, tt))))))) u (rw (m, o) at c.judge_filter-judged.ensures) (rw c.answer_number.ensures at c.unknown_after.ensures)
 
 pub returns : goal.returns
 returns c =

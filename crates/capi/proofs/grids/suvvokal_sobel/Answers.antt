@@ -12,7 +12,7 @@ returns-then-unknown_any c =
     let m = c.modes_of-modes.ensures in
     let u = condition_is c.unknown_any.ensures c.if-unknown_any.true in
     scratch_unknown (pos 0) _ _ (tt, (tt, (tt, (tt, (tt, (tt, (tt, tt))))))) u
-    (rw m at (c.judge_gradient-judged.ensures sobel_weights (record { three = refl; small = refl }))) (c.answer_number.ensures ∙ c.unknown_after.ensures)
+    (rw m at (c.judge_gradient-judged.ensures sobel_weights (record { three = refl; small = refl }))) (rw c.answer_number.ensures at c.unknown_after.ensures)
 
 pub returns : goal.returns
 returns c =

@@ -9,7 +9,7 @@ pub returns-then-unknown_any : goal.returns-then-unknown_any
 returns-then-unknown_any c =
     let m = c.modes_of-modes.ensures in
     let u = condition_is c.unknown_any.ensures c.if-unknown_any.true in
-    scratch_unknown (pos 0) _ _ (tt, (tt, (tt, (tt, (tt, (tt, (tt, tt))))))) u (rw m at c.judge_uniform-judged.ensures) (c.answer_number.ensures ∙ c.unknown_after.ensures)
+    scratch_unknown (pos 0) _ _ (tt, (tt, (tt, (tt, (tt, (tt, (tt, tt))))))) u (rw m at c.judge_uniform-judged.ensures) (rw c.answer_number.ensures at c.unknown_after.ensures)
 
 pub returns : goal.returns
 returns c =

@@ -11,7 +11,7 @@ returns-then-code-gt4 c =
     let a = c.args in
     let o : to_z w64 (of_z w64 a.origin) ≡ a.origin = search rules in
     let m = c.mode_of_f64-mode.ensures in
-    answers_unknown _ 4 _ (tt, (tt, (tt, (tt, (tt, (tt, (tt, (tt, (tt, tt))))))))) c.if-code-gt4.true (rw (m, o) at c.judge_correlate_f64-judged.ensures) (c.answer_number.ensures ∙ c.unknown_after.ensures)
+    answers_unknown _ 4 _ (tt, (tt, (tt, (tt, (tt, (tt, (tt, (tt, (tt, tt))))))))) c.if-code-gt4.true (rw (m, o) at c.judge_correlate_f64-judged.ensures) (rw c.answer_number.ensures at c.unknown_after.ensures)
 
 pub returns : goal.returns
 returns c =

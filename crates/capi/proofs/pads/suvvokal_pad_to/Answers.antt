@@ -12,7 +12,7 @@ returns-then-code-gt8 c =
     let k : to_z w64 (of_z w64 a.constant) ≡ a.constant = search rules in
     let m = rw k at c.pad_mode_of-mode.ensures in
     let p = c.pairs_of-pairs.ensures in
-    answers_unknown _ 8 _ (tt, (tt, (tt, (tt, (tt, (tt, (tt, tt))))))) c.if-code-gt8.true (rw (m, p) at c.judge-judged.ensures) (c.answer_number.ensures ∙ c.unknown_after.ensures)
+    answers_unknown _ 8 _ (tt, (tt, (tt, (tt, (tt, (tt, (tt, tt))))))) c.if-code-gt8.true (rw (m, p) at c.judge-judged.ensures) (rw c.answer_number.ensures at c.unknown_after.ensures)
 
 pub returns : goal.returns
 returns c =
