@@ -28,7 +28,7 @@ raised_up : (x : ℤ) → Size x 65535 → Raised 65535 131070 x
 raised_up (pos n) h = record { to = n + 65535; is = refl; small = omega (arith, h.size) }
 raised_up (negsuc n) h = record { to = 65535 - suc n; is = minus_pos 65535 (suc n) h.size; small = omega arith }
 
-abbrev below : ℤ → Bool
+abbrev pub below : ℤ → Bool
 below z = lt_z z (pos 0)
 
 raised_none : (x : ℤ) → Size x 65535 → below x ≡ false → Raised 0 131070 x
@@ -43,11 +43,11 @@ weights_none [] h e = tt
 weights_none (x ∷ xs) h e = let p = or_false (below x) (any_of below xs) e in (raised_none x h.0 p.0, weights_none xs h.1 p.1)
 
 -- ---- by how much: as the code finds it, and that it serves
-raise_some : (w : List ℤ) → any_of below w ≡ true → 65535 ≡ raise_of w
+pub raise_some : (w : List ℤ) → any_of below w ≡ true → 65535 ≡ raise_of w
 unfolding raise_of
 raise_some w e = sym (cond_yes (any_of below w) 65535 0 e)
 
-raise_none : (w : List ℤ) → any_of below w ≡ false → 0 ≡ raise_of w
+pub raise_none : (w : List ℤ) → any_of below w ≡ false → 0 ≡ raise_of w
 unfolding raise_of
 raise_none w e = sym (cond_no (any_of below w) 65535 0 e)
 

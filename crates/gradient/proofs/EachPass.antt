@@ -51,7 +51,7 @@ accepted smooth bs ns axis cells out second e =
     record { grid = p.0; along = axis_in ns axis p.1.0; level = p.1.1.0; reach = p.1.1.1.0 }
 
 -- ---- a grid between two passes, of levels and constants of size at most p
-record Between (bs : ℕ → Border ℤ) (ns : List ℕ) (p : ℕ) (g : List ℤ) : Type 0 where
+pub record Between (bs : ℕ → Border ℤ) (ns : List ℕ) (p : ℕ) (g : List ℤ) : Type 0 where
   pub count : length g ≡ cell_count ns
   pub constants : SizedBorders p bs ns
   pub sizes : Sized p g
@@ -66,12 +66,12 @@ unfolding bad_origin
 centred = refl
 
 module _ {bs : ℕ → Border ℤ} {ns : List ℕ} {axis : ℕ} {cells : List ℤ} {out second : ℕ} (A : Accepted bs ns axis cells out second) where
-  between_input : Between bs ns 2147483647 cells
+  pub between_input : Between bs ns 2147483647 cells
   between_input = record { count = A.grid.count; constants = constants_sized bs ns A.level; sizes = levels_sized cells A.grid.levels }
 
   module _ {w : List ℤ} (S : ThreeSmall w) {p : ℕ} {g : List ℤ} (B : Between bs ns p g) {a : ℕ} (h : a < length ns) where
     -- a pass along any axis can be weighed, into any grid of as many cells
-    weighs_pass : p ≤ 2 ^ 38 → {held : List ℤ} → length held ≡ cell_count ns → WeighNeeds (bs a) ns a (pos 0) w g held
+    pub weighs_pass : p ≤ 2 ^ 38 → {held : List ℤ} → length held ≡ cell_count ns → WeighNeeds (bs a) ns a (pos 0) w g held
     weighs_pass l {held} e = record {
       placed = record {
         shape = A.grid.shape;
@@ -94,7 +94,7 @@ module _ {bs : ℕ → Border ℤ} {ns : List ℕ} {axis : ℕ} {cells : List �
         filled : bad_pad (bs a) (length_of ns a) 1 ≡ false
         filled = axis-at (λ b n. bad_pad b n 1) bs ns A.reach a h
 
-    between_pass : {new : List ℤ} → new ≡ correlate1d_z (bs a) (pos 0) w ns a g → Between bs ns (6 * p) new
+    pub between_pass : {new : List ℤ} → new ≡ correlate1d_z (bs a) (pos 0) w ns a g → Between bs ns (6 * p) new
     between_pass {new} e = record {
       count = ap length e ∙ length_answer (bs a) (pos 0) w ns a g ∙ B.count;
       constants = λ i l. border_le (bs i) (B.constants i l) (omega arith);
