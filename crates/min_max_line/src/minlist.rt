@@ -9,6 +9,13 @@ use crate::order::Order;
 use min_max_ring::{Pair, place, serves};
 use min_max_three::three_cells;
 
+// Whether a cell takes the place of the front: on a tie too, since it dies later.
+fn takes_front<O: Order>(v: i64, front: i64) -> bool
+    ensures { result ≡ O.le v front }
+{
+    O::before(v, front)
+}
+
 // Writes the first of line[i .. i + len] to each cell i of out.
 fn ring_cells<O: Order>(line: &[i64], len: usize, out: &mut [i64])
     requires { RingNeeds (length line.now) len (length out.old) }
@@ -55,7 +62,7 @@ fn ring_cells<O: Order>(line: &[i64], len: usize, out: &mut [i64])
             front = p.val;
             death = p.death;
         }
-        let leads = O::before(v, front); // on a tie too: the cell dies later
+        let leads = takes_front::<O>(v, front);
         if leads {
             front = v;
             death = i + len;
